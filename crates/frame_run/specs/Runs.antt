@@ -1,0 +1,117 @@
+-- Schedules of a frame, and the frame run.
+use Prim.Native.Nat.{ℕ, zero, suc, _+_}
+use mathlib.Core.Bool.{Bool, true, false, _&&_, cond}
+use mathlib.Core.List.{List, [], _∷_, _++_, map}
+use lib.Dec.{eqb}
+use lib.ListN.{length, getD}
+use Rattle.lists.specs.Basics.{filter, sumOf, count, range, joinMap}
+use Rattle.frame.specs.Frames.{Frame, constraintAt, flagOf, allSound, degreeMax}
+use Rattle.frame.specs.Questions.{question, asked}
+use Rattle.frame.specs.Files.{decode, fileQuestions, frameRefusal}
+use Rattle.island.specs.Islands.{islandCount, ofIsland}
+use Rattle.groups.specs.Groups.{Plan}
+use Rattle.constraint_coloring.specs.Plans.{fresh, remembered, planFor, groupPart, positionsRefusal, positionsAt}
+use Rattle.colored_bodies.specs.declared.BodyBinding.{BodyBinding}
+use Rattle.colored_bodies.specs.Bindings.{Handed, Taking, bindOf, takeOf}
+
+-- ---- the calls of a schedule
+
+-- the frame's dynamic flags, and the endpoint pairs of an island's constraints in rising number
+unfoldable pub flags : Frame → List ℕ
+flags f = map flagOf (f .types)
+
+unfoldable pub pairsFor : Frame → ℕ → List ℕ
+pairsFor f i = joinMap (λ n. constraintAt f n .ends) (ofIsland f i)
+
+-- an update for each island, on a fresh plan
+unfoldable pub planAt : Frame → ℕ → Plan
+planAt f i = planFor (remembered fresh (flags f) (pairsFor f i) true)
+
+-- a group's members and bodies, as the lookups hand them back
+unfoldable pub membersAt : Frame → ℕ → ℕ → List ℕ
+membersAt f i k = groupPart (planAt f i .groups) (planAt f i .color-offsets) (planAt f i .colored-constraints) k
+
+unfoldable pub bodiesAt : Frame → ℕ → ℕ → List ℕ
+bodiesAt f i k = groupPart (planAt f i .groups) (planAt f i .color-body-offsets) (planAt f i .color-bodies) k
+
+-- a bind for each group
+unfoldable pub boundAt : Frame → ℕ → ℕ → BodyBinding
+boundAt f i k = bindOf (f .types) (bodiesAt f i k)
+
+-- a take asks for its constraint's positions, by its rank r in the island, and takes them
+unfoldable pub takeRank : Plan → BodyBinding → ℕ → Taking
+takeRank p b r =
+  let q = positionsRefusal (p .constraints) (p .positions) r in
+  cond (eqb q 0) (takeOf b (positionsAt (p .positions) r)) (record { refusal = q; handed = []; after = b })
+
+-- a take that was made: for which island, group and constraint, its refusal or 0, and the bodies it answered
+pub record Call : Type 0 where
+  pub island : ℕ
+  pub group : ℕ
+  pub constraint : ℕ
+  pub refusal : ℕ
+  pub handed : List Handed
+
+-- the takes of one group, by rank: each gets the binding as the take before left it, refused or not
+unfoldable pub callsFrom : Frame → ℕ → ℕ → BodyBinding → List ℕ → List Call
+callsFrom f i k b [] = []
+callsFrom f i k b (r ∷ rs) =
+  let t = takeRank (planAt f i) b r in
+  record { island = i; group = k; constraint = getD (ofIsland f i) r 0; refusal = t .refusal; handed = t .handed }
+  ∷ callsFrom f i k (t .after) rs
+
+-- an order of takes for each island and group
+abbrev pub Orders : Type 0
+Orders = ℕ → ℕ → List ℕ
+
+-- the whole schedule: islands in number order, their groups in order, the takes of each group as listed
+unfoldable pub schedule : Frame → Orders → List Call
+schedule f o = joinMap (λ i. joinMap (λ k. callsFrom f i k (boundAt f i k) (o i k)) (range (planAt f i .groups))) (range (islandCount f))
+
+-- ---- what is carried
+
+-- a take that is not refused succeeds and makes one turn
+unfoldable pub turnsOf : List Call → List Call
+turnsOf cs = filter (λ c. eqb (c .refusal) 0) cs
+
+-- takes of dynamic bodies: the bodies answered as "dynamic"
+unfoldable pub takesOf : List Call → ℕ
+takesOf cs = sumOf (λ c. count (λ h. h .dynamic) (c .handed)) cs
+
+-- a turn as it stands in the turn table
+abbrev pub turnOf : Call → List ℕ
+turnOf c = c .island ∷ c .group ∷ c .constraint ∷ []
+
+-- a run's answer: its refusal or 0, the four carried numbers, and the turns, three numbers each
+pub record Report : Type 0 where
+  pub refusal : ℕ
+  pub islands : ℕ
+  pub turns : ℕ
+  pub takes : ℕ
+  pub degree : ℕ
+  pub table : List ℕ
+
+abbrev pub reportOf : Frame → List Call → Report
+reportOf f cs = record {
+  refusal = 0;
+  islands = islandCount f;
+  turns = length (turnsOf cs);
+  takes = takesOf cs;
+  degree = degreeMax f;
+  table = joinMap turnOf (turnsOf cs)
+  }
+
+-- a refusal carries 0 in all four numbers
+abbrev pub refused : ℕ → Report
+refused n = record { refusal = n; islands = 0; turns = 0; takes = 0; degree = 0; table = [] }
+
+-- the run: the schedule with every group's members rising, as the plan lists them
+unfoldable pub rising : Frame → Orders
+rising f = membersAt f
+
+-- the run of a file, where `room` answers question 6
+unfoldable pub runRefusal : List ℕ → Bool → ℕ
+runRefusal bs room = asked (fileQuestions bs ++ question 6 room ∷ question 7 (allSound (decode bs)) ∷ [])
+
+unfoldable pub runOf : List ℕ → Bool → Report
+runOf bs room = cond (eqb (runRefusal bs room) 0) (reportOf (decode bs) (schedule (decode bs) (rising (decode bs)))) (refused (runRefusal bs room))
