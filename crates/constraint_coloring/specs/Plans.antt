@@ -1,15 +1,13 @@
 -- A plan: the questions of an update, its tables, its memory, and the lookups.
-use Prim.Native.Nat.{ℕ, zero, suc, _+_, _-_, _*_}
-use mathlib.Core.Path.{_≡_}
-use mathlib.Core.Bool.{Bool, true, false, not, _&&_, cond}
-use mathlib.Core.List.{List, [], _∷_, _++_, map}
+use Prim.Native.Nat.{ℕ, _+_, _-_, _*_}
+use mathlib.Core.Bool.{Bool, not, _&&_, cond}
+use mathlib.Core.List.{List, [], _∷_}
 use lib.Dec.{leb, ltb, eqb}
 use lib.ListN.{length, getD, take, drop}
-use Rattle.lists.specs.Basics.{all, over, same}
+use Rattle.lists.specs.Basics.{all, same}
 use Rattle.frame.specs.Frames.{fits}
 use Rattle.frame.specs.Questions.{question, asked, even, pairCount, bits}
 use Rattle.groups.specs.Groups.{Plan, planOf, pairsOf}
-use Rattle.constraint_coloring.specs.declared.ConstraintColoring.{ConstraintColoring}
 
 -- ---- the thirteen tables, and question 6
 pub record Tables : Type 0 where

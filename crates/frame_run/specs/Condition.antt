@@ -1,8 +1,8 @@
 -- Condition 3: one claim about each accepted frame and each whole schedule of it.
 use Prim.Native.Nat.{ℕ, _-_, _*_, _≤_, _<_}
 use mathlib.Core.Path.{_≡_}
-use mathlib.Core.Bool.{Bool, true, false}
-use mathlib.Core.List.{List, [], map}
+use mathlib.Core.Bool.{true, false}
+use mathlib.Core.List.{List, map}
 use lib.Dec.{eqb}
 use lib.ListN.{length, getD}
 use Rattle.lists.specs.Basics.{one, count, joinMap}

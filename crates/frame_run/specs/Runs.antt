@@ -1,13 +1,13 @@
 -- Schedules of a frame, and the frame run.
-use Prim.Native.Nat.{ℕ, zero, suc, _+_}
-use mathlib.Core.Bool.{Bool, true, false, _&&_, cond}
+use Prim.Native.Nat.{ℕ, _+_}
+use mathlib.Core.Bool.{Bool, true, cond}
 use mathlib.Core.List.{List, [], _∷_, _++_, map}
 use lib.Dec.{eqb}
 use lib.ListN.{length, getD}
 use Rattle.lists.specs.Basics.{filter, sumOf, count, range, joinMap}
 use Rattle.frame.specs.Frames.{Frame, constraintAt, flagOf, allSound, degreeMax}
 use Rattle.frame.specs.Questions.{question, asked}
-use Rattle.frame.specs.Files.{decode, fileQuestions, frameRefusal}
+use Rattle.frame.specs.Files.{decode, fileQuestions}
 use Rattle.island.specs.Islands.{islandCount, ofIsland}
 use Rattle.groups.specs.Groups.{Plan}
 use Rattle.constraint_coloring.specs.Plans.{fresh, remembered, planFor, groupPart, positionsRefusal, positionsAt}

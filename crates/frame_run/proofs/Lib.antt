@@ -1,0 +1,5 @@
+pub mod Accepted
+pub mod Plans
+pub mod Groups
+pub mod Condition3
+pub mod Samples
