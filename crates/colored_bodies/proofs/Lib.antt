@@ -1,0 +1,4 @@
+-- Laws that several proofs cite.
+pub mod Rises
+pub mod Fills
+pub mod Pairs
