@@ -9,9 +9,11 @@ use native.Mathlib.Omega.{arith}
 use lib.Dec.{leb, eqb}
 use lib.ListN.{length, getD, set, take, replicate, length-append, length-map}
 use lib.Seq.{take-suc, set-at, take-all, append-snoc, length-take-le}
+use mir.Val.{boolByte}
 use borrow.Author.Tests.{leb-true, eqb-true}
-use Rattle.lists.specs.Basics.{rises}
+use Rattle.lists.specs.Basics.{one, rises}
 use Rattle.lists.proofs.Laws.{by-cases}
+use Rattle.frame.specs.Frames.{conflicts}
 use Rattle.frame.specs.Questions.{typesKnown}
 use Rattle.colored_bodies.specs.Bindings.{lastBelow, bindRefusal, markOf, padded, boundOf, bindOf}
 use Rattle.colored_bodies.specs.declared.BodyBinding.{BodyBinding}
@@ -30,6 +32,10 @@ pad-step p i v e h =
 
 taken-more : (l : List ℕ) (i : ℕ) → i < length l → take (i + 1) l ≡ take i l ++ (getD l i 0 ∷ [])
 taken-more l i h = rw (add-one, take-suc l i 0)
+
+byte-of : (t : Bool) → boolByte t ≡ one t
+byte-of true = refl
+byte-of false = refl
 
 -- what an accepted bind says of its list
 accepted : (types indices : List ℕ) → bindRefusal types indices ≡ 0 → (length types ≤ 4096) × (risesFrom 0 (length types) indices ≡ true)
@@ -72,9 +78,10 @@ module _ (types indices : List ℕ) (refusal count : ℕ) (bodies marks : List �
           })
         (λ e. let none : count ≡ 0 = f .counted ∙ rw e in absurd (omega arith))
 
-  pub fill-next : i < count → Filling types indices refusal count (set bodies i (getD indices i 0)) (set marks i (markOf types (getD indices i 0))) (i + 1)
+  pub fill-next : i < count → Filling types indices refusal count (set bodies i (getD indices i 0)) (set marks i (boolByte (conflicts (getD types (getD indices i 0) 0)))) (i + 1)
   fill-next h =
       let t = fill-turn h in
+      let mark : ℕ = boolByte (conflicts (getD types (getD indices i 0) 0)) in
       let len : length (take i indices) ≡ i = length-take-le i indices (omega (arith, t .listed)) in
       let more : take (i + 1) indices ≡ take i indices ++ (getD indices i 0 ∷ []) = taken-more indices i (t .listed) in
       record {
@@ -83,8 +90,9 @@ module _ (types indices : List ℕ) (refusal count : ℕ) (bodies marks : List �
         inside = omega arith;
         bodies-are = ap (λ (l : List ℕ). set l i (getD indices i 0)) (f .bodies-are) ∙ pad-step (take i indices) i (getD indices i 0) len (t .room) ∙ ap padded (sym more);
         marks-are =
-            ap (λ (l : List ℕ). set l i (markOf types (getD indices i 0))) (f .marks-are)
-            ∙ pad-step (map (markOf types) (take i indices)) i (markOf types (getD indices i 0)) (length-map (take i indices) (markOf types) ∙ len) (t .room)
+            ap (λ (l : List ℕ). set l i mark) (f .marks-are)
+            ∙ pad-step (map (markOf types) (take i indices)) i mark (length-map (take i indices) (markOf types) ∙ len) (t .room)
+            ∙ ap (λ (v : ℕ). padded (map (markOf types) (take i indices) ++ (v ∷ []))) (byte-of (conflicts (getD types (getD indices i 0) 0)))
             ∙ ap padded (sym (map-append (markOf types) (take i indices) (getD indices i 0 ∷ [])) ∙ ap (map (markOf types)) (sym more))
       }
 

@@ -26,10 +26,16 @@ placed-room count i j h =
     let second = and-left (ltb j count && ltb j 4096) true (and-right (ltb i count && ltb i 4096) _ both) in
     (ltb-true i 4096 (and-right (ltb i count) _ first), ltb-true j 4096 (and-right (ltb j count) _ second))
 
--- the lower and the higher of two places are places
-pub cond-below : (t : Bool) (i j n : ℕ) → i < n → j < n → cond t i j < n
+-- and so are the lower and the higher of them
+cond-below : (t : Bool) (i j n : ℕ) → i < n → j < n → cond t i j < n
 cond-below true i j n p q = p
 cond-below false i j n p q = q
+
+pub lower-room : (i j r n : ℕ) → r ≡ cond (leb i j) i j → i < n → j < n → r < n
+lower-room i j r n e p q = rw e (cond-below (leb i j) i j n p q)
+
+pub higher-room : (i j r n : ℕ) → r ≡ cond (leb i j) j i → i < n → j < n → r < n
+higher-room i j r n e p q = rw e (cond-below (leb i j) j i n q p)
 
 -- ---- a take of marks
 
@@ -61,3 +67,38 @@ module _ (bodies marks : List ℕ) (count i j : ℕ) where
     pub marks-refused : (n ≡ 0 → ⊥) → Marks b (i ∷ j ∷ []) (Refused n) left
     unfolding takeOf
     marks-refused z = record { refusal = number; dynamic = rw (ne-eqb _ _ (λ e. z (number ∙ e))); marks = after }
+
+-- ---- from a take of marks to the whole take
+
+map-none : {A B : Type 0} (f : A → B) (xs : List A) → [] ≡ map f xs → [] ≡ xs
+map-none f [] e = refl
+map-none f (x ∷ xs) e = absurd (let z : _≡_ {A = ℕ} 0 1 = cc in omega arith)
+
+module _ (b : BodyBinding) (i j : ℕ) (m : Marked) (left : List ℕ) (k : Marks b (i ∷ j ∷ []) m left) where
+  -- where it is taken, question 9 was passed
+  pub marks-placed : Placed i j m
+  unfolding takeOf takeRefusal
+  marks-placed p q e =
+      by-cases (placed (b .count) (i ∷ j ∷ []))
+        (λ h. placed-room (b .count) i j h)
+        (λ h. let z : 0 ≡ 9 = sym (ap markedNumber e) ∙ k .refusal ∙ rw h in absurd (omega arith))
+
+  pub takes-by : (t : Take) → t ≡ withBodies (b .bodies) i j m → Takes b (i ∷ j ∷ []) t (record { bodies = b .bodies; marks = left; count = b .count })
+  unfolding takeOf
+  takes-by t e = record {
+        refusal = ap takeNumber e ∙ same-number m ∙ k .refusal;
+        handed = ap takeBodies e ∙ bodies-of m (k .refusal) (k .dynamic);
+        after = ap (λ (l : List ℕ). record { bodies = b .bodies; marks = l; count = b .count }) (k .marks)
+      }
+    where
+      same-number : (x : Marked) → takeNumber (withBodies (b .bodies) i j x) ≡ markedNumber x
+      same-number (Taken p q) = refl
+      same-number (Refused n) = refl
+
+      bodies-of : (x : Marked) → markedNumber x ≡ takeOf b (i ∷ j ∷ []) .refusal → markedDynamic x ≡ map (λ h. h .dynamic) (takeOf b (i ∷ j ∷ []) .handed)
+          → takeBodies (withBodies (b .bodies) i j x) ≡ takeOf b (i ∷ j ∷ []) .handed
+      bodies-of (Taken p q) r d =
+          let z : eqb (takeRefusal b (i ∷ j ∷ [])) 0 ≡ true = eq-eqb _ _ (sym r) in
+          let d′ : p ∷ q ∷ [] ≡ (eqb (getD (b .marks) i 0) 1 ∷ eqb (getD (b .marks) j 0) 1 ∷ []) = d ∙ rw z in
+          rw z (cc)
+      bodies-of (Refused n) r d = map-none (λ h. h .dynamic) (takeOf b (i ∷ j ∷ []) .handed) d
