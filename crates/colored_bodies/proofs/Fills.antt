@@ -12,7 +12,6 @@ use lib.Seq.{take-suc, set-at, take-all, append-snoc, length-take-le}
 use mir.Val.{boolByte}
 use borrow.Author.Tests.{leb-true, eqb-true}
 use Rattle.lists.specs.Basics.{one, rises}
-use Rattle.lists.proofs.Laws.{by-cases}
 use Rattle.frame.specs.Frames.{conflicts}
 use Rattle.frame.specs.Questions.{typesKnown}
 use Rattle.colored_bodies.specs.Bindings.{lastBelow, bindRefusal, markOf, padded, boundOf, bindOf}
@@ -38,16 +37,16 @@ byte-of true = refl
 byte-of false = refl
 
 -- what an accepted bind says of its list
+accepted-by : (a b c : Bool) (types indices : List ℕ) → leb (length types) 4096 ≡ a → (rises indices && lastBelow (length types) indices) ≡ c
+    → _≡_ {A = ℕ} (cond a (cond b (cond c 0 8) 5) 3) 0 → (length types ≤ 4096) × (risesFrom 0 (length types) indices ≡ true)
+accepted-by true true true types indices e r h = (leb-true _ _ e, rises-is (length types) indices ∙ r)
+accepted-by true true false types indices e r h = absurd (omega arith)
+accepted-by true false c types indices e r h = absurd (omega arith)
+accepted-by false b c types indices e r h = absurd (omega arith)
+
 accepted : (types indices : List ℕ) → bindRefusal types indices ≡ 0 → (length types ≤ 4096) × (risesFrom 0 (length types) indices ≡ true)
 unfolding bindRefusal
-accepted types indices h =
-    by-cases (leb (length types) 4096)
-      (λ e. by-cases (typesKnown types)
-        (λ k. by-cases (rises indices && lastBelow (length types) indices)
-          (λ r. (leb-true _ _ e, rises-is (length types) indices ∙ r))
-          (λ r. let n : 8 ≡ 0 = rw (e, k, r) at h in absurd (omega arith)))
-        (λ k. let n : 5 ≡ 0 = rw (e, k) at h in absurd (omega arith)))
-      (λ e. let n : 3 ≡ 0 = rw e at h in absurd (omega arith))
+accepted types indices h = accepted-by _ (typesKnown types) _ types indices refl refl h
 
 -- what the loop holds at place i
 pub record Filling (types indices : List ℕ) (refusal count : ℕ) (bodies marks : List ℕ) (i : ℕ) : Type 0 where
@@ -64,19 +63,20 @@ pub record Turn (types indices : List ℕ) (i : ℕ) : Type 0 where
   pub typed : getD indices i 0 < length types
 
 module _ (types indices : List ℕ) (refusal count : ℕ) (bodies marks : List ℕ) (i : ℕ) (f : Filling types indices refusal count bodies marks i) where
+  turn-by : (t : Bool) → eqb refusal 0 ≡ t → i < count → Turn types indices i
+  turn-by true e h =
+      let all : count ≡ length indices = f .counted ∙ rw e in
+      let ok = accepted types indices (sym (f .asked) ∙ eqb-true refusal 0 e) in
+      let listed : i < length indices = omega arith in
+      record {
+        listed = listed;
+        room = omega (arith, ok .0, rises-room 0 (length types) indices (ok .1));
+        typed = rises-under 0 (length types) indices i (ok .1) listed;
+      }
+  turn-by false e h = let none : count ≡ 0 = f .counted ∙ rw e in absurd (omega arith)
+
   pub fill-turn : i < count → Turn types indices i
-  fill-turn h =
-      by-cases (eqb refusal 0)
-        (λ e.
-          let all : count ≡ length indices = f .counted ∙ rw e in
-          let ok = accepted types indices (sym (f .asked) ∙ eqb-true refusal 0 e) in
-          let listed : i < length indices = omega arith in
-          record {
-            listed = listed;
-            room = omega (arith, ok .0, rises-room 0 (length types) indices (ok .1));
-            typed = rises-under 0 (length types) indices i (ok .1) listed
-          })
-        (λ e. let none : count ≡ 0 = f .counted ∙ rw e in absurd (omega arith))
+  fill-turn h = turn-by (eqb refusal 0) refl h
 
   pub fill-next : i < count → Filling types indices refusal count (set bodies i (getD indices i 0)) (set marks i (boolByte (conflicts (getD types (getD indices i 0) 0)))) (i + 1)
   fill-next h =
@@ -93,20 +93,19 @@ module _ (types indices : List ℕ) (refusal count : ℕ) (bodies marks : List �
             ap (λ (l : List ℕ). set l i mark) (f .marks-are)
             ∙ pad-step (map (markOf types) (take i indices)) i mark (length-map (take i indices) (markOf types) ∙ len) (t .room)
             ∙ ap (λ (v : ℕ). padded (map (markOf types) (take i indices) ++ (v ∷ []))) (byte-of (conflicts (getD types (getD indices i 0) 0)))
-            ∙ ap padded (sym (map-append (markOf types) (take i indices) (getD indices i 0 ∷ [])) ∙ ap (map (markOf types)) (sym more))
+            ∙ ap padded (sym (map-append (markOf types) (take i indices) (getD indices i 0 ∷ [])) ∙ ap (map (markOf types)) (sym more));
       }
 
-  pub fill-end : count ≤ i → _≡_ {A = BodyBinding} record { bodies = bodies; marks = marks; count = count } (bindOf types indices)
+  end-by : (t : Bool) → eqb refusal 0 ≡ t → i ≡ count → _≡_ {A = BodyBinding} record { bodies = bodies; marks = marks; count = count } (bindOf types indices)
   unfolding bindOf boundOf
-  fill-end h =
-      let inside = f .inside in
-      let at-end : i ≡ count = omega arith in
-      by-cases (eqb refusal 0)
-        (λ e.
-          let all : count ≡ length indices = f .counted ∙ rw e in
-          let whole : take i indices ≡ indices = take-all i indices (omega arith) in
-          simp (← f .asked, e, f .bodies-are, f .marks-are, whole, all))
-        (λ e.
-          let none : count ≡ 0 = f .counted ∙ rw e in
-          let none-yet : i ≡ 0 = omega arith in
-          simp (← f .asked, e, f .bodies-are, f .marks-are, none-yet, none))
+  end-by true e h =
+      let all : count ≡ length indices = f .counted ∙ rw e in
+      let whole : take i indices ≡ indices = take-all i indices (omega arith) in
+      simp (← f .asked, e, f .bodies-are, f .marks-are, whole, all)
+  end-by false e h =
+      let none : count ≡ 0 = f .counted ∙ rw e in
+      let none-yet : i ≡ 0 = h ∙ none in
+      simp (← f .asked, e, f .bodies-are, f .marks-are, none-yet, none)
+
+  pub fill-end : count ≤ i → _≡_ {A = BodyBinding} record { bodies = bodies; marks = marks; count = count } (bindOf types indices)
+  fill-end h = let inside = f .inside in end-by (eqb refusal 0) refl (omega arith)

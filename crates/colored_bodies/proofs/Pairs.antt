@@ -40,10 +40,10 @@ higher-room i j r n e p q = rw e (cond-below (leb i j) j i n q p)
 -- ---- a take of marks
 
 module _ (bodies marks : List ℕ) (count i j : ℕ) where
-  abbrev b : BodyBinding
-  b = record { bodies = bodies; marks = marks; count = count }
+  abbrev binding : BodyBinding
+  binding = record { bodies = bodies; marks = marks; count = count }
 
-  pub marks-unplaced : placed count (i ∷ j ∷ []) ≡ false → Marks b (i ∷ j ∷ []) (Refused 9) marks
+  pub marks-unplaced : placed count (i ∷ j ∷ []) ≡ false → Marks binding (i ∷ j ∷ []) (Refused 9) marks
   unfolding takeOf takeRefusal takeMarks
   marks-unplaced h = record { refusal = simp h; dynamic = simp h; marks = simp h }
 
@@ -52,19 +52,19 @@ module _ (bodies marks : List ℕ) (count i j : ℕ) where
     in-order : low ∷ high ∷ [] ≡ sorted (i ∷ j ∷ [])
     in-order = rw (l, g) (by-cases (leb i j) (λ e. rw e) (λ e. rw e))
 
-    number : n ≡ takeRefusal b (i ∷ j ∷ [])
+    number : n ≡ takeRefusal binding (i ∷ j ∷ [])
     unfolding takeRefusal
     number = two .0 ∙ rw (h, in-order)
 
-    after : left ≡ takeMarks b (i ∷ j ∷ [])
+    after : left ≡ takeMarks binding (i ∷ j ∷ [])
     unfolding takeMarks
     after = two .1 ∙ rw (h, in-order)
 
-    pub marks-taken : n ≡ 0 → Marks b (i ∷ j ∷ []) (Taken (eqb (getD marks i 0) 1) (eqb (getD marks j 0) 1)) left
+    pub marks-taken : n ≡ 0 → Marks binding (i ∷ j ∷ []) (Taken (eqb (getD marks i 0) 1) (eqb (getD marks j 0) 1)) left
     unfolding takeOf
     marks-taken z = record { refusal = sym z ∙ number; dynamic = rw (eq-eqb _ _ (sym number ∙ z)); marks = after }
 
-    pub marks-refused : (n ≡ 0 → ⊥) → Marks b (i ∷ j ∷ []) (Refused n) left
+    pub marks-refused : (n ≡ 0 → ⊥) → Marks binding (i ∷ j ∷ []) (Refused n) left
     unfolding takeOf
     marks-refused z = record { refusal = number; dynamic = rw (ne-eqb _ _ (λ e. z (number ∙ e))); marks = after }
 
@@ -74,31 +74,34 @@ map-none : {A B : Type 0} (f : A → B) (xs : List A) → [] ≡ map f xs → []
 map-none f [] e = refl
 map-none f (x ∷ xs) e = absurd (let z : _≡_ {A = ℕ} 0 1 = cc in omega arith)
 
+same-number : (bodies : List ℕ) (i j : ℕ) (m : Marked) → takeNumber (withBodies bodies i j m) ≡ markedNumber m
+same-number bodies i j (Taken p q) = refl
+same-number bodies i j (Refused n) = refl
+
+same-bodies : (b : BodyBinding) (i j : ℕ) (m : Marked) → markedNumber m ≡ takeOf b (i ∷ j ∷ []) .refusal → markedDynamic m ≡ map (λ h. h .dynamic) (takeOf b (i ∷ j ∷ []) .handed)
+    → takeBodies (withBodies (b .bodies) i j m) ≡ takeOf b (i ∷ j ∷ []) .handed
+unfolding takeOf
+same-bodies b i j (Taken p q) r d =
+    let z : eqb (takeRefusal b (i ∷ j ∷ [])) 0 ≡ true = eq-eqb _ _ (sym r) in
+    let d′ : p ∷ q ∷ [] ≡ (eqb (getD (b .marks) i 0) 1 ∷ eqb (getD (b .marks) j 0) 1 ∷ []) = d ∙ rw z in
+    rw z (cc)
+same-bodies b i j (Refused n) r d = map-none (λ h. h .dynamic) (takeOf b (i ∷ j ∷ []) .handed) d
+
+placed-by : (b : BodyBinding) (i j : ℕ) (t : Bool) → placed (b .count) (i ∷ j ∷ []) ≡ t → 0 ≡ takeOf b (i ∷ j ∷ []) .refusal → (i < 4096) × (j < 4096)
+unfolding takeOf takeRefusal
+placed-by b i j true h e = placed-room (b .count) i j h
+placed-by b i j false h e = let z : _≡_ {A = ℕ} 0 9 = e ∙ rw h in absurd (omega arith)
+
 module _ (b : BodyBinding) (i j : ℕ) (m : Marked) (left : List ℕ) (k : Marks b (i ∷ j ∷ []) m left) where
   -- where it is taken, question 9 was passed
   pub marks-placed : Placed i j m
-  unfolding takeOf takeRefusal
-  marks-placed p q e =
-      by-cases (placed (b .count) (i ∷ j ∷ []))
-        (λ h. placed-room (b .count) i j h)
-        (λ h. let z : 0 ≡ 9 = sym (ap markedNumber e) ∙ k .refusal ∙ rw h in absurd (omega arith))
+  marks-placed p q e = placed-by b i j (placed (b .count) (i ∷ j ∷ [])) refl (sym (ap markedNumber e) ∙ k .refusal)
 
   pub takes-by : (t : Take) → t ≡ withBodies (b .bodies) i j m → Takes b (i ∷ j ∷ []) t (record { bodies = b .bodies; marks = left; count = b .count })
   unfolding takeOf
-  takes-by t e = record {
-        refusal = ap takeNumber e ∙ same-number m ∙ k .refusal;
-        handed = ap takeBodies e ∙ bodies-of m (k .refusal) (k .dynamic);
-        after = ap (λ (l : List ℕ). record { bodies = b .bodies; marks = l; count = b .count }) (k .marks)
+  takes-by t e =
+      record {
+        refusal = ap takeNumber e ∙ same-number (b .bodies) i j m ∙ k .refusal;
+        handed = ap takeBodies e ∙ same-bodies b i j m (k .refusal) (k .dynamic);
+        after = ap (λ (l : List ℕ). record { bodies = b .bodies; marks = l; count = b .count }) (k .marks);
       }
-    where
-      same-number : (x : Marked) → takeNumber (withBodies (b .bodies) i j x) ≡ markedNumber x
-      same-number (Taken p q) = refl
-      same-number (Refused n) = refl
-
-      bodies-of : (x : Marked) → markedNumber x ≡ takeOf b (i ∷ j ∷ []) .refusal → markedDynamic x ≡ map (λ h. h .dynamic) (takeOf b (i ∷ j ∷ []) .handed)
-          → takeBodies (withBodies (b .bodies) i j x) ≡ takeOf b (i ∷ j ∷ []) .handed
-      bodies-of (Taken p q) r d =
-          let z : eqb (takeRefusal b (i ∷ j ∷ [])) 0 ≡ true = eq-eqb _ _ (sym r) in
-          let d′ : p ∷ q ∷ [] ≡ (eqb (getD (b .marks) i 0) 1 ∷ eqb (getD (b .marks) j 0) 1 ∷ []) = d ∙ rw z in
-          rw z (cc)
-      bodies-of (Refused n) r d = map-none (λ h. h .dynamic) (takeOf b (i ∷ j ∷ []) .handed) d

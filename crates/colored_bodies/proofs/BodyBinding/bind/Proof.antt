@@ -31,7 +31,7 @@ loop-holds c =
       counted = ⊎-elim (λ w. w .1 ∙ sym (rw (eq-eqb _ _ (w .0 .taken)))) (λ w. w .1 ∙ sym (rw (ne-eqb _ _ (w .0 .left)))) (c .if1 .came);
       inside = omega arith;
       bodies-are = refl;
-      marks-are = refl
+      marks-are = refl;
     }
 
 mul-x : tie.Need-mul-x Inv-loop μ-loop
