@@ -2,15 +2,15 @@
 -- after the other; a take of marks is the whole take once the bodies at its positions are read.
 use Prim.Native.Nat.{ℕ, _<_}
 use mathlib.Core.Path.{_≡_, refl, sym, ap, _∙_}
-use mathlib.Core.Bool.{Bool, true, false, not, _&&_, cond}
+use mathlib.Core.Bool.{Bool, true, false, _&&_, cond}
 use mathlib.Core.List.{List, [], _∷_, map}
 use native.Mathlib.Omega.{arith}
 use lib.Dec.{leb, ltb, eqb}
 use lib.ListN.{getD}
 use borrow.Author.Tests.{ltb-true, eq-eqb, ne-eqb}
-use Rattle.lists.specs.Basics.{distinct, all, sorted}
+use Rattle.lists.specs.Basics.{distinct, sorted}
 use Rattle.lists.proofs.Laws.{and-left, and-right, by-cases}
-use Rattle.colored_bodies.specs.Bindings.{placed, free, spend, refusalFrom, marksFrom, takeRefusal, takeMarks, Handed, handedAt, takeOf}
+use Rattle.colored_bodies.specs.Bindings.{placed, refusalFrom, marksFrom, takeRefusal, takeMarks, takeOf}
 use Rattle.colored_bodies.specs.Answers.{takeNumber, takeBodies, markedNumber, markedDynamic, withBodies, Placed, Takes, Marks}
 use Rattle.colored_bodies.specs.declared.BodyBinding.{BodyBinding}
 use Rattle.colored_bodies.specs.declared.Take.{Take}

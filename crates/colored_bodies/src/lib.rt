@@ -6,9 +6,8 @@
 ghost use mathlib.Core.Path.{_≡_};
 ghost use mathlib.Core.Bool.{_&&_, cond};
 ghost use mathlib.Core.List.{List, [], _∷_};
-ghost use Prim.Native.Nat.{ℕ, _<_, _≤_};
+ghost use Prim.Native.Nat.{ℕ, _<_};
 ghost use lib.Dec.{leb};
-ghost use lib.ListN.{length};
 ghost use Rattle.lists.specs.Basics.{rises};
 ghost use Rattle.frame.specs.Questions.{typesKnown};
 ghost use Rattle.colored_bodies.specs.Bindings.{lastBelow, bindRefusal, placed, spend, refusalFrom, marksFrom};

@@ -1,6 +1,6 @@
 -- What is known of the types passed, and the question of the rest, make the question of all.
 use Prim.Native.Nat.{ℕ, _+_, _≤_, _<_, _-_}
-use mathlib.Core.Path.{_≡_, refl, sym, ap, _∙_}
+use mathlib.Core.Path.{_≡_, refl, sym, _∙_}
 use mathlib.Core.Bool.{Bool, _&&_, and-true, and-assoc}
 use mathlib.Core.List.{List}
 use native.Mathlib.Numerals.{add-one}
