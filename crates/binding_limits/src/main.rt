@@ -44,10 +44,11 @@ fn show_answer(take: Take) {
 
 fn show_take(binding: BodyBinding, a: usize, b: usize) -> BodyBinding {
     let step = binding.pair_at(a, b);
+    let answer = step.take;
     io::write_all(1, b"take");
     put(a as u64);
     put(b as u64);
-    show_answer(step.take);
+    show_answer(answer);
     io::write_all(1, b"\n");
     step.binding
 }
