@@ -1,7 +1,7 @@
 // Bindings: which bodies a group of constraints may take, and which have been taken (solver/colored_bodies.rs).
 //
-// `bind` lists a group's bodies and marks the dynamic ones held; a take hands two of them over, in the order asked, and
-// marks the dynamic ones taken, so that no body is handed over twice. `bind` refuses too many bodies (3), unknown types (5) and a
+// `bind` lists a group's bodies and marks the dynamic ones held; a take hands two of them over, in the order asked, and marks the
+// dynamic ones taken, so that no dynamic body is handed over twice. `bind` refuses too many bodies (3), unknown types (5) and a
 // list that does not rise inside them (8); a take refuses bad positions (9) and bodies that are gone (10, 11).
 ghost use mathlib.Core.Path.{_≡_};
 ghost use mathlib.Core.Bool.{_&&_, cond};
@@ -98,6 +98,34 @@ fn bind_refusal(types: &[u8], indices: &[u16]) -> u8
     0
 }
 
+impl BodyBinding {
+    // Binds the listed bodies: dynamic ones are held, others read-only. A refused bind binds nothing.
+    pub fn bind(types: &[u8], indices: &[u16]) -> Bound
+        ensures { λ r. ⌜ Binds (now (types .entry)) (now (indices .entry)) r ⌝ }
+    {
+        let refusal = bind_refusal(types, indices);
+        let count = if refusal == 0 { indices.len() } else { 0 };
+        let mut bodies = [0u16; 4096];
+        let mut marks = [0u8; 4096];
+        let mut i = 0;
+        while i < count {
+            let x = indices[i] as usize;
+            bodies[i] = indices[i];
+            marks[i] = (types[x] == 2) as u8;
+            i += 1;
+        }
+        let binding = BodyBinding {
+            bodies: bodies,
+            marks: marks,
+            count: count,
+        };
+        Bound {
+            refusal: refusal,
+            binding: binding,
+        }
+    }
+}
+
 // Question 9: two different positions, both below the count and 4,096.
 fn placed_in(count: usize, a: usize, b: usize) -> bool
     ensures { λ r. ⌜ r ≡ placed count (a ∷ b ∷ []) ⌝ }
@@ -105,6 +133,7 @@ fn placed_in(count: usize, a: usize, b: usize) -> bool
     (a != b) & (a < count) & (a < 4096) & (b < count) & (b < 4096)
 }
 
+// The lower and the higher of two positions.
 fn lower(a: usize, b: usize) -> usize
     ensures { λ r. ⌜ r ≡ cond (leb a b) a b ⌝ }
 {
@@ -184,32 +213,6 @@ fn with_bodies(bodies: &[u16; 4096], a: usize, b: usize, marked: Marked) -> Take
 }
 
 impl BodyBinding {
-    // Binds the listed bodies: dynamic ones are held, others read-only. A refused bind binds nothing.
-    pub fn bind(types: &[u8], indices: &[u16]) -> Bound
-        ensures { λ r. ⌜ Binds (now (types .entry)) (now (indices .entry)) r ⌝ }
-    {
-        let refusal = bind_refusal(types, indices);
-        let count = if refusal == 0 { indices.len() } else { 0 };
-        let mut bodies = [0u16; 4096];
-        let mut marks = [0u8; 4096];
-        let mut i = 0;
-        while i < count {
-            let x = indices[i] as usize;
-            bodies[i] = indices[i];
-            marks[i] = (types[x] == 2) as u8;
-            i += 1;
-        }
-        let binding = BodyBinding {
-            bodies: bodies,
-            marks: marks,
-            count: count,
-        };
-        Bound {
-            refusal: refusal,
-            binding: binding,
-        }
-    }
-
     // Takes the bodies at positions a and b, the lower position first.
     pub fn pair_at(mut self, a: usize, b: usize) -> Step
         ensures { λ r. ⌜ Takes self (a ∷ b ∷ []) (r .take) (r .binding) ⌝ }
