@@ -9,7 +9,7 @@ use Rattle.island.specs.Calls.{islandRefusal}
 use Rattle.groups.specs.Groups.{clash, freeFrom, free, usedBy, colorFrom, colorsOf, groupCount, members, groupBodies, positions, largestGroup, flatten, offsets, planOf}
 use Rattle.constraint_coloring.specs.Plans.{updateRefusal, changes, remembered, groupPart, positionsRefusal}
 use Rattle.colored_bodies.specs.Bindings.{bindRefusal, padded, boundOf, bindOf, placed, spend, refusalFrom, marksFrom, takeRefusal, takeMarks, takeOf}
-use Rattle.frame_run.specs.Runs.{flags, pairsFor, planAt, membersIn, bodiesIn, takeRank, callsFrom, groupCalls, schedule, turnsOf, takesOf, rising, runRefusal, runOf}
+use Rattle.schedules.specs.Runs.{flags, pairsFor, planAt, membersIn, bodiesIn, takeRank, callsFrom, groupCalls, schedule, turnsOf, takesOf, rising, runRefusal, runOf}
 use Rattle.frame_run.specs.Print.{digits, decimal, spaced, headOf, turnLine, refusalLine, turnLines, reportLines, printOf}
 use Rattle.frame_run.specs.Samples.{answer, samples}
 

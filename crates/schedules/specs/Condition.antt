@@ -15,7 +15,7 @@ use Rattle.constraint_coloring.specs.declared.Update.{Update}
 use Rattle.constraint_coloring.specs.Plans.{Tables, roomy}
 use Rattle.constraint_coloring.specs.Calls.{freshPlan, planAfter, Updated}
 use Rattle.colored_bodies.specs.Bindings.{Handed}
-use Rattle.frame_run.specs.Runs.{Call, Plans, Orders, flags, pairsFor, membersIn, schedule, rising, turnOf, turnsOf, takesOf, runOf}
+use Rattle.schedules.specs.Runs.{Call, Plans, Orders, flags, pairsFor, membersIn, schedule, rising, turnOf, turnsOf, takesOf, runOf}
 
 -- two lists of exactly the same numbers, each as often
 abbrev pub SameNumbers : List ℕ → List ℕ → Type 0

@@ -19,11 +19,11 @@ use Rattle.frame.specs.Files.{decode, frameRefusal}
 use Rattle.island.specs.Islands.{islandCount, label, ofIsland}
 use Rattle.island.proofs.Theorem.{islands-few, label-below-at}
 use Rattle.colored_bodies.specs.declared.BodyBinding.{BodyBinding}
-use Rattle.frame_run.specs.Runs.{Call, Plans, Orders, planAt, membersIn, bodiesIn, takeRank, callsFrom, groupCalls, schedule, rising, turnsOf, takesOf, runRefusal, runOf}
-use Rattle.frame_run.specs.Condition.{SameNumbers, due, takesOn, Claim}
-use Rattle.frame_run.proofs.Accepted.{Accepted, accepted, live, live-number}
-use Rattle.frame_run.proofs.Plans.{endsAt, colorsAt, Stands, plan-stands, planned-stands, groups-few, length-colors}
-use Rattle.frame_run.proofs.Groups.{group-right}
+use Rattle.schedules.specs.Runs.{Call, Plans, Orders, planAt, membersIn, bodiesIn, takeRank, callsFrom, groupCalls, schedule, rising, turnsOf, takesOf, runRefusal, runOf}
+use Rattle.schedules.specs.Condition.{SameNumbers, due, takesOn, Claim}
+use Rattle.schedules.proofs.Accepted.{Accepted, accepted, live, live-number}
+use Rattle.schedules.proofs.Plans.{endsAt, colorsAt, Stands, plan-stands, planned-stands, groups-few, length-colors}
+use Rattle.schedules.proofs.Groups.{group-right}
 
 -- constraint n touches a dynamic body
 abbrev touching : Frame → ℕ → Bool

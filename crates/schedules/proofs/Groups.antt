@@ -1,6 +1,6 @@
 -- The takes of one group, in any order: two members share no dynamic body, since their colors are equal, so every take finds its bodies there.
 use mathlib.Core.Bool.{cond, Bool, true, false, not, _||_}
-use Rattle.frame_run.specs.Runs.{takeRank, Call, flags, membersIn, bodiesIn, callsFrom}
+use Rattle.schedules.specs.Runs.{takeRank, Call, flags, membersIn, bodiesIn, callsFrom}
 use Prim.Native.Nat.{ℕ, _≤_, _<_}
 use mathlib.Core.Path.{_≡_, refl, sym, ap, _∙_, subst}
 use mathlib.Core.List.{List, [], _∷_, map}
@@ -16,9 +16,9 @@ use Rattle.groups.specs.Groups.{Plan, members, groupBodies, positions}
 use Rattle.groups.proofs.Colors.{proper}
 use Rattle.colored_bodies.specs.Bindings.{lastBelow, bindRefusal, bindOf, Handed, takeOf}
 use Rattle.colored_bodies.proofs.Takes.{typed, leftOf, left-first, take-left}
-use Rattle.frame_run.specs.Condition.{SameNumbers, due}
-use Rattle.frame_run.proofs.Accepted.{Accepted, Live, flag-dynamic}
-use Rattle.frame_run.proofs.Plans.{endsAt, pairsAt, colorsAt, of-island, touch-live, length-pairs, length-colors, ends-are, Stands}
+use Rattle.schedules.specs.Condition.{SameNumbers, due}
+use Rattle.schedules.proofs.Accepted.{Accepted, Live, flag-dynamic}
+use Rattle.schedules.proofs.Plans.{endsAt, pairsAt, colorsAt, of-island, touch-live, length-pairs, length-colors, ends-are, Stands}
 
 -- a member of a group is a rank of its color
 member : (cs : List ℕ) (k r : ℕ) → mem r (members cs k) ≡ true → (r < length cs) × (k ≡ getD cs r 0)

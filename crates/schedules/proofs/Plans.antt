@@ -9,7 +9,7 @@ use Rattle.groups.specs.Groups.{colorFrom, Plan, flatten, pairsOf, flagged, col
 use Rattle.constraint_coloring.specs.declared.ConstraintColoring.{ConstraintColoring}
 use Rattle.constraint_coloring.specs.Plans.{roomy, updateRefusal, positionsRefusal, positionsAt, fresh, planFor}
 use Rattle.constraint_coloring.specs.Calls.{freshPlan, carried, holds, refusalWith, changesWith, written}
-use Rattle.frame_run.specs.Condition.{standing, Planned}
+use Rattle.schedules.specs.Condition.{standing, Planned}
 use mathlib.Core.Bool.{cond, Bool, true, false, _&&_}
 use lib.Dec.{ltb, leb, eqb}
 use Rattle.colored_bodies.specs.Bindings.{takeOf}
@@ -25,8 +25,8 @@ use Rattle.groups.proofs.Colors.{color-few, colors-length}
 use Rattle.constraint_coloring.proofs.Memory.{remembers}
 use Rattle.constraint_coloring.proofs.Lookups.{group-part, positions-asked, positions-found}
 use Rattle.colored_bodies.specs.declared.BodyBinding.{BodyBinding}
-use Rattle.frame_run.specs.Runs.{flags, pairsFor, planAt, membersIn, bodiesIn, takeRank}
-use Rattle.frame_run.proofs.Accepted.{Accepted, Live, live, flag-dynamic}
+use Rattle.schedules.specs.Runs.{flags, pairsFor, planAt, membersIn, bodiesIn, takeRank}
+use Rattle.schedules.proofs.Accepted.{Accepted, Live, live, flag-dynamic}
 
 abbrev pub endsAt : Frame → ℕ → List ℕ
 endsAt f n = constraintAt f n .ends
