@@ -1,1 +1,3 @@
+pub mod Pairs
+pub mod Counts
 pub mod Scan

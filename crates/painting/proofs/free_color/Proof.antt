@@ -1,3 +1,4 @@
+-- The lists of the two bodies are parts of the table, and what stands in them is fresh by requirement.
 use native.Mathlib.Omega.{arith}
 use borrow.Author.Needs.{needs}
 use Rattle.painting.proofs.free_color.Statement.{statement}
@@ -73,7 +74,9 @@ sub-b-count : tie.Need-sub-b-count
 sub-b-count c = search needs
 
 least-free-requires : tie.Need-least-free-requires
-least-free-requires c κs = search needs
+least-free-requires c κs =
+    let s = c .before .before .before .before .before .before .before .before .before .before .before .before in
+    ((omega (arith, s .pre .1 .0), omega (arith, s .pre .1 .1 .0)), s .pre .1 .1 .1)
 
 same-length : tie.Need-same-length
 same-length c = search needs
