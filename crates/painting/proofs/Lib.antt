@@ -1,3 +1,5 @@
 pub mod Pairs
 pub mod Counts
 pub mod Scan
+pub mod Used
+pub mod Lists

@@ -106,16 +106,16 @@ degree flags cs x = count (clash flags (x ∷ [])) cs
 abbrev pub startOf : List ℕ → List (List ℕ) → ℕ → ℕ
 startOf flags cs x = sumOf (degree flags cs) (range x)
 
--- the first constraints, cs, are done: in the list of each body stand the colors that they have on it
-pub record Lists (flags : List ℕ) (cs : List (List ℕ)) (offsets adjacency scratch : List ℕ) : Type 0 where
-  pub ends : (x : ℕ) → x < length flags → getD scratch x 0 ≡ getD offsets x 0 + length (on flags cs x)
-  pub hold : (x : ℕ) → x < length flags → part (getD offsets x 0) (length (on flags cs x)) adjacency ≡ on flags cs x
+-- the lists of nb bodies hold these numbers
+pub record Lists (nb : ℕ) (held : ℕ → List ℕ) (offsets adjacency scratch : List ℕ) : Type 0 where
+  pub ends : (x : ℕ) → x < nb → getD scratch x 0 ≡ getD offsets x 0 + length (held x)
+  pub hold : (x : ℕ) → x < nb → part (getD offsets x 0) (length (held x)) adjacency ≡ held x
 
 -- the tables when i constraints are done
 pub record Done (flags pairs offsets adjacency scratch colors stamps : List ℕ) (i color-count : ℕ) : Type 0 where
   pub ready : Ready flags pairs offsets adjacency scratch colors stamps
   pub starts : (x : ℕ) → x ≤ length flags → getD offsets x 0 ≡ startOf flags (pairsOf pairs) x
-  pub lists : Lists flags (take i (pairsOf pairs)) offsets adjacency scratch
+  pub lists : Lists (length flags) (on flags (take i (pairsOf pairs))) offsets adjacency scratch
   pub colored : take i colors ≡ colorsOf flags (take i (pairsOf pairs))
   pub stamped : (c : ℕ) → getD stamps c 0 ≤ i
   pub counted : color-count ≡ groupCount (colorsOf flags (take i (pairsOf pairs)))
