@@ -3,3 +3,4 @@ pub mod Counts
 pub mod Scan
 pub mod Used
 pub mod Lists
+pub mod Steps

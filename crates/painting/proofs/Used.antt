@@ -14,6 +14,10 @@ use Rattle.groups.specs.Groups.{flagged, clash, free, usedBy, colorFrom, colors
 use Rattle.groups.proofs.Colors.{free-unique, free-new, free-least, free-le}
 use Rattle.painting.proofs.Scan.{mem-append}
 
+pub all-append : (p : ℕ → Bool) (xs ys : List ℕ) → all p xs ≡ true → all p ys ≡ true → all p (xs ++ ys) ≡ true
+all-append p [] ys h e = e
+all-append p (x ∷ xs) ys h e = and-both (p x) (all p (xs ++ ys)) (and-left (p x) (all p xs) h) (all-append p xs ys (and-right (p x) (all p xs) h) e)
+
 module _ (flags : List ℕ) where
   pub used-more : (done : List (List ℕ)) (colors xs bs : List ℕ) (c : ℕ) → length done ≡ length colors
     → usedBy flags (done ++ xs ∷ []) (colors ++ c ∷ []) bs ≡ usedBy flags done colors bs ++ cond (clash flags bs xs) (c ∷ []) []
@@ -68,10 +72,6 @@ module _ (flags : List ℕ) where
   used-few (y ∷ ys) [] bs = omega arith
   used-few (y ∷ ys) (d ∷ ds) bs = by-cases (clash flags bs y) (λ e. rw e (omega (arith, used-few ys ds bs))) (λ e. rw e (omega (arith, used-few ys ds bs)))
 
-  all-append : (p : ℕ → Bool) (xs : List ℕ) (c : ℕ) → all p xs ≡ true → p c ≡ true → all p (xs ++ c ∷ []) ≡ true
-  all-append p [] c h e = and-both (p c) true e refl
-  all-append p (x ∷ xs) c h e = and-both (p x) (all p (xs ++ c ∷ [])) (and-left (p x) (all p xs) h) (all-append p xs c (and-right (p x) (all p xs) h) e)
-
   low-from : (n : ℕ) (done : List (List ℕ)) (colors : List ℕ) (rest : List (List ℕ)) → length done + length rest ≡ n
     → all (λ c. ltb c n) colors ≡ true → all (λ c. ltb c n) (colorFrom flags done colors rest) ≡ true
   unfolding colorFrom
@@ -79,7 +79,7 @@ module _ (flags : List ℕ) where
   low-from n done colors (bs ∷ rest) e h =
     let c = free (usedBy flags done colors bs) in
     low-from n (done ++ bs ∷ []) (colors ++ c ∷ []) rest (omega (arith, length-append done (bs ∷ [])))
-      (all-append (λ d. ltb d n) colors c h (lt-ltb c n (omega (arith, free-le (usedBy flags done colors bs), used-few done colors bs))))
+      (all-append (λ d. ltb d n) colors (c ∷ []) h (and-both (ltb c n) true (lt-ltb c n (omega (arith, free-le (usedBy flags done colors bs), used-few done colors bs))) refl))
 
   pub colors-low : (cs : List (List ℕ)) → all (λ c. ltb c (length cs)) (colorsOf flags cs) ≡ true
   unfolding colorsOf

@@ -138,3 +138,93 @@ fn larger(a: usize, b: usize) -> usize
 {
     if a < b { b } else { a }
 }
+
+// Colors the next constraint: its color goes into the table and into the lists of its bodies.
+fn color_next(
+    dynamic_bodies: &[u8],
+    endpoints: &[u16],
+    body_offsets: &[u16],
+    body_constraints: &mut [u16],
+    scratch_offsets: &mut [u16],
+    constraint_colors: &mut [u16],
+    color_stamps: &mut [u16],
+    constraint: usize,
+    color_count: usize,
+) -> usize
+    requires { ⌜ constraint < length (now «constraint_colors») ⌝ }
+    requires { ⌜ Done (now «dynamic_bodies») (now endpoints) (now «body_offsets») (now «body_constraints») (now «scratch_offsets») (now «constraint_colors») (now «color_stamps») constraint «color_count» ⌝ }
+    ensures { λ r. ⌜ Done (now («dynamic_bodies» .entry)) (now (endpoints .entry)) (now («body_offsets» .entry)) (now («body_constraints» .exit)) (now («scratch_offsets» .exit)) (now («constraint_colors» .exit)) (now («color_stamps» .exit)) (constraint + 1) r ⌝ }
+{
+    let color = free_color(
+        endpoints,
+        body_offsets,
+        scratch_offsets,
+        body_constraints,
+        color_stamps,
+        constraint,
+    );
+    constraint_colors[constraint] = color as u16;
+    let a = endpoints[2 * constraint] as usize;
+    append(dynamic_bodies, body_constraints, scratch_offsets, a, color as u16);
+    let b = endpoints[2 * constraint + 1] as usize;
+    append(dynamic_bodies, body_constraints, scratch_offsets, b, color as u16);
+    larger(color_count, color + 1)
+}
+
+// Colors the constraints in list order.
+fn color_constraints(
+    dynamic_bodies: &[u8],
+    endpoints: &[u16],
+    body_offsets: &[u16],
+    body_constraints: &mut [u16],
+    scratch_offsets: &mut [u16],
+    constraint_colors: &mut [u16],
+    color_stamps: &mut [u16],
+) -> usize
+    requires { ⌜ Done (now «dynamic_bodies») (now endpoints) (now «body_offsets») (now «body_constraints») (now «scratch_offsets») (now «constraint_colors») (now «color_stamps») 0 0 ⌝ }
+    ensures { λ r. ⌜ Painted (now («dynamic_bodies» .entry)) (now (endpoints .entry)) (now («constraint_colors» .exit)) r ⌝ }
+{
+    let mut color_count = 0;
+    for constraint in 0..constraint_colors.len() {
+        color_count = color_next(
+            dynamic_bodies,
+            endpoints,
+            body_offsets,
+            body_constraints,
+            scratch_offsets,
+            constraint_colors,
+            color_stamps,
+            constraint,
+            color_count,
+        );
+    }
+    color_count
+}
+
+// The colors of all constraints, and how many groups they make.
+pub fn paint(
+    dynamic_bodies: &[u8],
+    endpoints: &[u16],
+    body_offsets: &mut [u16],
+    body_constraints: &mut [u16],
+    scratch_offsets: &mut [u16],
+    constraint_colors: &mut [u16],
+    color_stamps: &mut [u16],
+) -> usize
+    requires { ⌜ Ready (now «dynamic_bodies») (now endpoints) (now «body_offsets») (now «body_constraints») (now «scratch_offsets») (now «constraint_colors») (now «color_stamps») ⌝ }
+    ensures { λ r. ⌜ Painted (now («dynamic_bodies» .entry)) (now (endpoints .entry)) (now («constraint_colors» .exit)) r ⌝ }
+{
+    clear(body_offsets);
+    clear(color_stamps);
+    count_entries(dynamic_bodies, endpoints, body_offsets);
+    sum_offsets(body_offsets, scratch_offsets, dynamic_bodies.len());
+    color_constraints(
+        dynamic_bodies,
+        endpoints,
+        body_offsets,
+        body_constraints,
+        scratch_offsets,
+        constraint_colors,
+        color_stamps,
+    )
+}
