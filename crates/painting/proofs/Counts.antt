@@ -44,11 +44,11 @@ zeros-at (suc n) zero = refl
 zeros-at (suc n) (suc j) = zeros-at n j
 
 module _ (flags pairs : List ℕ) where
-  pub tallied-none : (offsets : List ℕ) → offsets ≡ replicate (length offsets) 0 → Tallied flags pairs offsets 0
-  tallied-none offsets e = record { first = zero 0; above = λ x h. omega (arith, zero (x + 1)) }
+  pub tallied-none : (n : ℕ) (offsets : List ℕ) → offsets ≡ replicate n 0 → Tallied flags pairs offsets 0
+  tallied-none n offsets e = record { first = zero 0; above = λ x h. omega (arith, zero (x + 1)) }
     where
       zero : (j : ℕ) → getD offsets j 0 ≡ 0
-      zero j = ap (λ (t : List ℕ). getD t j 0) e ∙ zeros-at (length offsets) j
+      zero j = ap (λ (t : List ℕ). getD t j 0) e ∙ zeros-at n j
 
   module _ (offsets : List ℕ) (k : ℕ) (v : Tallied flags pairs offsets k) where
     pub tallied-le : (x : ℕ) → x < length flags → getD offsets (x + 1) 0 ≤ length pairs

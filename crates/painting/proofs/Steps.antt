@@ -7,19 +7,33 @@ use mathlib.Core.List.{List, [], _∷_, _++_, append-nil}
 use native.Mathlib.Numerals.{add-one}
 use native.Mathlib.Omega.{arith}
 use lib.Dec.{ltb, eqb}
-use lib.ListN.{length, getD, set, take, drop, length-append, length-set, take-append-drop}
+use lib.ListN.{length, getD, set, take, drop, length-append, length-set, take-append-drop, replicate}
 use lib.Seq.{take-suc, take-all, drop-cons, length-take-le, take-suc-set}
 use borrow.Author.Tests.{eqb-true, eq-eqb, ne-eqb}
 use Rattle.lists.specs.Basics.{one, any, all, count, mem}
 use Rattle.lists.proofs.Laws.{and-left, and-right, by-cases}
 use Rattle.lists.proofs.Sums.{sum-append}
-use Rattle.groups.specs.Groups.{pairsOf, flagged, clash, free, usedBy, colorsOf, groupCount}
+use Rattle.groups.specs.Groups.{pairsOf, flagged, clash, free, usedBy, colorFrom, colorsOf, groupCount}
 use Rattle.groups.proofs.Colors.{colors-snoc, colors-length}
-use Rattle.painting.specs.Painting.{Painted, Fresh, Freed, part, listed, Listed, nextAfter, listsAfter, Room, on, degree, Lists, Done}
+use Rattle.painting.specs.Painting.{Ready, Painted, Counted, Summed, Fresh, Freed, part, listed, Listed, nextAfter, listsAfter, Room, on, degree, Lists, Done}
 use Rattle.painting.proofs.Pairs.{Pair, pairs-length, pair-at, pair-sound}
-use Rattle.painting.proofs.Counts.{starts-le, starts-room}
+use Rattle.painting.proofs.Counts.{zeros-at, counts-starts, starts-le, starts-room}
 use Rattle.painting.proofs.Used.{used-more, used-length, used-all, all-append, free-pair, colors-low, groups-more}
 use Rattle.painting.proofs.Lists.{lists-same, grown, append-if, grown-pair}
+
+-- none is done: the lists are empty, and no stamp is set
+pub none-done : {flags pairs offsets adjacency scratch colors stamps counts : List ℕ} (n : ℕ) → Ready flags pairs offsets adjacency scratch colors stamps → Counted flags pairs counts
+  → Summed (length flags) counts offsets scratch → stamps ≡ replicate n 0 → Done flags pairs offsets adjacency scratch colors stamps 0 0
+unfolding usedBy colorsOf colorFrom groupCount
+none-done {flags} {pairs} {colors = colors} {counts = counts} n r v s z =
+  record {
+    ready = r;
+    starts = λ x h. s .sums x h ∙ counts-starts flags (length flags) (length colors) pairs (r .constraints) (r .sound) counts v x h;
+    lists = record { ends = λ x h. omega (arith, s .sums x (omega arith), s .copies x h); hold = λ x h. refl };
+    colored = refl;
+    stamped = λ c. omega (arith, ap (λ (t : List ℕ). getD t c 0) z, zeros-at n c);
+    counted = refl
+  }
 
 -- the bodies of constraint i
 abbrev pub bodyA : List ℕ → ℕ → ℕ

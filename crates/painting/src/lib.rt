@@ -24,8 +24,8 @@ fn clear(table: &mut [u16])
 // Counts the entries of each dynamic body, one place above the body.
 fn count_entries(dynamic_bodies: &[u8], endpoints: &[u16], body_offsets: &mut [u16])
     requires { ⌜ all (λ b. ltb b (length (now «dynamic_bodies»))) (now endpoints) ≡ true ⌝ }
-    requires { ⌜ (length (now endpoints) ≤ 16384) × (length (now «body_offsets») ≡ length (now «dynamic_bodies») + 1) ⌝ }
-    requires { ⌜ now «body_offsets» ≡ replicate (length (now «body_offsets»)) 0 ⌝ }
+    requires { ⌜ length (now endpoints) ≤ 16384 ⌝ }
+    requires { ⌜ now «body_offsets» ≡ replicate (length (now «dynamic_bodies») + 1) 0 ⌝ }
     ensures { λ _. ⌜ Counted (now («dynamic_bodies» .entry)) (now (endpoints .entry)) (now («body_offsets» .exit)) ⌝ }
 {
     for entry in 0..endpoints.len() {

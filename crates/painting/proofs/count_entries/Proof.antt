@@ -6,7 +6,7 @@ use mathlib.Core.Path.{_≡_, refl, sym, ap, _∙_}
 use mathlib.Core.Bool.{true}
 use mathlib.Core.List.{List}
 use lib.Dec.{ltb}
-use lib.ListN.{length, getD, length-set}
+use lib.ListN.{length, getD, length-set, length-replicate}
 use borrow.Author.Tests.{ltb-true}
 use denote.Ref.{now}
 use Rattle.lists.specs.Basics.{all}
@@ -18,10 +18,13 @@ use Rattle.painting.proofs.count_entries.Tie as tie
 
 abbrev Inv-loop : tie.InvT-loop
 Inv-loop dynamic-bodies endpoints body-offsets₀ entry₀ entry-end body-offsets entry =
-    (entry ≤ length endpoints) × (length body-offsets ≡ length body-offsets₀) × Tallied dynamic-bodies endpoints body-offsets entry
+    (entry ≤ length endpoints) × (length body-offsets ≡ length dynamic-bodies + 1) × Tallied dynamic-bodies endpoints body-offsets entry
 
 abbrev μ-loop : tie.MeasureT-loop
 μ-loop dynamic-bodies endpoints body-offsets₀ entry₀ entry-end body-offsets entry = length endpoints - entry
+
+sized : (c : tie.Start Inv-loop μ-loop) → length (now (c .args .body-offsets)) ≡ length (now (c .args .dynamic-bodies)) + 1
+sized c = ap length (c .pre .1 .1) ∙ length-replicate (length (now (c .args .dynamic-bodies)) + 1) 0
 
 body-in : (c : tie.In-loop Inv-loop μ-loop) → getD (now (c .before .before .args .endpoints)) (c .before .loop .entry) 0 < length (now (c .before .before .args .dynamic-bodies))
 body-in c =
@@ -32,7 +35,7 @@ body-in c =
     ltb-true (getD es e 0) nb (all-in (λ b. ltb b nb) (getD es e 0) es (getD-mem es e (omega arith)) (s .pre .0))
 
 loop-holds : tie.Need-loop-holds Inv-loop μ-loop
-loop-holds c = (omega arith, refl, tallied-none (now (c .args .dynamic-bodies)) (now (c .args .endpoints)) (now (c .args .body-offsets)) (c .pre .1 .1))
+loop-holds c = (omega arith, sized c, tallied-none (now (c .args .dynamic-bodies)) (now (c .args .endpoints)) (length (now (c .args .dynamic-bodies)) + 1) (now (c .args .body-offsets)) (c .pre .1 .1))
 
 mul-body : tie.Need-mul-body Inv-loop μ-loop
 mul-body c = search needs
@@ -83,7 +86,7 @@ loop-again c =
     (omega arith, simp length-set (v .inv .1), tallied-more (now (s .args .dynamic-bodies)) (now (s .args .endpoints)) (v .body-offsets) (v .entry) (v .inv .2) (omega arith) (body-in l) (omega arith))
 
 same-length : tie.Need-same-length Inv-loop μ-loop
-same-length c = c .before .loop .inv .1
+same-length c = c .before .loop .inv .1 ∙ sym (sized (c .before .before))
 
 returns : tie.Need-returns Inv-loop μ-loop
 returns c = 
