@@ -15,7 +15,7 @@ use Rattle.lists.proofs.Laws.{and-left, and-right, by-cases}
 use Rattle.lists.proofs.Sums.{sum-append}
 use Rattle.groups.specs.Groups.{pairsOf, flagged, clash, free, usedBy, colorFrom, colorsOf, groupCount}
 use Rattle.groups.proofs.Colors.{colors-snoc, colors-length}
-use Rattle.painting.specs.Painting.{Ready, Painted, Counted, Summed, Fresh, Freed, part, listed, Listed, nextAfter, listsAfter, Room, on, degree, Lists, Done}
+use Rattle.painting.specs.Painting.{Ready, Painted, Counted, Summed, Fresh, Freed, part, bodyA, bodyB, listed, listedBoth, Listed, nextAfter, listsAfter, Room, on, degree, Lists, Done}
 use Rattle.painting.proofs.Pairs.{Pair, pairs-length, pair-at, pair-sound}
 use Rattle.painting.proofs.Counts.{zeros-at, counts-starts, starts-le, starts-room}
 use Rattle.painting.proofs.Used.{used-more, used-length, used-all, all-append, free-pair, colors-low, groups-more}
@@ -34,13 +34,6 @@ none-done {flags} {pairs} {colors = colors} {counts = counts} n r v s z =
     stamped = λ c. omega (arith, ap (λ (t : List ℕ). getD t c 0) z, zeros-at n c);
     counted = refl
   }
-
--- the bodies of constraint i
-abbrev pub bodyA : List ℕ → ℕ → ℕ
-bodyA pairs i = getD pairs (2 * i) 0
-
-abbrev pub bodyB : List ℕ → ℕ → ℕ
-bodyB pairs i = getD pairs (2 * i + 1) 0
 
 clash-a : (flags : List ℕ) (a b : ℕ) → flagged flags a ≡ true → clash flags (a ∷ []) (a ∷ b ∷ []) ≡ true
 unfolding clash
@@ -110,7 +103,7 @@ module _ {flags pairs offsets adjacency scratch colors stamps : List ℕ} {i k :
     let e : getD scratch x 0 - getD offsets x 0 ≡ length (on flags (take i (pairsOf pairs)) x) = omega (arith, d .lists .ends x h) in
     ap (λ (n : ℕ). part (getD offsets x 0) n adjacency) e ∙ d .lists .hold x h
 
-  neighbors-are : listed offsets scratch adjacency (bodyA pairs i) ++ listed offsets scratch adjacency (bodyB pairs i)
+  neighbors-are : listedBoth pairs offsets scratch adjacency i
     ≡ on flags (take i (pairsOf pairs)) (bodyA pairs i) ++ on flags (take i (pairsOf pairs)) (bodyB pairs i)
   neighbors-are = rw (listed-is (bodyA pairs i) (pair .a-in), listed-is (bodyB pairs i) (pair .b-in))
 
@@ -119,7 +112,7 @@ module _ {flags pairs offsets adjacency scratch colors stamps : List ℕ} {i k :
     used-all flags (λ c. ltb c i) (take i (pairsOf pairs)) (colorsOf flags (take i (pairsOf pairs))) (x ∷ [])
       (ap (λ (n : ℕ). all (λ c. ltb c n) (colorsOf flags (take i (pairsOf pairs)))) (sym done-length) ∙ colors-low flags (take i (pairsOf pairs)))
 
-  pub fresh : Fresh (listed offsets scratch adjacency (bodyA pairs i) ++ listed offsets scratch adjacency (bodyB pairs i)) stamps i
+  pub fresh : Fresh (listedBoth pairs offsets scratch adjacency i) stamps i
   fresh =
     record {
       earlier = ap (all (λ c. ltb c i)) neighbors-are ∙ all-append (λ c. ltb c i) (on flags (take i (pairsOf pairs)) (bodyA pairs i)) (on flags (take i (pairsOf pairs)) (bodyB pairs i)) (earlier (bodyA pairs i)) (earlier (bodyB pairs i));
@@ -138,7 +131,7 @@ module _ {flags pairs offsets adjacency scratch colors stamps : List ℕ} {i k :
     }
 
   -- ---- the color
-  module _ (stamps′ : List ℕ) (c : ℕ) (f : Freed (listed offsets scratch adjacency (bodyA pairs i) ++ listed offsets scratch adjacency (bodyB pairs i)) stamps′ i c) where
+  module _ (stamps′ : List ℕ) (c : ℕ) (f : Freed (listedBoth pairs offsets scratch adjacency i) stamps′ i c) where
     color-is : c ≡ free (usedBy flags (take i (pairsOf pairs)) (colorsOf flags (take i (pairsOf pairs))) (bodyA pairs i ∷ bodyB pairs i ∷ []))
     color-is = f .least ∙ ap free neighbors-are ∙ free-pair flags (take i (pairsOf pairs)) (colorsOf flags (take i (pairsOf pairs))) (bodyA pairs i) (bodyB pairs i)
 

@@ -18,6 +18,14 @@ pub all-append : (p : ℕ → Bool) (xs ys : List ℕ) → all p xs ≡ true →
 all-append p [] ys h e = e
 all-append p (x ∷ xs) ys h e = and-both (p x) (all p (xs ++ ys)) (and-left (p x) (all p xs) h) (all-append p xs ys (and-right (p x) (all p xs) h) e)
 
+-- d joins both lists, one of them or none
+either : (p q : Bool) (c d : ℕ) (both left right : List ℕ) → mem c both ≡ (mem c left || mem c right)
+  → mem c (cond (p || (q || false)) (d ∷ both) both) ≡ (mem c (cond (p || false) (d ∷ left) left) || mem c (cond (q || false) (d ∷ right) right))
+either true true c d both left right h = by-cases (eqb c d) (λ e. rw e) (λ e. rw e h)
+either true false c d both left right h = by-cases (eqb c d) (λ e. rw e) (λ e. rw e h)
+either false true c d both left right h = by-cases (eqb c d) (λ e. rw e (sym (or-true (mem c left)))) (λ e. rw e h)
+either false false c d both left right h = h
+
 module _ (flags : List ℕ) where
   pub used-more : (done : List (List ℕ)) (colors xs bs : List ℕ) (c : ℕ) → length done ≡ length colors
     → usedBy flags (done ++ xs ∷ []) (colors ++ c ∷ []) bs ≡ usedBy flags done colors bs ++ cond (clash flags bs xs) (c ∷ []) []
@@ -48,14 +56,7 @@ module _ (flags : List ℕ) where
   used-mem [] colors a b c = refl
   used-mem (y ∷ ys) [] a b c = refl
   used-mem (y ∷ ys) (d ∷ ds) a b c =
-    let h = used-mem ys ds a b c in
-    by-cases (flagged flags a && mem a y)
-      (λ p. by-cases (flagged flags b && mem b y)
-        (λ q. rw (p, q) (by-cases (eqb c d) (λ e. rw e) (λ e. rw e h)))
-        (λ q. rw (p, q) (by-cases (eqb c d) (λ e. rw e) (λ e. rw e h))))
-      (λ p. by-cases (flagged flags b && mem b y)
-        (λ q. rw (p, q) (by-cases (eqb c d) (λ e. rw e (sym (or-true (mem c (usedBy flags ys ds (a ∷ [])))))) (λ e. rw e h)))
-        (λ q. rw (p, q) h))
+    either (flagged flags a && mem a y) (flagged flags b && mem b y) c d (usedBy flags ys ds (a ∷ b ∷ [])) (usedBy flags ys ds (a ∷ [])) (usedBy flags ys ds (b ∷ [])) (used-mem ys ds a b c)
 
   -- the least color of a pair avoids what stands in the lists of its two bodies
   pub free-pair : (done : List (List ℕ)) (colors : List ℕ) (a b : ℕ)

@@ -51,29 +51,44 @@ pub record Summed (n : ℕ) (old offsets scratch : List ℕ) : Type 0 where
 abbrev pub part : ℕ → ℕ → List ℕ → List ℕ
 part start count t = take count (drop start t)
 
--- the place of a neighbor: those of body a come first, then those of b
+-- the neighbors of a constraint, by color: first those on its body a, then those on b; and the place of each
+abbrev pub neighbors : ℕ → ℕ → ℕ → ℕ → List ℕ → List ℕ
+neighbors a-start a-count b-start b-count t = part a-start a-count t ++ part b-start b-count t
+
 abbrev pub neighborAt : ℕ → ℕ → ℕ → ℕ → ℕ
 neighborAt a-start a-count b-start number = cond (ltb number a-count) (a-start + number) (b-start + (number - a-count))
 
 -- the neighbors are earlier than constraint i, and no stamp is its stamp i + 1
-pub record Fresh (neighbors stamps : List ℕ) (i : ℕ) : Type 0 where
-  pub earlier : all (λ c. ltb c i) neighbors ≡ true
+pub record Fresh (near stamps : List ℕ) (i : ℕ) : Type 0 where
+  pub earlier : all (λ c. ltb c i) near ≡ true
   pub stamped : (c : ℕ) → getD stamps c 0 ≤ i
   pub room : i < length stamps
   pub few : i < 8192
 
 -- the least color that no neighbor has; the stamps are ready for the next constraint
-pub record Freed (neighbors stamps : List ℕ) (i color : ℕ) : Type 0 where
-  pub least : color ≡ free neighbors
+pub record Freed (near stamps : List ℕ) (i color : ℕ) : Type 0 where
+  pub least : color ≡ free near
   pub low : color ≤ i
   pub stamped : (c : ℕ) → getD stamps c 0 ≤ i + 1
 
 -- ---- the lists of the bodies
 
+-- the bodies of constraint i
+abbrev pub bodyA : List ℕ → ℕ → ℕ
+bodyA pairs i = getD pairs (2 * i) 0
+
+abbrev pub bodyB : List ℕ → ℕ → ℕ
+bodyB pairs i = getD pairs (2 * i + 1) 0
+
 -- the list of body x: from its start up to where its next entry goes
 abbrev pub listed : List ℕ → List ℕ → List ℕ → ℕ → List ℕ
 listed offsets scratch adjacency x = part (getD offsets x 0) (getD scratch x 0 - getD offsets x 0) adjacency
 
+-- the lists of the bodies of constraint i
+abbrev pub listedBoth : List ℕ → List ℕ → List ℕ → List ℕ → ℕ → List ℕ
+listedBoth pairs offsets scratch adjacency i = listed offsets scratch adjacency (bodyA pairs i) ++ listed offsets scratch adjacency (bodyB pairs i)
+
+-- body x has such a list
 pub record Listed (offsets scratch adjacency : List ℕ) (x : ℕ) : Type 0 where
   pub started : x < length offsets
   pub ended : x < length scratch
@@ -87,6 +102,7 @@ nextAfter flags scratch x = cond (flagged flags x) (set scratch x (getD scratch 
 abbrev pub listsAfter : List ℕ → List ℕ → List ℕ → ℕ → ℕ → List ℕ
 listsAfter flags scratch adjacency x c = cond (flagged flags x) (set adjacency (getD scratch x 0) c) adjacency
 
+-- there is room for it
 pub record Room (flags adjacency scratch : List ℕ) (x : ℕ) : Type 0 where
   pub body : x < length flags
   pub ended : x < length scratch

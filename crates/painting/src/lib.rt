@@ -9,8 +9,8 @@ ghost use lib.Dec.{ltb};
 ghost use lib.ListN.{length, getD, replicate};
 ghost use Rattle.lists.specs.Basics.{all};
 ghost use Rattle.painting.specs.Painting.{Ready, Painted, Counted, upTo, Summed};
-ghost use Rattle.painting.specs.Painting.{part, neighborAt, Fresh, Freed, listed, Listed};
-ghost use Rattle.painting.specs.Painting.{nextAfter, listsAfter, Room, Done};
+ghost use Rattle.painting.specs.Painting.{neighbors, neighborAt, Fresh, Freed};
+ghost use Rattle.painting.specs.Painting.{bodyA, bodyB, listedBoth, Listed, nextAfter, listsAfter, Room, Done};
 
 // Every place becomes 0.
 fn clear(table: &mut [u16])
@@ -69,8 +69,8 @@ fn least_free(
     constraint: usize,
 ) -> usize
     requires { ⌜ («a_start» + «a_count» ≤ length (now «body_constraints»)) × («b_start» + «b_count» ≤ length (now «body_constraints»)) ⌝ }
-    requires { ⌜ Fresh (part «a_start» «a_count» (now «body_constraints») ++ part «b_start» «b_count» (now «body_constraints»)) (now «color_stamps») constraint ⌝ }
-    ensures { λ r. ⌜ Freed (part «a_start» «a_count» (now («body_constraints» .entry)) ++ part «b_start» «b_count» (now («body_constraints» .entry))) (now («color_stamps» .exit)) constraint r ⌝ }
+    requires { ⌜ Fresh (neighbors «a_start» «a_count» «b_start» «b_count» (now «body_constraints»)) (now «color_stamps») constraint ⌝ }
+    ensures { λ r. ⌜ Freed (neighbors «a_start» «a_count» «b_start» «b_count» (now («body_constraints» .entry))) (now («color_stamps» .exit)) constraint r ⌝ }
 {
     let stamp = (constraint + 1) as u16;
     let count = a_count + b_count;
@@ -105,10 +105,10 @@ fn free_color(
     constraint: usize,
 ) -> usize
     requires { ⌜ 2 * constraint + 1 < length (now endpoints) ⌝ }
-    requires { ⌜ Listed (now «body_offsets») (now «scratch_offsets») (now «body_constraints») (getD (now endpoints) (2 * constraint) 0) ⌝ }
-    requires { ⌜ Listed (now «body_offsets») (now «scratch_offsets») (now «body_constraints») (getD (now endpoints) (2 * constraint + 1) 0) ⌝ }
-    requires { ⌜ Fresh (listed (now «body_offsets») (now «scratch_offsets») (now «body_constraints») (getD (now endpoints) (2 * constraint) 0) ++ listed (now «body_offsets») (now «scratch_offsets») (now «body_constraints») (getD (now endpoints) (2 * constraint + 1) 0)) (now «color_stamps») constraint ⌝ }
-    ensures { λ r. ⌜ Freed (listed (now («body_offsets» .entry)) (now («scratch_offsets» .entry)) (now («body_constraints» .entry)) (getD (now (endpoints .entry)) (2 * constraint) 0) ++ listed (now («body_offsets» .entry)) (now («scratch_offsets» .entry)) (now («body_constraints» .entry)) (getD (now (endpoints .entry)) (2 * constraint + 1) 0)) (now («color_stamps» .exit)) constraint r ⌝ }
+    requires { ⌜ Listed (now «body_offsets») (now «scratch_offsets») (now «body_constraints») (bodyA (now endpoints) constraint) ⌝ }
+    requires { ⌜ Listed (now «body_offsets») (now «scratch_offsets») (now «body_constraints») (bodyB (now endpoints) constraint) ⌝ }
+    requires { ⌜ Fresh (listedBoth (now endpoints) (now «body_offsets») (now «scratch_offsets») (now «body_constraints») constraint) (now «color_stamps») constraint ⌝ }
+    ensures { λ r. ⌜ Freed (listedBoth (now (endpoints .entry)) (now («body_offsets» .entry)) (now («scratch_offsets» .entry)) (now («body_constraints» .entry)) constraint) (now («color_stamps» .exit)) constraint r ⌝ }
 {
     let a = endpoints[2 * constraint] as usize;
     let b = endpoints[2 * constraint + 1] as usize;

@@ -11,28 +11,28 @@ use lib.Dec.{eqb}
 use borrow.Author.Tests.{eq-eqb, ne-eqb}
 use denote.Ref.{now}
 use Rattle.lists.specs.Basics.{mem}
-use Rattle.painting.specs.Painting.{part}
-use Rattle.painting.proofs.Scan.{parts-length, neighbor-in, neighbor-is, Passed, passed-none, earlier-at, taken-low, passed-next, passed-more, passed-done, mem-last}
+use Rattle.painting.specs.Painting.{neighbors}
+use Rattle.painting.proofs.Scan.{parts-length, neighbor-in, neighbor-color, Passed, passed-none, earlier-at, taken-low, passed-next, passed-more, passed-done, mem-last}
 use Rattle.painting.proofs.least_free.Statement.{statement}
 use Rattle.painting.proofs.least_free.Tie as tie
 
 abbrev Inv-neighbors : tie.InvT-neighbors
 Inv-neighbors body-constraints color-stamps₀ a-start a-count b-start b-count constraint stamp count passed₀ color₀ color-stamps passed color =
-    (color ≡ color₀) × (length color-stamps ≡ length color-stamps₀) × Passed (part a-start a-count body-constraints ++ part b-start b-count body-constraints) color-stamps constraint passed color
-    × (mem color (take passed (part a-start a-count body-constraints ++ part b-start b-count body-constraints)) ≡ false)
+    (color ≡ color₀) × (length color-stamps ≡ length color-stamps₀) × Passed (neighbors a-start a-count b-start b-count body-constraints) color-stamps constraint passed color
+    × (mem color (take passed (neighbors a-start a-count b-start b-count body-constraints)) ≡ false)
 
 abbrev μ-neighbors : tie.MeasureT-neighbors
 μ-neighbors body-constraints color-stamps₀ a-start a-count b-start b-count constraint stamp count passed₀ color₀ color-stamps passed color = count - passed
 
 abbrev Inv-candidates : tie.InvT-candidates
 Inv-candidates body-constraints color-stamps₀ a-start a-count b-start b-count constraint stamp count passed₀ color₀ color-stamps passed color =
-    (length color-stamps ≡ length color-stamps₀) × Passed (part a-start a-count body-constraints ++ part b-start b-count body-constraints) color-stamps constraint passed color
+    (length color-stamps ≡ length color-stamps₀) × Passed (neighbors a-start a-count b-start b-count body-constraints) color-stamps constraint passed color
 
 abbrev μ-candidates : tie.MeasureT-candidates
 μ-candidates body-constraints color-stamps₀ a-start a-count b-start b-count constraint stamp count passed₀ color₀ color-stamps passed color = constraint - color
 
 abbrev near : tie.Start Inv-neighbors μ-neighbors Inv-candidates μ-candidates → List ℕ
-near s = part (s .args .a-start) (s .args .a-count) (now (s .args .body-constraints)) ++ part (s .args .b-start) (s .args .b-count) (now (s .args .body-constraints))
+near s = neighbors (s .args .a-start) (s .args .a-count) (s .args .b-start) (s .args .b-count) (now (s .args .body-constraints))
 
 -- a candidate that bears the stamp is a passed neighbor's
 abbrev at-candidates : tie.Then1 Inv-neighbors μ-neighbors Inv-candidates μ-candidates → tie.At-candidates Inv-neighbors μ-neighbors Inv-candidates μ-candidates
@@ -61,8 +61,7 @@ taken-is : (c : tie.After-neighbor Inv-neighbors μ-neighbors Inv-candidates μ-
 taken-is c =
     let l = at-neighbors c in
     let s = start-at l in
-    c .neighbor .ensures
-    ∙ neighbor-is (now (s .args .body-constraints)) (s .args .a-start) (s .args .a-count) (s .args .b-start) (s .args .b-count) (s .pre .0 .0) (s .pre .0 .1) (l .neighbors .passed) (omega arith)
+    neighbor-color (now (s .args .body-constraints)) (s .args .a-start) (s .args .a-count) (s .args .b-start) (s .args .b-count) (s .pre .0 .0) (s .pre .0 .1) (l .neighbors .passed) (c .neighbor .result) (omega arith) (c .neighbor .ensures)
 
 taken-in : (c : tie.After-neighbor Inv-neighbors μ-neighbors Inv-candidates μ-candidates) → c .neighbor .result < start-at (at-neighbors c) .args .constraint
 taken-in c =

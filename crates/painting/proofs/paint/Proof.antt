@@ -32,7 +32,7 @@ sum-offsets-requires c κs =
     let flags = now (s .args .dynamic-bodies) in
     let colors = now (s .args .constraint-colors) in
     let pairs = now (s .args .endpoints) in
-    ((v .kept .1 .1 .0 ∙ c .before .before .before .before .before .before .before .before .before .before .before .before .clear .kept .0 ∙ r .offsets-length, r .scratch-length),
+    ((v .kept .1 .1 .0 ∙ c .before .before .before .before .before .before .before .before .before .before .before .before .clear .kept .0 ∙ r .offsets-length, omega (arith, r .scratch-length)),
     omega (arith, counts-starts flags (length flags) (length colors) pairs (r .constraints) (r .sound) _ (v .ensures) (length flags) (omega arith),
     starts-le flags (length flags) (length colors) pairs (r .constraints) (r .sound) (length flags), r .constraints, r .few))
 
@@ -52,7 +52,7 @@ color-constraints-requires c κs =
       offsets-length = w .kept .0 ∙ v .kept .1 .1 .0 ∙ c .before .before .before .before .before .before .before .before .before .before .before .before .before .before .before .before .before .before .before .before .before .before .clear .kept .0 ∙ r .offsets-length;
       adjacency-length = r .adjacency-length;
       scratch-length = omega (arith, w .kept .1 .0, r .scratch-length);
-      stamps-length = z .kept .0 ∙ r .stamps-length
+      stamps-length = omega (arith, z .kept .0, r .stamps-length)
     })
     (v .ensures) (w .ensures) (z .ensures)
 
