@@ -1,10 +1,10 @@
 -- The endpoint pairs as the code reads them: constraint i has its bodies at places 2 × i and 2 × i + 1, two different ones that exist.
-use Prim.Native.Nat.{ℕ, zero, suc, _+_, _-_, _*_, _≤_, _<_}
-use mathlib.Core.Path.{_≡_, refl, sym, ap, _∙_}
-use mathlib.Core.Bool.{Bool, true, false, not, _&&_, _||_}
+use Prim.Native.Nat.{ℕ, zero, suc, _+_, _*_, _<_}
+use mathlib.Core.Path.{_≡_, refl, ap}
+use mathlib.Core.Bool.{true, false, not}
 use mathlib.Core.List.{List, [], _∷_}
 use native.Mathlib.Omega.{arith}
-use lib.Dec.{leb, ltb, eqb}
+use lib.Dec.{ltb, eqb}
 use lib.ListN.{length, getD}
 use borrow.Author.Tests.{ltb-true, lt-ltb, eq-eqb, not-true}
 use Rattle.lists.specs.Basics.{all, mem, distinct}
@@ -20,13 +20,13 @@ pub record Pair (nb a b : ℕ) : Type 0 where
 pub fits-pair : (nb a b : ℕ) → fits nb (a ∷ b ∷ []) ≡ true → Pair nb a b
 unfolding fits
 fits-pair nb a b h =
-  let d = and-left (distinct (a ∷ b ∷ [])) (all (λ x. ltb x nb) (a ∷ b ∷ [])) h in
-  let l = and-right (distinct (a ∷ b ∷ [])) (all (λ x. ltb x nb) (a ∷ b ∷ [])) h in
-  record {
-    a-in = ltb-true a nb (and-left (ltb a nb) (all (λ x. ltb x nb) (b ∷ [])) l);
-    b-in = ltb-true b nb (and-left (ltb b nb) true (and-right (ltb a nb) (all (λ x. ltb x nb) (b ∷ [])) l));
-    apart = λ e. clashes (mem a (b ∷ [])) (or-left (eqb a b) false (eq-eqb a b e)) (not-true (mem a (b ∷ [])) (and-left (not (mem a (b ∷ []))) (distinct (b ∷ [])) d))
-  }
+    let d = and-left (distinct (a ∷ b ∷ [])) (all (λ x. ltb x nb) (a ∷ b ∷ [])) h in
+    let l = and-right (distinct (a ∷ b ∷ [])) (all (λ x. ltb x nb) (a ∷ b ∷ [])) h in
+    record {
+      a-in = ltb-true a nb (and-left (ltb a nb) (all (λ x. ltb x nb) (b ∷ [])) l);
+      b-in = ltb-true b nb (and-left (ltb b nb) true (and-right (ltb a nb) (all (λ x. ltb x nb) (b ∷ [])) l));
+      apart = λ e. clashes (mem a (b ∷ [])) (or-left (eqb a b) false (eq-eqb a b e)) (not-true (mem a (b ∷ [])) (and-left (not (mem a (b ∷ []))) (distinct (b ∷ [])) d));
+    }
 
 pub pairs-length : (n : ℕ) (es : List ℕ) → length es ≡ 2 * n → length (pairsOf es) ≡ n
 pairs-length zero [] e = refl
@@ -41,9 +41,9 @@ pair-at i [] h = absurd (omega arith)
 pair-at i (a ∷ []) h = absurd (omega arith)
 pair-at zero (a ∷ b ∷ es) h = refl
 pair-at (suc i) (a ∷ b ∷ es) h =
-  let p : 2 * suc i ≡ suc (suc (2 * i)) = omega arith in
-  let q : 2 * suc i + 1 ≡ suc (suc (2 * i + 1)) = omega arith in
-  rw (q, p) (pair-at i es (omega arith))
+    let p : 2 * suc i ≡ suc (suc (2 * i)) = omega arith in
+    let q : 2 * suc i + 1 ≡ suc (suc (2 * i + 1)) = omega arith in
+    rw (q, p) (pair-at i es (omega arith))
 
 module _ (nb : ℕ) where
   pub pair-sound : (i : ℕ) (es : List ℕ) → all (fits nb) (pairsOf es) ≡ true → 2 * i + 1 < length es → Pair nb (getD es (2 * i) 0) (getD es (2 * i + 1) 0)
@@ -51,9 +51,9 @@ module _ (nb : ℕ) where
   pair-sound i (a ∷ []) s h = absurd (omega arith)
   pair-sound zero (a ∷ b ∷ es) s h = fits-pair nb a b (and-left (fits nb (a ∷ b ∷ [])) (all (fits nb) (pairsOf es)) s)
   pair-sound (suc i) (a ∷ b ∷ es) s h =
-    let p : 2 * suc i ≡ suc (suc (2 * i)) = omega arith in
-    let q : 2 * suc i + 1 ≡ suc (suc (2 * i + 1)) = omega arith in
-    rw (q, p) (pair-sound i es (and-right (fits nb (a ∷ b ∷ [])) (all (fits nb) (pairsOf es)) s) (omega arith))
+      let p : 2 * suc i ≡ suc (suc (2 * i)) = omega arith in
+      let q : 2 * suc i + 1 ≡ suc (suc (2 * i + 1)) = omega arith in
+      rw (q, p) (pair-sound i es (and-right (fits nb (a ∷ b ∷ [])) (all (fits nb) (pairsOf es)) s) (omega arith))
 
   -- every entry is a body
   pub entries-in : (n : ℕ) (es : List ℕ) → length es ≡ 2 * n → all (fits nb) (pairsOf es) ≡ true → all (λ b. ltb b nb) es ≡ true
@@ -61,6 +61,6 @@ module _ (nb : ℕ) where
   entries-in n (a ∷ []) e s = absurd (omega arith)
   entries-in zero (a ∷ b ∷ es) e s = absurd (omega arith)
   entries-in (suc n) (a ∷ b ∷ es) e s =
-    let v = fits-pair nb a b (and-left (fits nb (a ∷ b ∷ [])) (all (fits nb) (pairsOf es)) s) in
-    let r = entries-in n es (omega arith) (and-right (fits nb (a ∷ b ∷ [])) (all (fits nb) (pairsOf es)) s) in
-    and-both (ltb a nb) (all (λ x. ltb x nb) (b ∷ es)) (lt-ltb a nb (v .a-in)) (and-both (ltb b nb) (all (λ x. ltb x nb) es) (lt-ltb b nb (v .b-in)) r)
+      let v = fits-pair nb a b (and-left (fits nb (a ∷ b ∷ [])) (all (fits nb) (pairsOf es)) s) in
+      let r = entries-in n es (omega arith) (and-right (fits nb (a ∷ b ∷ [])) (all (fits nb) (pairsOf es)) s) in
+      and-both (ltb a nb) (all (λ x. ltb x nb) (b ∷ es)) (lt-ltb a nb (v .a-in)) (and-both (ltb b nb) (all (λ x. ltb x nb) es) (lt-ltb b nb (v .b-in)) r)

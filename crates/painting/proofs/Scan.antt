@@ -2,17 +2,16 @@
 -- below the present one is such a color. When all neighbors are passed, a candidate without the stamp is the least that no neighbor has.
 use Prim.Native.Nat.{ℕ, zero, suc, _+_, _-_, _≤_, _<_}
 use mathlib.Core.Path.{_≡_, refl, sym, ap, _∙_}
-use mathlib.Core.Bool.{Bool, true, false, _||_, or-false, or-true, cond}
+use mathlib.Core.Bool.{true, false, _||_, or-false}
 use mathlib.Core.List.{List, [], _∷_, _++_}
 use native.Mathlib.Numerals.{add-one}
 use native.Mathlib.Omega.{arith}
 use lib.Dec.{ltb, eqb}
 use lib.ListN.{length, getD, set, take, drop, length-append, length-drop, length-set, List·getD-append}
 use lib.Seq.{take-suc, take-all, length-take-le, getD-set-same, getD-set-other, getD-append-add, getD-take, getD-drop}
-use borrow.Author.Tests.{eqb-true, eqb-false, eq-eqb, ne-eqb, ltb-true, ltb-false, lt-ltb, le-ltb}
-use Rattle.lists.specs.Basics.{all, any, mem}
-use Rattle.lists.proofs.Laws.{and-left, and-right, or-left, or-right, or-cases, by-cases, clashes, all-in, mem-self, getD-mem}
-use Rattle.groups.specs.Groups.{free}
+use borrow.Author.Tests.{eqb-true, eqb-false, eq-eqb, ne-eqb, ltb-true, ltb-false}
+use Rattle.lists.specs.Basics.{all, mem}
+use Rattle.lists.proofs.Laws.{or-left, or-right, or-cases, by-cases, clashes, all-in, getD-mem}
 use Rattle.groups.proofs.Colors.{free-unique}
 use Rattle.painting.specs.Painting.{part, neighbors, neighborAt, Fresh, Freed}
 
@@ -32,15 +31,15 @@ module _ (t : List ℕ) (a-start a-count b-start b-count : ℕ) (a-in : a-start 
 
   neighbor-is : (n : ℕ) → n < a-count + b-count → getD t (neighborAt a-start a-count b-start n) 0 ≡ getD (neighbors a-start a-count b-start b-count t) n 0
   neighbor-is n h =
-    by-cases (ltb n a-count)
+      by-cases (ltb n a-count)
       (λ e. let l = ltb-true n a-count e in
-        rw e (sym (List·getD-append (part a-start a-count t) (part b-start b-count t) 0 n (omega (arith, a-length))
-        ∙ getD-take a-count (drop a-start t) n 0 l ∙ getD-drop a-start t n 0)))
+      rw e (sym (List·getD-append (part a-start a-count t) (part b-start b-count t) 0 n (omega (arith, a-length))
+      ∙ getD-take a-count (drop a-start t) n 0 l ∙ getD-drop a-start t n 0)))
       (λ e. let l = ltb-false n a-count e in
-        let k : n ≡ length (part a-start a-count t) + (n - a-count) = omega (arith, a-length) in
-        rw e (sym (ap (λ (j : ℕ). getD (neighbors a-start a-count b-start b-count t) j 0) k
-        ∙ getD-append-add (part a-start a-count t) (part b-start b-count t) (n - a-count) 0
-        ∙ getD-take b-count (drop b-start t) (n - a-count) 0 (omega arith) ∙ getD-drop b-start t (n - a-count) 0)))
+      let k : n ≡ length (part a-start a-count t) + (n - a-count) = omega (arith, a-length) in
+      rw e (sym (ap (λ (j : ℕ). getD (neighbors a-start a-count b-start b-count t) j 0) k
+      ∙ getD-append-add (part a-start a-count t) (part b-start b-count t) (n - a-count) 0
+      ∙ getD-take b-count (drop b-start t) (n - a-count) 0 (omega arith) ∙ getD-drop b-start t (n - a-count) 0)))
 
   pub neighbor-color : (n d : ℕ) → n < a-count + b-count → d ≡ getD t (neighborAt a-start a-count b-start n) 0 → d ≡ getD (neighbors a-start a-count b-start b-count t) n 0
   neighbor-color n d h e = e ∙ neighbor-is n h
@@ -72,13 +71,13 @@ pub record Passed (near stamps : List ℕ) (i passed color : ℕ) : Type 0 where
 module _ (near : List ℕ) (i : ℕ) where
   pub passed-none : (stamps : List ℕ) → Fresh near stamps i → Passed near stamps i 0 0
   passed-none stamps f =
-    record {
-      within = omega arith;
-      low = omega arith;
-      marked = λ c h. ne-eqb (getD stamps c 0) (i + 1) (λ e. omega (arith, f .stamped c));
-      below = λ c h. absurd (omega arith);
-      stamped = λ c. omega (arith, f .stamped c)
-    }
+      record {
+        within = omega arith;
+        low = omega arith;
+        marked = λ c h. ne-eqb (getD stamps c 0) (i + 1) (λ e. omega (arith, f .stamped c));
+        below = λ c h. absurd (omega arith);
+        stamped = λ c. omega (arith, f .stamped c);
+      }
 
   module _ (earlier : all (λ c. ltb c i) near ≡ true) where
     pub earlier-at : (n : ℕ) → n < length near → getD near n 0 < i
@@ -90,38 +89,38 @@ module _ (near : List ℕ) (i : ℕ) where
 
     pub passed-next : (stamps : List ℕ) (n color : ℕ) → Passed near stamps i n color → mem color (take n near) ≡ true → Passed near stamps i n (color + 1)
     passed-next stamps n color v h =
-      record {
-        within = v .within;
-        low = omega (arith, taken-low n color h);
-        marked = v .marked;
-        below = λ c l. by-cases (eqb c color) (λ e. ap (λ (k : ℕ). mem k (take n near)) (eqb-true c color e) ∙ h) (λ e. v .below c (omega (arith, eqb-false c color e)));
-        stamped = v .stamped
-      }
+        record {
+          within = v .within;
+          low = omega (arith, taken-low n color h);
+          marked = v .marked;
+          below = λ c l. by-cases (eqb c color) (λ e. ap (λ (k : ℕ). mem k (take n near)) (eqb-true c color e) ∙ h) (λ e. v .below c (omega (arith, eqb-false c color e)));
+          stamped = v .stamped;
+        }
 
     -- one more neighbor is passed
     pub passed-more : (stamps : List ℕ) (n color d : ℕ) → Passed near stamps i n color → n < length near → i < length stamps → d ≡ getD near n 0
-      → Passed near (set stamps d (i + 1)) i (n + 1) color
+        → Passed near (set stamps d (i + 1)) i (n + 1) color
     passed-more stamps n color d v h l is =
-      let d-in : d < length stamps = omega (arith, earlier-at n h) in
-      record {
-        within = omega arith;
-        low = v .low;
-        marked = λ c k. by-cases (eqb c d)
-          (λ e. eq-eqb (getD (set stamps d (i + 1)) c 0) (i + 1) (ap (λ (j : ℕ). getD (set stamps d (i + 1)) j 0) (eqb-true c d e) ∙ getD-set-same stamps d (i + 1) 0 d-in)
-            ∙ sym (mem-more c n d near h is ∙ or-right (mem c (take n near)) (eqb c d) e))
-          (λ e. ap (λ (j : ℕ). eqb j (i + 1)) (getD-set-other stamps d c (i + 1) 0 (eqb-false c d e)) ∙ v .marked c (omega (arith, length-set stamps d (i + 1)))
-            ∙ sym (mem-more c n d near h is ∙ rw (e, or-false)));
-        below = λ c k. mem-more c n d near h is ∙ or-left (mem c (take n near)) (eqb c d) (v .below c k);
-        stamped = λ c. by-cases (eqb c d)
-          (λ e. omega (arith, ap (λ (j : ℕ). getD (set stamps d (i + 1)) j 0) (eqb-true c d e), getD-set-same stamps d (i + 1) 0 d-in))
-          (λ e. omega (arith, getD-set-other stamps d c (i + 1) 0 (eqb-false c d e), v .stamped c))
-      }
+        let d-in : d < length stamps = omega (arith, earlier-at n h) in
+        record {
+          within = omega arith;
+          low = v .low;
+          marked = λ c k. by-cases (eqb c d)
+              (λ e. eq-eqb (getD (set stamps d (i + 1)) c 0) (i + 1) (ap (λ (j : ℕ). getD (set stamps d (i + 1)) j 0) (eqb-true c d e) ∙ getD-set-same stamps d (i + 1) 0 d-in)
+              ∙ sym (mem-more c n d near h is ∙ or-right (mem c (take n near)) (eqb c d) e))
+              (λ e. ap (λ (j : ℕ). eqb j (i + 1)) (getD-set-other stamps d c (i + 1) 0 (eqb-false c d e)) ∙ v .marked c (omega (arith, length-set stamps d (i + 1)))
+              ∙ sym (mem-more c n d near h is ∙ rw (e, or-false)));
+          below = λ c k. mem-more c n d near h is ∙ or-left (mem c (take n near)) (eqb c d) (v .below c k);
+          stamped = λ c. by-cases (eqb c d)
+              (λ e. omega (arith, ap (λ (j : ℕ). getD (set stamps d (i + 1)) j 0) (eqb-true c d e), getD-set-same stamps d (i + 1) 0 d-in))
+              (λ e. omega (arith, getD-set-other stamps d c (i + 1) 0 (eqb-false c d e), v .stamped c));
+        }
 
 pub passed-done : (near stamps : List ℕ) (i n color : ℕ) → Passed near stamps i n color → length near ≤ n → mem color (take n near) ≡ false → Freed near stamps i color
 passed-done near stamps i n color v l h =
-  let e = take-all n near l in
-  record {
-    least = sym (free-unique near color (rw e at h) (λ c k. rw e at (v .below c k)));
-    low = v .low;
-    stamped = v .stamped
-  }
+    let e = take-all n near l in
+    record {
+      least = sym (free-unique near color (rw e at h) (λ c k. rw e at (v .below c k)));
+      low = v .low;
+      stamped = v .stamped;
+    }

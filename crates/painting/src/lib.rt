@@ -2,9 +2,8 @@
 // earlier constraint on its dynamic bodies has. The caller has put the questions and cut the tables to size.
 
 ghost use mathlib.Core.Path.{_≡_};
-ghost use mathlib.Core.List.{_++_};
 ghost use mathlib.Core.Bool.{true};
-ghost use Prim.Native.Nat.{ℕ, _+_, _-_, _*_, _<_, _≤_, max};
+ghost use Prim.Native.Nat.{_+_, _-_, _*_, _<_, _≤_, max};
 ghost use lib.Dec.{ltb};
 ghost use lib.ListN.{length, getD, replicate};
 ghost use Rattle.lists.specs.Basics.{all};
@@ -47,7 +46,13 @@ fn sum_offsets(body_offsets: &mut [u16], scratch_offsets: &mut [u16], body_count
 }
 
 // The color of a neighbor, by its number.
-fn neighbor(body_constraints: &[u16], a_start: usize, a_count: usize, b_start: usize, number: usize) -> usize
+fn neighbor(
+    body_constraints: &[u16],
+    a_start: usize,
+    a_count: usize,
+    b_start: usize,
+    number: usize,
+) -> usize
     requires { ⌜ neighborAt «a_start» «a_count» «b_start» number < length (now «body_constraints») ⌝ }
     ensures { λ r. ⌜ r ≡ getD (now («body_constraints» .entry)) (neighborAt «a_start» «a_count» «b_start» number) 0 ⌝ }
 {
@@ -116,11 +121,25 @@ fn free_color(
     let a_count = scratch_offsets[a] as usize - a_start;
     let b_start = body_offsets[b] as usize;
     let b_count = scratch_offsets[b] as usize - b_start;
-    least_free(body_constraints, color_stamps, a_start, a_count, b_start, b_count, constraint)
+    least_free(
+        body_constraints,
+        color_stamps,
+        a_start,
+        a_count,
+        b_start,
+        b_count,
+        constraint,
+    )
 }
 
 // One more color in the list of a body, if it is dynamic.
-fn append(dynamic_bodies: &[u8], body_constraints: &mut [u16], scratch_offsets: &mut [u16], body: usize, color: u16)
+fn append(
+    dynamic_bodies: &[u8],
+    body_constraints: &mut [u16],
+    scratch_offsets: &mut [u16],
+    body: usize,
+    color: u16,
+)
     requires { ⌜ Room (now «dynamic_bodies») (now «body_constraints») (now «scratch_offsets») body ⌝ }
     ensures { λ _. ⌜ now («scratch_offsets» .exit) ≡ nextAfter (now («dynamic_bodies» .entry)) (now («scratch_offsets» .entry)) body ⌝ }
     ensures { λ _. ⌜ now («body_constraints» .exit) ≡ listsAfter (now («dynamic_bodies» .entry)) (now («scratch_offsets» .entry)) (now («body_constraints» .entry)) body color ⌝ }
@@ -165,9 +184,21 @@ fn color_next(
     );
     constraint_colors[constraint] = color as u16;
     let a = endpoints[2 * constraint] as usize;
-    append(dynamic_bodies, body_constraints, scratch_offsets, a, color as u16);
+    append(
+        dynamic_bodies,
+        body_constraints,
+        scratch_offsets,
+        a,
+        color as u16,
+    );
     let b = endpoints[2 * constraint + 1] as usize;
-    append(dynamic_bodies, body_constraints, scratch_offsets, b, color as u16);
+    append(
+        dynamic_bodies,
+        body_constraints,
+        scratch_offsets,
+        b,
+        color as u16,
+    );
     larger(color_count, color + 1)
 }
 

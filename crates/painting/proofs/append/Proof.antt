@@ -1,5 +1,4 @@
 -- Both stores are made exactly if the body is dynamic.
-use native.Mathlib.Omega.{arith}
 use borrow.Author.Tests.{eq-eqb, ne-eqb}
 use borrow.Author.Needs.{needs}
 use Rattle.painting.proofs.append.Statement.{statement}

@@ -1,10 +1,10 @@
 -- The places passed hold 0, and the others what they held.
 use borrow.Author.Needs.{needs}
 use native.Mathlib.Omega.{arith}
-use Prim.Native.Nat.{ℕ, _+_, _-_, _≤_, _<_}
-use mathlib.Core.Path.{_≡_, refl, sym, ap, _∙_}
-use mathlib.Core.List.{List, _++_, append-nil}
-use lib.ListN.{length, drop, replicate, length-set, drop-of-length-le}
+use Prim.Native.Nat.{_-_, _≤_, _<_}
+use mathlib.Core.Path.{_≡_, refl, _∙_}
+use mathlib.Core.List.{_++_, append-nil}
+use lib.ListN.{length, drop, replicate, length-set}
 use lib.Seq.{drop-length}
 use denote.Ref.{now}
 use borrow.Author.Fill.{fill-none, fill-more}

@@ -1,10 +1,9 @@
 -- When `constraint` constraints are done the tables hold what `Done` says; when all are, the whole table holds their colors.
 use borrow.Author.Needs.{needs}
 use native.Mathlib.Omega.{arith}
-use Prim.Native.Nat.{ℕ, _+_, _-_, _*_, _≤_, _<_}
-use mathlib.Core.Path.{_≡_, refl, sym, ap, _∙_}
+use Prim.Native.Nat.{_-_, _≤_}
+use mathlib.Core.Path.{_≡_, refl, _∙_}
 use lib.ListN.{length}
-use denote.Ref.{now}
 use Rattle.painting.specs.Painting.{Done}
 use Rattle.painting.proofs.Steps.{all-done}
 use Rattle.painting.proofs.color_constraints.Statement.{statement}
@@ -33,7 +32,7 @@ loop-less : tie.Need-loop-less Inv-loop μ-loop
 loop-less c = search needs
 
 loop-again : tie.Need-loop-again Inv-loop μ-loop
-loop-again c = 
+loop-again c =
     let l = c .before .before .before .before .before .before .before .before .before .before .before .before .before .before .loop in
     let v = c .before .before .before .before .before .before .before .before .color-next in
     (omega arith, v .kept .1 .1 .1 .0 ∙ l .inv .1, v .kept .1 .1 .1 .1 .0 ∙ l .inv .2, v .kept .1 .1 .1 .1 .1 .0 ∙ l .inv .3, v .kept .1 .1 .1 .1 .1 .1 .0 ∙ l .inv .4, v .ensures)

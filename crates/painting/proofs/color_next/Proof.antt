@@ -1,15 +1,13 @@
 -- The tables of the entry are those of `constraint` done constraints; each call changes one of them as the laws of proofs/Steps say.
 use native.Mathlib.Omega.{arith}
-use Prim.Native.Nat.{ℕ, _+_, _*_, _<_}
-use denote.Ref.{now}
-use Rattle.painting.specs.Painting.{Done, Freed}
+use Prim.Native.Nat.{_+_, _*_}
 use Rattle.painting.proofs.Steps.{pair-in, pair, listed-in, fresh, room-a, room-b, step}
 use borrow.Author.Needs.{needs}
 use Rattle.painting.proofs.color_next.Statement.{statement}
 use Rattle.painting.proofs.color_next.Tie as tie
 
 free-color-requires : tie.Need-free-color-requires
-free-color-requires c κs = 
+free-color-requires c κs =
     let s = c .before .before .before .before .before .before .before .before .before .before in
     let d = s .pre .1 in
     let h = s .pre .0 in
@@ -61,7 +59,7 @@ cast-append-2 : tie.Need-cast-append-2
 cast-append-2 c = search needs
 
 append-requires-2 : tie.Need-append-requires-2
-append-requires-2 c κs = 
+append-requires-2 c κs =
     let s = c .before .before .before .before .before .before .before .before .before .before .before .before .before .before .before .before .before .before .before .before .before .before .before .before in
     let v = c .before .before .before .before .before .before .before .before .before .before .before .before .before .free-color in
     let p = c .before .before .before .before .before .before .before .append in
@@ -86,7 +84,7 @@ same-length-4 : tie.Need-same-length-4
 same-length-4 c = search needs
 
 returns : tie.Need-returns
-returns c = 
+returns c =
     let s = c .before .before .before .before .before .before .before .before .before .before .before .before .before .before .before .before .before .before .before .before .before .before .before .before .before .before .before .before .before .before in
     let v = c .before .before .before .before .before .before .before .before .before .before .before .before .before .before .before .before .before .before .before .free-color in
     let p = c .before .before .before .before .before .before .before .before .before .before .before .before .before .append in

@@ -1,15 +1,12 @@
 -- The counts so far and the entries still to come add up to the whole (`Tallied`, proofs/Counts).
 use borrow.Author.Needs.{needs}
 use native.Mathlib.Omega.{arith}
-use Prim.Native.Nat.{ℕ, _+_, _-_, _≤_, _<_}
-use mathlib.Core.Path.{_≡_, refl, sym, ap, _∙_}
-use mathlib.Core.Bool.{true}
-use mathlib.Core.List.{List}
+use Prim.Native.Nat.{_+_, _-_, _≤_, _<_}
+use mathlib.Core.Path.{_≡_, sym, ap, _∙_}
 use lib.Dec.{ltb}
 use lib.ListN.{length, getD, length-set, length-replicate}
 use borrow.Author.Tests.{ltb-true}
 use denote.Ref.{now}
-use Rattle.lists.specs.Basics.{all}
 use Rattle.lists.proofs.Laws.{all-in, getD-mem}
 use Rattle.groups.specs.Groups.{flagged}
 use Rattle.painting.proofs.Counts.{Tallied, tallied-none, byte-le, tallied-le, tallied-more, tallied-done}
@@ -62,12 +59,15 @@ slice-read-body-offsets : tie.Need-slice-read-body-offsets Inv-loop μ-loop
 slice-read-body-offsets c = omega (arith, body-in (c .before .before .before))
 
 add-body-offsets-2 : tie.Need-add-body-offsets-2 Inv-loop μ-loop
-add-body-offsets-2 c = 
+add-body-offsets-2 c =
     let l = c .before .before .before in
     let s = l .before .before in
     let b = getD (now (s .args .endpoints)) (l .before .loop .entry) 0 in
-    omega (arith, tallied-le (now (s .args .dynamic-bodies)) (now (s .args .endpoints)) (l .before .loop .body-offsets) (l .before .loop .entry) (l .before .loop .inv .2) b (body-in l),
-    byte-le (flagged (now (s .args .dynamic-bodies)) b))
+    omega (
+      arith,
+      tallied-le (now (s .args .dynamic-bodies)) (now (s .args .endpoints)) (l .before .loop .body-offsets) (l .before .loop .entry) (l .before .loop .inv .2) b (body-in l),
+      byte-le (flagged (now (s .args .dynamic-bodies)) b),
+    )
 
 slice-write-body-offsets : tie.Need-slice-write-body-offsets Inv-loop μ-loop
 slice-write-body-offsets c = omega (arith, body-in (c .before .before .before))
@@ -79,7 +79,7 @@ loop-less : tie.Need-loop-less Inv-loop μ-loop
 loop-less c = search needs
 
 loop-again : tie.Need-loop-again Inv-loop μ-loop
-loop-again c = 
+loop-again c =
     let l = c .before .before .before in
     let v = l .before .loop in
     let s = l .before .before in
@@ -89,7 +89,7 @@ same-length : tie.Need-same-length Inv-loop μ-loop
 same-length c = c .before .loop .inv .1 ∙ sym (sized (c .before .before))
 
 returns : tie.Need-returns Inv-loop μ-loop
-returns c = 
+returns c =
     let s = c .before .before in
     let v = c .before .loop in
     tallied-done (now (s .args .dynamic-bodies)) (now (s .args .endpoints)) (v .body-offsets) (v .entry) (v .inv .2) (omega arith)

@@ -2,10 +2,10 @@
 -- that a neighbor has, and so one below the constraint's number.
 use borrow.Author.Needs.{needs}
 use native.Mathlib.Omega.{arith}
-use Prim.Native.Nat.{ℕ, _+_, _-_, _≤_, _<_}
-use mathlib.Core.Path.{_≡_, refl, sym, ap, _∙_}
-use mathlib.Core.Bool.{true, false, or-false}
-use mathlib.Core.List.{List, _++_}
+use Prim.Native.Nat.{ℕ, _+_, _-_, _<_}
+use mathlib.Core.Path.{_≡_, refl, sym, _∙_}
+use mathlib.Core.Bool.{true, false}
+use mathlib.Core.List.{List}
 use lib.ListN.{length, getD, set, take, length-set}
 use lib.Dec.{eqb}
 use borrow.Author.Tests.{eq-eqb, ne-eqb}
@@ -106,25 +106,25 @@ add-color : tie.Need-add-color Inv-neighbors μ-neighbors Inv-candidates μ-cand
 add-color c = search needs
 
 candidates-less : tie.Need-candidates-less Inv-neighbors μ-neighbors Inv-candidates μ-candidates
-candidates-less c = 
+candidates-less c =
     let l = at-candidates c in
     let s = start-of l in
     omega (arith, taken-low (near s) (s .args .constraint) (s .pre .1 .earlier) (l .candidates .passed) (l .candidates .color) (stamped-one c))
 
 candidates-again : tie.Need-candidates-again Inv-neighbors μ-neighbors Inv-candidates μ-candidates
-candidates-again c = 
+candidates-again c =
     let l = at-candidates c in
     let s = start-of l in
     (l .candidates .inv .0, passed-next (near s) (s .args .constraint) (s .pre .1 .earlier) (l .candidates .color-stamps) (l .candidates .passed) (l .candidates .color) (l .candidates .inv .1) (stamped-one c))
 
 neighbors-holds : tie.Need-neighbors-holds Inv-neighbors μ-neighbors Inv-candidates μ-candidates
-neighbors-holds c = 
+neighbors-holds c =
     let v = c .before .before .candidates in
     (refl, refl, v .inv .1, sym (v .inv .1 .marked (v .color) (omega arith)) ∙ ne-eqb _ _ (c .if1 .left))
 
 neighbor-requires :
     tie.Need-neighbor-requires Inv-neighbors μ-neighbors Inv-candidates μ-candidates
-neighbor-requires c κs = 
+neighbor-requires c κs =
     let l = c .before in
     let s = start-at l in
     neighbor-in (now (s .args .body-constraints)) (s .args .a-start) (s .args .a-count) (s .args .b-start) (s .args .b-count) (s .pre .0 .0) (s .pre .0 .1) (l .neighbors .passed) (omega arith)
@@ -144,14 +144,14 @@ add-color-2 c = search needs
 
 candidates-less-2 :
     tie.Need-candidates-less-2 Inv-neighbors μ-neighbors Inv-candidates μ-candidates
-candidates-less-2 c = 
+candidates-less-2 c =
     let l = at-neighbors (c .before) in
     let s = start-at l in
     omega (arith, taken-low (near s) (s .args .constraint) (s .pre .1 .earlier) (l .neighbors .passed + 1) (l .neighbors .color) (hit c))
 
 candidates-again-2 :
     tie.Need-candidates-again-2 Inv-neighbors μ-neighbors Inv-candidates μ-candidates
-candidates-again-2 c = 
+candidates-again-2 c =
     let l = at-neighbors (c .before) in
     let s = start-at l in
     (simp length-set (l .neighbors .inv .1 ∙ l .before .before .before .candidates .inv .0), passed-next (near s) (s .args .constraint) (s .pre .1 .earlier) _ (l .neighbors .passed + 1) (l .neighbors .color) (more (c .before)) (hit c))
@@ -160,7 +160,7 @@ neighbors-less : tie.Need-neighbors-less Inv-neighbors μ-neighbors Inv-candidat
 neighbors-less c = search needs
 
 neighbors-again : tie.Need-neighbors-again Inv-neighbors μ-neighbors Inv-candidates μ-candidates
-neighbors-again c = 
+neighbors-again c =
     let v = at-neighbors (c .before) .neighbors in
     (v .inv .0, simp length-set (v .inv .1), more (c .before), passed-one (c .before) ∙ ne-eqb _ _ (λ e. c .if2 .left (sym e)))
 
@@ -168,7 +168,7 @@ same-length : tie.Need-same-length Inv-neighbors μ-neighbors Inv-candidates μ-
 same-length c = c .before .neighbors .inv .1 ∙ c .before .before .before .before .candidates .inv .0
 
 returns : tie.Need-returns Inv-neighbors μ-neighbors Inv-candidates μ-candidates
-returns c = 
+returns c =
     let l = c .before in
     let s = start-at l in
     passed-done (near s) (l .neighbors .color-stamps) (s .args .constraint) (l .neighbors .passed) (l .neighbors .color) (l .neighbors .inv .2)

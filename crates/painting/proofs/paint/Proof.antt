@@ -1,7 +1,7 @@
 -- The cleared tables are counted in and summed up, so that no constraint is done yet and every list is empty; then all are done.
 use native.Mathlib.Omega.{arith}
-use Prim.Native.Nat.{ℕ, _+_, _*_, _≤_}
-use mathlib.Core.Path.{_≡_, sym, ap, _∙_}
+use Prim.Native.Nat.{ℕ}
+use mathlib.Core.Path.{ap, _∙_}
 use lib.ListN.{length, replicate}
 use denote.Ref.{now}
 use Rattle.painting.proofs.Pairs.{entries-in}
@@ -18,26 +18,33 @@ clear-requires-2 : tie.Need-clear-requires-2
 clear-requires-2 c κs = search needs
 
 count-entries-requires : tie.Need-count-entries-requires
-count-entries-requires c κs = 
+count-entries-requires c κs =
     let s = c .before .before .before .before .before .before .before .before .before .before .before .before .before .before .before .before in
-    let r = s .pre in
-    (entries-in (length (now (s .args .dynamic-bodies))) (length (now (s .args .constraint-colors))) (now (s .args .endpoints)) (r .constraints) (r .sound),
-    (omega (arith, r .constraints, r .few), c .before .before .before .before .before .before .before .clear .ensures ∙ ap (λ (n : ℕ). replicate n 0) (r .offsets-length)))
+    let r = s .pre in (
+      entries-in (length (now (s .args .dynamic-bodies))) (length (now (s .args .constraint-colors))) (now (s .args .endpoints)) (r .constraints) (r .sound),
+      (omega (arith, r .constraints, r .few), c .before .before .before .before .before .before .before .clear .ensures ∙ ap (λ (n : ℕ). replicate n 0) (r .offsets-length)),
+    )
 
 sum-offsets-requires : tie.Need-sum-offsets-requires
-sum-offsets-requires c κs = 
+sum-offsets-requires c κs =
     let s = c .before .before .before .before .before .before .before .before .before .before .before .before .before .before .before .before .before .before .before .before .before in
     let r = s .pre in
     let v = c .before .before .before .before .count-entries in
     let flags = now (s .args .dynamic-bodies) in
     let colors = now (s .args .constraint-colors) in
-    let pairs = now (s .args .endpoints) in
-    ((v .kept .1 .1 .0 ∙ c .before .before .before .before .before .before .before .before .before .before .before .before .clear .kept .0 ∙ r .offsets-length, omega (arith, r .scratch-length)),
-    omega (arith, counts-starts flags (length flags) (length colors) pairs (r .constraints) (r .sound) _ (v .ensures) (length flags) (omega arith),
-    starts-le flags (length flags) (length colors) pairs (r .constraints) (r .sound) (length flags), r .constraints, r .few))
+    let pairs = now (s .args .endpoints) in (
+      (v .kept .1 .1 .0 ∙ c .before .before .before .before .before .before .before .before .before .before .before .before .clear .kept .0 ∙ r .offsets-length, omega (arith, r .scratch-length)),
+      omega (
+        arith,
+        counts-starts flags (length flags) (length colors) pairs (r .constraints) (r .sound) _ (v .ensures) (length flags) (omega arith),
+        starts-le flags (length flags) (length colors) pairs (r .constraints) (r .sound) (length flags),
+        r .constraints,
+        r .few,
+      ),
+    )
 
 color-constraints-requires : tie.Need-color-constraints-requires
-color-constraints-requires c κs = 
+color-constraints-requires c κs =
     let s = c .before .before .before .before .before .before .before .before .before .before .before .before .before .before .before .before .before .before .before .before .before .before .before .before .before .before .before .before .before .before .before in
     let r = s .pre in
     let v = c .before .before .before .before .before .before .before .before .before .before .before .before .before .before .count-entries in
@@ -52,7 +59,7 @@ color-constraints-requires c κs =
       offsets-length = w .kept .0 ∙ v .kept .1 .1 .0 ∙ c .before .before .before .before .before .before .before .before .before .before .before .before .before .before .before .before .before .before .before .before .before .before .clear .kept .0 ∙ r .offsets-length;
       adjacency-length = r .adjacency-length;
       scratch-length = omega (arith, w .kept .1 .0, r .scratch-length);
-      stamps-length = omega (arith, z .kept .0, r .stamps-length)
+      stamps-length = omega (arith, z .kept .0, r .stamps-length);
     })
     (v .ensures) (w .ensures) (z .ensures)
 

@@ -1,9 +1,9 @@
 -- The places up to the one reached hold sums, copied below it; the later ones hold counts still (`Summing`, proofs/Counts).
 use borrow.Author.Needs.{needs}
 use native.Mathlib.Omega.{arith}
-use Prim.Native.Nat.{ℕ, _+_, _-_, _≤_, _<_}
-use mathlib.Core.Path.{_≡_, refl, sym, ap, _∙_}
-use lib.ListN.{length, getD, length-set}
+use Prim.Native.Nat.{_-_, _≤_}
+use mathlib.Core.Path.{_≡_, refl}
+use lib.ListN.{length, length-set}
 use denote.Ref.{now}
 use Rattle.painting.proofs.Counts.{Summing, summing-none, summing-le, summing-more}
 use Rattle.painting.proofs.sum_offsets.Statement.{statement}
@@ -47,7 +47,7 @@ slice-read-body-offsets-2 : tie.Need-slice-read-body-offsets-2 Inv-loop μ-loop
 slice-read-body-offsets-2 c = search needs
 
 add-body-offsets-2 : tie.Need-add-body-offsets-2 Inv-loop μ-loop
-add-body-offsets-2 c = 
+add-body-offsets-2 c =
     let l = c .before .before .before .before in
     let s = l .before in
     omega (arith, summing-le (l .loop .body) (now (s .args .body-offsets)) (l .loop .body-offsets) (l .loop .scratch-offsets) (l .loop .inv .3) (s .args .body-count) (omega arith))
@@ -62,11 +62,14 @@ loop-less : tie.Need-loop-less Inv-loop μ-loop
 loop-less c = search needs
 
 loop-again : tie.Need-loop-again Inv-loop μ-loop
-loop-again c = 
+loop-again c =
     let l = c .before .before .before .before in
-    let s = l .before in
-    (omega arith, simp length-set (l .loop .inv .1), simp length-set (l .loop .inv .2),
-    summing-more (l .loop .body) (now (s .args .body-offsets)) (l .loop .body-offsets) (l .loop .scratch-offsets) (l .loop .inv .3) (omega arith) (omega arith))
+    let s = l .before in (
+      omega arith,
+      simp length-set (l .loop .inv .1),
+      simp length-set (l .loop .inv .2),
+      summing-more (l .loop .body) (now (s .args .body-offsets)) (l .loop .body-offsets) (l .loop .scratch-offsets) (l .loop .inv .3) (omega arith) (omega arith),
+    )
 
 same-length : tie.Need-same-length Inv-loop μ-loop
 same-length c = c .before .loop .inv .1
@@ -75,7 +78,7 @@ same-length-2 : tie.Need-same-length-2 Inv-loop μ-loop
 same-length-2 c = c .before .loop .inv .2
 
 returns : tie.Need-returns Inv-loop μ-loop
-returns c = 
+returns c =
     let v = c .before .loop in
     record { sums = λ x h. v .inv .3 .sums x (omega arith); copies = λ x h. v .inv .3 .copies x (omega arith) }
 
