@@ -51,14 +51,14 @@ pub record Summed (n : ℕ) (old offsets scratch : List ℕ) : Type 0 where
 abbrev pub part : ℕ → ℕ → List ℕ → List ℕ
 part start count t = take count (drop start t)
 
--- the neighbors of a constraint, by color: first those on its body a, then those on b; and the place of each
+-- the colors of a constraint's neighbors: first those on its body a, then those on b; and the place of each
 abbrev pub neighbors : ℕ → ℕ → ℕ → ℕ → List ℕ → List ℕ
 neighbors a-start a-count b-start b-count t = part a-start a-count t ++ part b-start b-count t
 
 abbrev pub neighborAt : ℕ → ℕ → ℕ → ℕ → ℕ
 neighborAt a-start a-count b-start number = cond (ltb number a-count) (a-start + number) (b-start + (number - a-count))
 
--- the neighbors are earlier than constraint i, and no stamp is its stamp i + 1
+-- the neighbors of constraint i have colors below i, and no color bears its stamp i + 1 yet
 pub record Fresh (near stamps : List ℕ) (i : ℕ) : Type 0 where
   pub earlier : all (λ c. ltb c i) near ≡ true
   pub stamped : (c : ℕ) → getD stamps c 0 ≤ i
