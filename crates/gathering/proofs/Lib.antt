@@ -1,0 +1,4 @@
+pub mod Ranges
+pub mod Pairs
+pub mod Stamps
+pub mod Notes

@@ -1,0 +1,84 @@
+use borrow.Author.Needs.{needs}
+use native.Mathlib.Omega.{arith}
+use Rattle.gathering.proofs.collect.Statement.{statement}
+use Rattle.gathering.proofs.collect.Tie as tie
+use Rattle.gathering.proofs.collect.Reads as reads
+use Rattle.gathering.proofs.collect.Lts as lts
+
+abbrev Inv-loop : tie.InvT-loop
+Inv-loop body-stamps stamp part₀ body₀ at₀ part body at = ?
+
+abbrev μ-loop : tie.MeasureT-loop
+μ-loop body-stamps stamp part₀ body₀ at₀ part body at = ?
+
+-- src/lib.rt:84:5
+loop-holds : tie.Need-loop-holds Inv-loop μ-loop
+loop-holds c = search needs
+
+-- src/lib.rt:85:20
+cast-part : tie.Need-cast-part Inv-loop μ-loop
+cast-part c = search needs
+
+-- src/lib.rt:85:9
+mul-part : tie.Need-mul-part Inv-loop μ-loop
+mul-part c = search needs
+
+-- src/lib.rt:85:9
+slice-write-part : tie.Need-slice-write-part Inv-loop μ-loop
+slice-write-part c = search needs
+
+-- src/lib.rt:86:16
+mul-at : tie.Need-mul-at Inv-loop μ-loop
+mul-at c = search needs
+
+-- src/lib.rt:86:16
+shared-slice-read-at : tie.Need-shared-slice-read-at Inv-loop μ-loop
+shared-slice-read-at c = search needs
+
+-- src/lib.rt:86:15
+cast-at : tie.Need-cast-at Inv-loop μ-loop
+cast-at c = search needs
+
+-- src/lib.rt:86:9
+add-at : tie.Need-add-at Inv-loop μ-loop
+add-at c = search needs
+
+-- src/lib.rt:87:9
+add-body : tie.Need-add-body Inv-loop μ-loop
+add-body c = search needs
+
+-- src/lib.rt:84:5
+loop-less : tie.Need-loop-less Inv-loop μ-loop
+loop-less c = search needs
+
+-- src/lib.rt:84:5
+loop-again : tie.Need-loop-again Inv-loop μ-loop
+loop-again c = search needs
+
+-- src/lib.rt:78:1
+same-length : tie.Need-same-length Inv-loop μ-loop
+same-length c = search needs
+
+-- src/lib.rt:78:1
+returns : tie.Need-returns Inv-loop μ-loop
+returns c = search needs
+
+pub collect-spec : {M : Type 1} → statement M
+collect-spec =
+    tie.close
+    (tie.spec
+    Inv-loop
+    μ-loop
+    loop-holds
+    cast-part
+    mul-part
+    slice-write-part
+    mul-at
+    shared-slice-read-at
+    cast-at
+    add-at
+    add-body
+    loop-less
+    loop-again
+    same-length
+    returns)
