@@ -2,3 +2,5 @@ pub mod Ranges
 pub mod Pairs
 pub mod Stamps
 pub mod Notes
+pub mod Collects
+pub mod Arranges

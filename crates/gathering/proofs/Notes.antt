@@ -7,7 +7,7 @@ use native.Mathlib.Omega.{arith}
 use native.Mathlib.Numerals.{add-one}
 use lib.Dec.{eqb, ltb}
 use lib.ListN.{length, getD, set, take, drop, length-append}
-use lib.Seq.{sets, length-sets, set-getD, take-suc}
+use lib.Seq.{sets, length-sets, set-getD, take-suc, length-take-le}
 use borrow.Author.Tests.{eq-eqb, ne-eqb, ltb-true, lt-ltb}
 use Rattle.lists.specs.Basics.{all}
 use Rattle.lists.proofs.Laws.{and-left, and-both}
@@ -65,3 +65,27 @@ module _ (ends st bodies : List ℕ) (r end : ℕ) (v : Notable ends (r ∷ []) 
 
   pub pair-below : (i : ℕ) → i ≤ 2 * r + 1 → getD ends i 0 < length st
   pair-below i h = ltb-true (getD ends i 0) (length st) (entry-all (λ b. ltb b (length st)) ends i (v .below) (omega (arith, pair-inside)))
+
+-- ---- one constraint of a list after another
+pub ends-more : (ends ms : List ℕ) (i : ℕ) → i < length ms → endsOf ends (take (i + 1) ms) ≡ endsOf ends (take i ms) ++ getD (pairsOf ends) (getD ms i 0) []
+unfolding endsOf
+ends-more ends ms i h = rw (add-one i, take-suc ms i 0 h, joinMap-append (λ r. getD (pairsOf ends) r []) (take i ms) (getD ms i 0 ∷ []), append-nil)
+
+pub noted-start : (ends ms : List ℕ) (stamp start : ℕ) (st bodies : List ℕ) → Noted stamp (endsOf ends (take 0 ms)) start st bodies st bodies start
+unfolding endsOf
+noted-start ends ms stamp start st bodies = noted-none stamp start st bodies
+
+module _ (ends ms st bodies : List ℕ) (start : ℕ) (v : Notable ends ms st bodies start) (stamp i : ℕ) (st′ bodies′ : List ℕ) (end : ℕ) (n : Noted stamp (endsOf ends (take i ms)) start st bodies st′ bodies′ end) (h : i < length ms) where
+  pub notable-next : Notable ends (getD ms i 0 ∷ []) st′ bodies′ end
+  notable-next =
+      let a = noted-stamps stamp start st bodies _ st′ bodies′ end n in
+      let b = noted-bodies stamp start st bodies _ st′ bodies′ end n in
+      let e = noted-end stamp start st bodies _ st′ bodies′ end n in
+      record {
+        inside = and-both (ltb (2 * getD ms i 0 + 1) (length ends)) true (entry-all (λ r. ltb (2 * r + 1) (length ends)) ms i (v .inside) h) refl;
+        below = rw a (v .below);
+        room = omega (arith, v .room, ends-short ends (take i ms), length-take-le i ms (omega arith))
+      }
+
+  pub noted-next : (st″ bodies″ : List ℕ) (end″ : ℕ) → Noted stamp (getD (pairsOf ends) (getD ms i 0) []) end st′ bodies′ st″ bodies″ end″ → Noted stamp (endsOf ends (take (i + 1) ms)) start st bodies st″ bodies″ end″
+  noted-next st″ bodies″ end″ w = rw (ends-more ends ms i h) (noted-then stamp start st bodies _ st′ bodies′ end n _ st″ bodies″ end″ w)

@@ -1,23 +1,31 @@
 use borrow.Author.Needs.{needs}
 use native.Mathlib.Omega.{arith}
+use Prim.Native.Nat.{_-_}
+use lib.ListN.{length, length-set}
+use denote.Ref.{now}
+use Rattle.gathering.proofs.Collects.{Collecting, collecting-none, collecting-inside, collecting-more, collecting-done}
 use Rattle.gathering.proofs.collect.Statement.{statement}
 use Rattle.gathering.proofs.collect.Tie as tie
 use Rattle.gathering.proofs.collect.Reads as reads
 use Rattle.gathering.proofs.collect.Lts as lts
 
 abbrev Inv-loop : tie.InvT-loop
-Inv-loop body-stamps stamp part₀ body₀ at₀ part body at = ?
+Inv-loop body-stamps stamp part₀ body₀ at₀ part body at = Collecting stamp body-stamps part₀ part body at
 
 abbrev μ-loop : tie.MeasureT-loop
-μ-loop body-stamps stamp part₀ body₀ at₀ part body at = ?
+μ-loop body-stamps stamp part₀ body₀ at₀ part body at = length body-stamps - body
 
 -- src/lib.rt:84:5
 loop-holds : tie.Need-loop-holds Inv-loop μ-loop
-loop-holds c = search needs
+loop-holds c = collecting-none _ _ _
 
 -- src/lib.rt:85:20
 cast-part : tie.Need-cast-part Inv-loop μ-loop
-cast-part c = search needs
+cast-part c =
+    let l = c .before in
+    let s = l .before in
+    let k = collecting-inside (s .args .stamp) (now (s .args .body-stamps)) (now (s .args .part)) (l .loop .part) (l .loop .body) (l .loop .at) (l .loop .inv) (s .pre .1) (omega arith) in
+    omega arith
 
 -- src/lib.rt:85:9
 mul-part : tie.Need-mul-part Inv-loop μ-loop
@@ -29,11 +37,19 @@ slice-write-part c = search needs
 
 -- src/lib.rt:86:16
 mul-at : tie.Need-mul-at Inv-loop μ-loop
-mul-at c = search needs
+mul-at c =
+    let l = c .before in
+    let s = l .before in
+    let k = collecting-inside (s .args .stamp) (now (s .args .body-stamps)) (now (s .args .part)) (l .loop .part) (l .loop .body) (l .loop .at) (l .loop .inv) (s .pre .1) (omega arith) in
+    omega arith
 
 -- src/lib.rt:86:16
 shared-slice-read-at : tie.Need-shared-slice-read-at Inv-loop μ-loop
-shared-slice-read-at c = search needs
+shared-slice-read-at c =
+    let l = c .before .before in
+    let s = l .before in
+    let k = collecting-inside (s .args .stamp) (now (s .args .body-stamps)) (now (s .args .part)) (l .loop .part) (l .loop .body) (l .loop .at) (l .loop .inv) (s .pre .1) (omega arith) in
+    omega arith
 
 -- src/lib.rt:86:15
 cast-at : tie.Need-cast-at Inv-loop μ-loop
@@ -41,27 +57,45 @@ cast-at c = search needs
 
 -- src/lib.rt:86:9
 add-at : tie.Need-add-at Inv-loop μ-loop
-add-at c = search needs
+add-at c =
+    let l = c .before .before in
+    let s = l .before in
+    let m = collecting-more (s .args .stamp) (now (s .args .body-stamps)) (now (s .args .part)) (l .loop .part) (l .loop .body) (l .loop .at) (l .loop .inv) (s .pre .1) (omega arith) in
+    omega (arith, m .low, length-set (l .loop .part) (l .loop .at) (l .loop .body))
 
 -- src/lib.rt:87:9
 add-body : tie.Need-add-body Inv-loop μ-loop
-add-body c = search needs
+add-body c =
+    let l = c .before .before in
+    let s = l .before in
+    let k = collecting-inside (s .args .stamp) (now (s .args .body-stamps)) (now (s .args .part)) (l .loop .part) (l .loop .body) (l .loop .at) (l .loop .inv) (s .pre .1) (omega arith) in
+    omega arith
 
 -- src/lib.rt:84:5
 loop-less : tie.Need-loop-less Inv-loop μ-loop
-loop-less c = search needs
+loop-less c =
+    let l = c .before .before in
+    let s = l .before in
+    let k = collecting-inside (s .args .stamp) (now (s .args .body-stamps)) (now (s .args .part)) (l .loop .part) (l .loop .body) (l .loop .at) (l .loop .inv) (s .pre .1) (omega arith) in
+    omega arith
 
 -- src/lib.rt:84:5
 loop-again : tie.Need-loop-again Inv-loop μ-loop
-loop-again c = search needs
+loop-again c =
+    let l = c .before .before in
+    let s = l .before in
+    collecting-more (s .args .stamp) (now (s .args .body-stamps)) (now (s .args .part)) (l .loop .part) (l .loop .body) (l .loop .at) (l .loop .inv) (s .pre .1) (omega arith)
 
 -- src/lib.rt:78:1
 same-length : tie.Need-same-length Inv-loop μ-loop
-same-length c = search needs
+same-length c = c .before .loop .inv .size
 
 -- src/lib.rt:78:1
 returns : tie.Need-returns Inv-loop μ-loop
-returns c = search needs
+returns c =
+    let l = c .before in
+    let s = l .before in
+    collecting-done (s .args .stamp) (now (s .args .body-stamps)) (now (s .args .part)) (l .loop .part) (l .loop .body) (l .loop .at) (l .loop .inv) (s .pre .1) (c .loop-test .left)
 
 pub collect-spec : {M : Type 1} → statement M
 collect-spec =
