@@ -4,3 +4,4 @@ pub mod Stamps
 pub mod Notes
 pub mod Collects
 pub mod Arranges
+pub mod Groups

@@ -7,10 +7,12 @@ use native.Mathlib.Omega.{arith}
 use lib.Dec.{eqb, ltb}
 use lib.ListN.{length, getD, length-append}
 use borrow.Author.Tests.{ltb-true}
-use Rattle.lists.specs.Basics.{any, all, mem, joinMap}
-use Rattle.lists.proofs.Laws.{and-left, and-right, and-both, all-in, getD-mem}
+use Rattle.lists.specs.Basics.{one, filter, any, all, sumOf, count, range, mem}
+use Rattle.lists.proofs.Sums.{sum-le, sum-swap, length-filter}
+use Rattle.lists.proofs.Laws.{and-left, and-right, and-both, all-in, getD-mem, one-any, at-most-one, sum-one}
 use Rattle.groups.specs.Groups.{pairsOf}
-use Rattle.gathering.specs.Gathers.{endsOf}
+use Rattle.gathering.specs.Gathers.{endsOf, bodiesOf}
+use Rattle.gathering.proofs.Ranges.{filter-ext-in}
 
 pub pairs-at : (e : List ℕ) (r : ℕ) → 2 * r + 1 < length e → getD (pairsOf e) r [] ≡ getD e (2 * r) 0 ∷ getD e (2 * r + 1) 0 ∷ []
 pairs-at [] r h = absurd (omega arith)
@@ -63,7 +65,22 @@ any-append p (x ∷ xs) ys = rw (any-append p xs ys) (regroup (p x) (any p xs) (
   regroup true b c = refl
   regroup false b c = refl
 
-pub mem-ends : (e ms : List ℕ) (b : ℕ) → mem b (endsOf e ms) ≡ any (λ r. mem b (getD (pairsOf e) r [])) ms
+mem-ends : (e ms : List ℕ) (b : ℕ) → mem b (endsOf e ms) ≡ any (λ r. mem b (getD (pairsOf e) r [])) ms
 unfolding endsOf
 mem-ends e [] b = refl
 mem-ends e (r ∷ ms) b = any-append (eqb b) (getD (pairsOf e) r []) (endsOf e ms) ∙ ap (λ (t : Bool). mem b (getD (pairsOf e) r []) || t) (mem-ends e ms b)
+
+pub bodies-mem : (nb : ℕ) (ends ms : List ℕ) → bodiesOf nb ends ms ≡ filter (λ b. mem b (endsOf ends ms)) (range nb)
+unfolding bodiesOf
+bodies-mem nb ends ms = filter-ext-in _ (λ b. mem b (endsOf ends ms)) (range nb) (λ b m. sym (mem-ends ends ms b))
+
+-- ---- no more bodies than endpoints
+held : (n : ℕ) (bs : List ℕ) → length (filter (λ b. mem b bs) (range n)) ≤ length bs
+held n bs =
+    omega (arith, length-filter (λ b. mem b bs) (range n),
+    sum-le (λ b. one (mem b bs)) (λ b. count (eqb b) bs) (range n) (λ b. one-any (eqb b) bs),
+    sum-swap (λ b x. one (eqb b x)) (range n) bs,
+    sum-le (λ x. sumOf (λ b. one (eqb b x)) (range n)) (λ x. 1) bs (λ x. at-most-one x 0 n), sum-one bs)
+
+pub bodies-few : (nb : ℕ) (ends ms : List ℕ) → length (bodiesOf nb ends ms) ≤ 2 * length ms
+bodies-few nb ends ms = rw (bodies-mem nb ends ms) (omega (arith, held nb (endsOf ends ms), ends-short ends ms))

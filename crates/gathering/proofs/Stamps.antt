@@ -14,7 +14,7 @@ use Rattle.lists.specs.Basics.{filter, all, rangeFrom, range, mem, distinct, in
 use Rattle.lists.proofs.Laws.{by-cases, and-left, and-right, and-both, all-in, all-intro, filter-mem, filter-none, range-low, range-high}
 use Rattle.gathering.specs.Gathers.{unstamped, stampAll, stamped, endsOf, bodiesOf}
 use Rattle.gathering.proofs.Ranges.{filter-ext-in}
-use Rattle.gathering.proofs.Pairs.{mem-ends, ends-all}
+use Rattle.gathering.proofs.Pairs.{bodies-mem, ends-all}
 
 -- ---- a list of different numbers below n, sorted, is those of the range that it holds
 insert-first : (x : ℕ) (l : List ℕ) → all (ltb x) l ≡ true → insert x l ≡ x ∷ l
@@ -148,10 +148,6 @@ module _ (s : ℕ) where
     unmarked : (x : ℕ) → eqb (getD st x 0) s ≡ false
     unmarked x = ne-eqb (getD st x 0) s (λ e. omega (arith, fresh x))
 
-    bodies-mem : bodiesOf (length st) ends ms ≡ filter (λ b. mem b (endsOf ends ms)) (range (length st))
-    unfolding bodiesOf
-    bodies-mem = filter-ext-in _ (λ b. mem b (endsOf ends ms)) (range (length st)) (λ b m. sym (mem-ends ends ms b))
-
     pub stamped-bodies : stamped s (stampAll s st (endsOf ends ms)) ≡ bodiesOf (length st) ends ms
     unfolding stamped
     stamped-bodies =
@@ -159,7 +155,7 @@ module _ (s : ℕ) where
         rw (length-stampAll st bs)
         (filter-ext-in (λ b. eqb (getD (stampAll s st bs) b 0) s) (λ b. mem b bs) (range (length st))
           (λ b m. marked st bs b (omega (arith, range-high b 0 (length st) m)) ∙ rw (unmarked b) (or-false (mem b bs))))
-        ∙ sym bodies-mem
+        ∙ sym (bodies-mem (length st) ends ms)
 
     pub sorted-bodies : all (λ b. ltb b (length st)) ends ≡ true → all (λ r. ltb (2 * r + 1) (length ends)) ms ≡ true → sorted (unstamped s st (endsOf ends ms)) ≡ bodiesOf (length st) ends ms
     sorted-bodies h k =
@@ -168,4 +164,4 @@ module _ (s : ℕ) where
         sorted-filter (unstamped s st bs) (length st) (distinct-unstamped (length st) st bs refl l) (below-unstamped (length st) st bs l)
         ∙ filter-ext-in (λ b. mem b (unstamped s st bs)) (λ b. mem b bs) (range (length st))
           (λ b m. appended st bs b (omega (arith, range-high b 0 (length st) m)) ∙ rw (unmarked b))
-        ∙ sym bodies-mem
+        ∙ sym (bodies-mem (length st) ends ms)
