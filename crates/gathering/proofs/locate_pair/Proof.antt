@@ -1,5 +1,7 @@
 use native.Mathlib.Omega.{arith}
 use borrow.Author.Needs.{needs}
+use denote.Ref.{now}
+use Rattle.gathering.proofs.Locates.{a-there, b-there, a-small, b-small, pair-placed}
 use Rattle.gathering.proofs.locate_pair.Statement.{statement}
 use Rattle.gathering.proofs.locate_pair.Tie as tie
 use Rattle.gathering.proofs.locate_pair.Reads as reads
@@ -20,11 +22,15 @@ shared-slice-read-position c = search needs
 
 -- src/lib.rt:156:49
 position-requires : tie.Need-position-requires
-position-requires c κs = search needs
+position-requires c κs =
+    let s = c .before .before .before .before in
+    (s .pre .rising, a-there (now (s .args .endpoints)) (s .args .constraint) (now (s .args .bodies)) (now (s .args .constraint-body-positions)) (s .pre))
 
 -- src/lib.rt:156:49
 cast-constraint-body-positions : tie.Need-cast-constraint-body-positions
-cast-constraint-body-positions c = search needs
+cast-constraint-body-positions c =
+    let s = c .before .before .before .before .before in
+    omega (arith, c .position .ensures, a-small (now (s .args .endpoints)) (s .args .constraint) (now (s .args .bodies)) (now (s .args .constraint-body-positions)) (s .pre))
 
 -- src/lib.rt:156:31
 mul-constraint-body-positions : tie.Need-mul-constraint-body-positions
@@ -56,11 +62,15 @@ shared-slice-read-position-2 c = search needs
 
 -- src/lib.rt:157:53
 position-requires-2 : tie.Need-position-requires-2
-position-requires-2 c κs = search needs
+position-requires-2 c κs =
+    let s = c .before .before .before .before .before .before in
+    (s .pre .rising, b-there (now (s .args .endpoints)) (s .args .constraint) (now (s .args .bodies)) (now (s .args .constraint-body-positions)) (s .pre))
 
 -- src/lib.rt:157:53
 cast-constraint-body-positions-2 : tie.Need-cast-constraint-body-positions-2
-cast-constraint-body-positions-2 c = search needs
+cast-constraint-body-positions-2 c =
+    let s = c .before .before .before .before .before .before .before in
+    omega (arith, c .position2 .ensures, b-small (now (s .args .endpoints)) (s .args .constraint) (now (s .args .bodies)) (now (s .args .constraint-body-positions)) (s .pre))
 
 -- src/lib.rt:157:31
 mul-constraint-body-positions-3 : tie.Need-mul-constraint-body-positions-3
@@ -84,7 +94,9 @@ same-length c = search needs
 
 -- src/lib.rt:152:1
 returns : tie.Need-returns
-returns c = search needs
+returns c =
+    let s = c .before .before .before .before .before .before .before in
+    pair-placed (now (s .args .endpoints)) (s .args .constraint) (now (s .args .bodies)) (now (s .args .constraint-body-positions)) (s .pre) _ _ (c .before .before .position .ensures) (c .position2 .ensures)
 
 pub locate-pair-spec : {M : Type 1} → statement M
 locate-pair-spec =
