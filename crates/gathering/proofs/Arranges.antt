@@ -62,5 +62,5 @@ module _ (ends ms : List ℕ) (stamp : ℕ) (st scratch bodies : List ℕ) (star
       record {
         counted = rw s (omega (arith, n .counted, length-sorted new, ap length sorted-new));
         listed = rw (a, b, e, stamped-new) (sym (append-assoc (take start bodies) (bodiesOf (length st₁) ends ms) (drop end bodies)));
-        low = rw (n .stamps) (low-stampAll stamp st (endsOf ends ms) (λ x. omega (arith, f .fresh x)))
+        low = rw (n .stamps) (low-stampAll stamp st (endsOf ends ms) (λ x. omega (arith, f .fresh x)));
       }

@@ -39,9 +39,9 @@ module _ (stamp : ℕ) (st part₀ part : List ℕ) (body at : ℕ) (v : Collect
       by-cases (ltb body (length st))
       (λ e. ltb-true body (length st) e)
       (λ e.
-        let n : length st - body ≡ 0 = omega (arith, ltb-false body (length st) e) in
-        let z : length (toCome stamp st body) ≡ 0 = rw n in
-        absurd (omega (arith, counted)))
+      let n : length st - body ≡ 0 = omega (arith, ltb-false body (length st) e) in
+      let z : length (toCome stamp st body) ≡ 0 = rw n in
+      absurd (omega (arith, counted)))
 
   pub collecting-more : at < length part → Collecting stamp st part₀ (set part at body) (body + 1) (at + boolByte (eqb (getD st body 0) stamp))
   collecting-more h =
@@ -51,25 +51,25 @@ module _ (stamp : ℕ) (st part₀ part : List ℕ) (body at : ℕ) (v : Collect
       let s : length (set part at body) ≡ length part₀ = length-set part at body ∙ v .size in
       by-cases (eqb (getD st body 0) stamp)
       (λ e.
-        let t : take (at + 1) (set part at body) ≡ take at part ++ (body ∷ []) = rw add-one (take-suc-set part at body h) in
-        rw e (record {
-          low = omega (arith, length-set part at body);
-          size = s;
-          left = rw (t, append-assoc, add-one body) (rw (e, add-one body) at l)
-        }))
+      let t : take (at + 1) (set part at body) ≡ take at part ++ (body ∷ []) = rw add-one (take-suc-set part at body h) in
+      rw e (record {
+        low = omega (arith, length-set part at body);
+        size = s;
+        left = rw (t, append-assoc, add-one body) (rw (e, add-one body) at l);
+      }))
       (λ e.
-        let z : at + 0 ≡ at = omega arith in
-        rw (e, z) (record {
-          low = omega (arith, length-set part at body);
-          size = s;
-          left = rw (take-set-le at part at body (omega arith), add-one body) (rw (e, add-one body) at l)
-        }))
+      let z : at + 0 ≡ at = omega arith in
+      rw (e, z) (record {
+        low = omega (arith, length-set part at body);
+        size = s;
+        left = rw (take-set-le at part at body (omega arith), add-one body) (rw (e, add-one body) at l);
+      }))
 
   pub collecting-done : length part ≤ at → part ≡ stamped stamp st
   collecting-done h =
       let z : toCome stamp st body ≡ [] = empty (toCome stamp st body) (omega (arith, counted)) in
       sym (take-all at part h) ∙ sym (append-nil (take at part)) ∙ (rw z at (v .left))
     where
-    empty : (l : List ℕ) → length l ≡ 0 → l ≡ []
-    empty [] e = refl
-    empty (x ∷ l) e = absurd (omega arith)
+      empty : (l : List ℕ) → length l ≡ 0 → l ≡ []
+      empty [] e = refl
+      empty (x ∷ l) e = absurd (omega arith)

@@ -22,7 +22,7 @@ sets-append l i [] ys = let e : i ≡ i + 0 = omega arith in ap (λ (k : ℕ). s
 sets-append l i (x ∷ xs) ys = let e : suc i + length xs ≡ i + suc (length xs) = omega arith in sets-append (set l i x) (suc i) xs ys ∙ ap (λ (k : ℕ). sets (sets (set l i x) (suc i) xs) k ys) e
 
 module _ (stamp end : ℕ) (st bodies : List ℕ) where
-  pub noted-none : Noted stamp [] end st bodies st bodies end
+  noted-none : Noted stamp [] end st bodies st bodies end
   unfolding unstamped stampAll
   noted-none = record { stamps = refl; appended = refl; counted = omega arith }
 
@@ -46,7 +46,7 @@ module _ (stamp end : ℕ) (st bodies : List ℕ) where
         record {
           stamps = w .stamps ∙ rw (v .stamps) (sym (stampAll-append stamp st xs ys));
           appended = w .appended ∙ rw (v .appended, v .counted, v .stamps, u) (sym (sets-append bodies end (unstamped stamp st xs) (unstamped stamp (stampAll stamp st xs) ys)));
-          counted = w .counted ∙ rw (v .counted, v .stamps, u) (omega (arith, length-append (unstamped stamp st xs) (unstamped stamp (stampAll stamp st xs) ys)))
+          counted = w .counted ∙ rw (v .counted, v .stamps, u) (omega (arith, length-append (unstamped stamp st xs) (unstamped stamp (stampAll stamp st xs) ys)));
         }
 
     pub noted-stamps : length st₁ ≡ length st
@@ -67,7 +67,7 @@ module _ (ends st bodies : List ℕ) (r end : ℕ) (v : Notable ends (r ∷ []) 
   pair-below i h = ltb-true (getD ends i 0) (length st) (entry-all (λ b. ltb b (length st)) ends i (v .below) (omega (arith, pair-inside)))
 
 -- ---- one constraint of a list after another
-pub ends-more : (ends ms : List ℕ) (i : ℕ) → i < length ms → endsOf ends (take (i + 1) ms) ≡ endsOf ends (take i ms) ++ getD (pairsOf ends) (getD ms i 0) []
+ends-more : (ends ms : List ℕ) (i : ℕ) → i < length ms → endsOf ends (take (i + 1) ms) ≡ endsOf ends (take i ms) ++ getD (pairsOf ends) (getD ms i 0) []
 unfolding endsOf
 ends-more ends ms i h = rw (add-one i, take-suc ms i 0 h, joinMap-append (λ r. getD (pairsOf ends) r []) (take i ms) (getD ms i 0 ∷ []), append-nil)
 
@@ -84,7 +84,7 @@ module _ (ends ms st bodies : List ℕ) (start : ℕ) (v : Notable ends ms st bo
       record {
         inside = and-both (ltb (2 * getD ms i 0 + 1) (length ends)) true (entry-all (λ r. ltb (2 * r + 1) (length ends)) ms i (v .inside) h) refl;
         below = rw a (v .below);
-        room = omega (arith, v .room, ends-short ends (take i ms), length-take-le i ms (omega arith))
+        room = omega (arith, v .room, ends-short ends (take i ms), length-take-le i ms (omega arith));
       }
 
   pub noted-next : (st″ bodies″ : List ℕ) (end″ : ℕ) → Noted stamp (getD (pairsOf ends) (getD ms i 0) []) end st′ bodies′ st″ bodies″ end″ → Noted stamp (endsOf ends (take (i + 1) ms)) start st bodies st″ bodies″ end″

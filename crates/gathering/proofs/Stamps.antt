@@ -26,16 +26,16 @@ insert-filter p x a zero e l h = absurd (omega arith)
 insert-filter p x a (suc n) e l h =
     by-cases (eqb a x)
     (λ q.
-      let s : a ≡ x = eqb-true a x q in
-      let f : p a ≡ false = ap p s ∙ e in
-      let later : (b : ℕ) → mem b (rangeFrom (suc a) n) ≡ true → x < b = λ b m. omega (arith, range-low b (suc a) n m) in
-      rw (q, f)
-      (insert-first x (filter p (rangeFrom (suc a) n)) (all-intro (ltb x) (filter p (rangeFrom (suc a) n)) (λ b m. lt-ltb x b (later b (filter-mem p b (rangeFrom (suc a) n) m .0))))
-      ∙ rw (sym s) (ap (λ (l : List ℕ). a ∷ l) (filter-ext-in p (λ b. eqb b a || p b) (rangeFrom (suc a) n) (λ b m. rw (ne-eqb b a (λ w. omega (arith, later b m))))))))
+    let s : a ≡ x = eqb-true a x q in
+    let f : p a ≡ false = ap p s ∙ e in
+    let later : (b : ℕ) → mem b (rangeFrom (suc a) n) ≡ true → x < b = λ b m. omega (arith, range-low b (suc a) n m) in
+    rw (q, f)
+    (insert-first x (filter p (rangeFrom (suc a) n)) (all-intro (ltb x) (filter p (rangeFrom (suc a) n)) (λ b m. lt-ltb x b (later b (filter-mem p b (rangeFrom (suc a) n) m .0))))
+    ∙ rw (sym s) (ap (λ (l : List ℕ). a ∷ l) (filter-ext-in p (λ b. eqb b a || p b) (rangeFrom (suc a) n) (λ b m. rw (ne-eqb b a (λ w. omega (arith, later b m))))))))
     (λ q.
-      let s : a < x = omega (arith, eqb-false a x q) in
-      let i = insert-filter p x (suc a) n e s (omega arith) in
-      by-cases (p a) (λ t. rw (q, t, lt-leb x a s, i)) (λ t. rw (q, t, i)))
+    let s : a < x = omega (arith, eqb-false a x q) in
+    let i = insert-filter p x (suc a) n e s (omega arith) in
+    by-cases (p a) (λ t. rw (q, t, lt-leb x a s, i)) (λ t. rw (q, t, i)))
 
 sorted-filter : (xs : List ℕ) (n : ℕ) → distinct xs ≡ true → all (λ b. ltb b n) xs ≡ true → sorted xs ≡ filter (λ b. mem b xs) (range n)
 sorted-filter [] n d h = sym (filter-none (λ b. mem b []) (range n) (λ b m. refl))
@@ -58,8 +58,8 @@ module _ (s : ℕ) where
   low-set st b h x =
       by-cases (eqb x b)
       (λ e. by-cases (ltb b (length st))
-        (λ l. rw (eqb-true x b e, getD-set-same st b s 0 (ltb-true b (length st) l)) (omega arith))
-        (λ l. rw (set-out st b s (ltb-false b (length st) l)) (h x)))
+      (λ l. rw (eqb-true x b e, getD-set-same st b s 0 (ltb-true b (length st) l)) (omega arith))
+      (λ l. rw (set-out st b s (ltb-false b (length st) l)) (h x)))
       (λ e. rw (getD-set-other st b x s 0 (eqb-false x b e)) (h x))
 
   -- ---- all of a list
@@ -100,11 +100,11 @@ module _ (s : ℕ) where
   marked st [] x h = refl
   marked st (b ∷ bs) x h = marked (set st b s) bs x (omega (arith, length-set st b s)) ∙ rw (marked-set st b x h) (swap (mem x bs) (eqb x b) (eqb (getD st x 0) s))
     where
-    swap : (a b c : Bool) → (a || (b || c)) ≡ ((b || a) || c)
-    swap true true c = refl
-    swap true false c = refl
-    swap false true c = refl
-    swap false false c = refl
+      swap : (a b c : Bool) → (a || (b || c)) ≡ ((b || a) || c)
+      swap true true c = refl
+      swap true false c = refl
+      swap false true c = refl
+      swap false false c = refl
 
   appended : (st bs : List ℕ) (x : ℕ) → x < length st → mem x (unstamped s st bs) ≡ (not (eqb (getD st x 0) s) && mem x bs)
   unfolding unstamped
@@ -112,12 +112,12 @@ module _ (s : ℕ) where
   appended st (b ∷ bs) x h =
       by-cases (eqb (getD st b 0) s)
       (λ e. rw e (appended st bs x h ∙ by-cases (eqb x b)
-        (λ t. let q : eqb (getD st x 0) s ≡ true = ap (λ (y : ℕ). eqb (getD st y 0) s) (eqb-true x b t) ∙ e in rw (t, q))
-        (λ t. rw t)))
+      (λ t. let q : eqb (getD st x 0) s ≡ true = ap (λ (y : ℕ). eqb (getD st y 0) s) (eqb-true x b t) ∙ e in rw (t, q))
+      (λ t. rw t)))
       (λ e. rw (e, appended (set st b s) bs x (omega (arith, length-set st b s)), marked-set st b x h)
-        (by-cases (eqb x b)
-        (λ t. let q : eqb (getD st x 0) s ≡ false = ap (λ (y : ℕ). eqb (getD st y 0) s) (eqb-true x b t) ∙ e in rw (t, q))
-        (λ t. rw t)))
+      (by-cases (eqb x b)
+      (λ t. let q : eqb (getD st x 0) s ≡ false = ap (λ (y : ℕ). eqb (getD st y 0) s) (eqb-true x b t) ∙ e in rw (t, q))
+      (λ t. rw t)))
 
   -- ---- the appended bodies are different numbers below n
   module _ (n : ℕ) where
@@ -129,10 +129,10 @@ module _ (s : ℕ) where
         by-cases (eqb (getD st b 0) s)
         (λ e. rw e (distinct-unstamped st bs l r))
         (λ e.
-          let k : b < length st = omega (arith, ltb-true b n (and-left (ltb b n) (all (λ b. ltb b n) bs) h)) in
-          rw e (and-both (not (mem b (unstamped s (set st b s) bs))) (distinct (unstamped s (set st b s) bs))
-          (rw (appended (set st b s) bs b (omega (arith, length-set st b s)), marked-set st b b k, eq-eqb b b refl))
-          (distinct-unstamped (set st b s) bs (length-set st b s ∙ l) r)))
+        let k : b < length st = omega (arith, ltb-true b n (and-left (ltb b n) (all (λ b. ltb b n) bs) h)) in
+        rw e (and-both (not (mem b (unstamped s (set st b s) bs))) (distinct (unstamped s (set st b s) bs))
+        (rw (appended (set st b s) bs b (omega (arith, length-set st b s)), marked-set st b b k, eq-eqb b b refl))
+        (distinct-unstamped (set st b s) bs (length-set st b s ∙ l) r)))
 
     below-unstamped : (st bs : List ℕ) → all (λ b. ltb b n) bs ≡ true → all (λ b. ltb b n) (unstamped s st bs) ≡ true
     unfolding unstamped
@@ -154,7 +154,7 @@ module _ (s : ℕ) where
         let bs = endsOf ends ms in
         rw (length-stampAll st bs)
         (filter-ext-in (λ b. eqb (getD (stampAll s st bs) b 0) s) (λ b. mem b bs) (range (length st))
-          (λ b m. marked st bs b (omega (arith, range-high b 0 (length st) m)) ∙ rw (unmarked b) (or-false (mem b bs))))
+        (λ b m. marked st bs b (omega (arith, range-high b 0 (length st) m)) ∙ rw (unmarked b) (or-false (mem b bs))))
         ∙ sym (bodies-mem (length st) ends ms)
 
     pub sorted-bodies : all (λ b. ltb b (length st)) ends ≡ true → all (λ r. ltb (2 * r + 1) (length ends)) ms ≡ true → sorted (unstamped s st (endsOf ends ms)) ≡ bodiesOf (length st) ends ms
@@ -163,5 +163,5 @@ module _ (s : ℕ) where
         let l = ends-all (λ b. ltb b (length st)) ends ms h k in
         sorted-filter (unstamped s st bs) (length st) (distinct-unstamped (length st) st bs refl l) (below-unstamped (length st) st bs l)
         ∙ filter-ext-in (λ b. mem b (unstamped s st bs)) (λ b. mem b bs) (range (length st))
-          (λ b m. appended st bs b (omega (arith, range-high b 0 (length st) m)) ∙ rw (unmarked b))
+        (λ b m. appended st bs b (omega (arith, range-high b 0 (length st) m)) ∙ rw (unmarked b))
         ∙ sym (bodies-mem (length st) ends ms)

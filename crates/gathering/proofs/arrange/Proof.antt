@@ -5,46 +5,34 @@ use denote.Ref.{now}
 use Rattle.gathering.proofs.Arranges.{part-size, part-short}
 use Rattle.gathering.proofs.arrange.Statement.{statement}
 use Rattle.gathering.proofs.arrange.Tie as tie
-use Rattle.gathering.proofs.arrange.Reads as reads
-use Rattle.gathering.proofs.arrange.Lts as lts
-use Rattle.gathering.proofs.collect.Reads as collect-reads
-use Rattle.ordering.proofs.sort.Reads as sort-reads
 
--- src/lib.rt:96:8
 mul-if1 : tie.Need-mul-if1
 mul-if1 c =
     let s = c .before .before .before in
     omega (arith, part-short (s .args .stamp) (now (s .args .body-stamps)) (now (s .args .part)) (s .pre .2))
 
--- src/lib.rt:97:9
 collect-requires : tie.Need-collect-requires
 collect-requires c κs =
     let s = c .before .before .before .before .before in
     (s .pre .0, part-size (s .args .stamp) (now (s .args .body-stamps)) (now (s .args .part)) (s .pre .2))
 
--- src/lib.rt:98:9
 same-length : tie.Need-same-length
 same-length c = search needs
 
--- src/lib.rt:98:9
 returns : tie.Need-returns
 returns c = c .before .before .collect .ensures
 
--- src/lib.rt:100:5
 sort-requires : tie.Need-sort-requires
 sort-requires c κs =
     let s = c .before .before .before .before .before .before in
     omega (arith, part-short (s .args .stamp) (now (s .args .body-stamps)) (now (s .args .part)) (s .pre .2))
 
--- src/lib.rt:92:1
 same-length-2 : tie.Need-same-length-2
 same-length-2 c = search needs
 
--- src/lib.rt:92:1
 same-length-3 : tie.Need-same-length-3
 same-length-3 c = search needs
 
--- src/lib.rt:92:1
 returns-2 : tie.Need-returns-2
 returns-2 c =
     let s = c .before .before .before .before .before .before .before .before .before .before .before in

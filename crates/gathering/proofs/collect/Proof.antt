@@ -6,8 +6,6 @@ use denote.Ref.{now}
 use Rattle.gathering.proofs.Collects.{Collecting, collecting-none, collecting-inside, collecting-more, collecting-done}
 use Rattle.gathering.proofs.collect.Statement.{statement}
 use Rattle.gathering.proofs.collect.Tie as tie
-use Rattle.gathering.proofs.collect.Reads as reads
-use Rattle.gathering.proofs.collect.Lts as lts
 
 abbrev Inv-loop : tie.InvT-loop
 Inv-loop body-stamps stamp part₀ body₀ at₀ part body at = Collecting stamp body-stamps part₀ part body at
@@ -15,11 +13,9 @@ Inv-loop body-stamps stamp part₀ body₀ at₀ part body at = Collecting stamp
 abbrev μ-loop : tie.MeasureT-loop
 μ-loop body-stamps stamp part₀ body₀ at₀ part body at = length body-stamps - body
 
--- src/lib.rt:84:5
 loop-holds : tie.Need-loop-holds Inv-loop μ-loop
 loop-holds c = collecting-none _ _ _
 
--- src/lib.rt:85:20
 cast-part : tie.Need-cast-part Inv-loop μ-loop
 cast-part c =
     let l = c .before in
@@ -27,15 +23,12 @@ cast-part c =
     let k = collecting-inside (s .args .stamp) (now (s .args .body-stamps)) (now (s .args .part)) (l .loop .part) (l .loop .body) (l .loop .at) (l .loop .inv) (s .pre .1) (omega arith) in
     omega arith
 
--- src/lib.rt:85:9
 mul-part : tie.Need-mul-part Inv-loop μ-loop
 mul-part c = search needs
 
--- src/lib.rt:85:9
 slice-write-part : tie.Need-slice-write-part Inv-loop μ-loop
 slice-write-part c = search needs
 
--- src/lib.rt:86:16
 mul-at : tie.Need-mul-at Inv-loop μ-loop
 mul-at c =
     let l = c .before in
@@ -43,7 +36,6 @@ mul-at c =
     let k = collecting-inside (s .args .stamp) (now (s .args .body-stamps)) (now (s .args .part)) (l .loop .part) (l .loop .body) (l .loop .at) (l .loop .inv) (s .pre .1) (omega arith) in
     omega arith
 
--- src/lib.rt:86:16
 shared-slice-read-at : tie.Need-shared-slice-read-at Inv-loop μ-loop
 shared-slice-read-at c =
     let l = c .before .before in
@@ -51,11 +43,9 @@ shared-slice-read-at c =
     let k = collecting-inside (s .args .stamp) (now (s .args .body-stamps)) (now (s .args .part)) (l .loop .part) (l .loop .body) (l .loop .at) (l .loop .inv) (s .pre .1) (omega arith) in
     omega arith
 
--- src/lib.rt:86:15
 cast-at : tie.Need-cast-at Inv-loop μ-loop
 cast-at c = search needs
 
--- src/lib.rt:86:9
 add-at : tie.Need-add-at Inv-loop μ-loop
 add-at c =
     let l = c .before .before in
@@ -63,7 +53,6 @@ add-at c =
     let m = collecting-more (s .args .stamp) (now (s .args .body-stamps)) (now (s .args .part)) (l .loop .part) (l .loop .body) (l .loop .at) (l .loop .inv) (s .pre .1) (omega arith) in
     omega (arith, m .low, length-set (l .loop .part) (l .loop .at) (l .loop .body))
 
--- src/lib.rt:87:9
 add-body : tie.Need-add-body Inv-loop μ-loop
 add-body c =
     let l = c .before .before in
@@ -71,7 +60,6 @@ add-body c =
     let k = collecting-inside (s .args .stamp) (now (s .args .body-stamps)) (now (s .args .part)) (l .loop .part) (l .loop .body) (l .loop .at) (l .loop .inv) (s .pre .1) (omega arith) in
     omega arith
 
--- src/lib.rt:84:5
 loop-less : tie.Need-loop-less Inv-loop μ-loop
 loop-less c =
     let l = c .before .before in
@@ -79,18 +67,15 @@ loop-less c =
     let k = collecting-inside (s .args .stamp) (now (s .args .body-stamps)) (now (s .args .part)) (l .loop .part) (l .loop .body) (l .loop .at) (l .loop .inv) (s .pre .1) (omega arith) in
     omega arith
 
--- src/lib.rt:84:5
 loop-again : tie.Need-loop-again Inv-loop μ-loop
 loop-again c =
     let l = c .before .before in
     let s = l .before in
     collecting-more (s .args .stamp) (now (s .args .body-stamps)) (now (s .args .part)) (l .loop .part) (l .loop .body) (l .loop .at) (l .loop .inv) (s .pre .1) (omega arith)
 
--- src/lib.rt:78:1
 same-length : tie.Need-same-length Inv-loop μ-loop
 same-length c = c .before .loop .inv .size
 
--- src/lib.rt:78:1
 returns : tie.Need-returns Inv-loop μ-loop
 returns c =
     let l = c .before in

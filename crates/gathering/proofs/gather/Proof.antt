@@ -5,13 +5,10 @@ use mathlib.Core.Path.{sym, _∙_}
 use mathlib.Core.List.{[]}
 use lib.ListN.{length-set}
 use denote.Ref.{now}
-use Rattle.gathering.proofs.Groups.{Gathering, offsets-long, gathering-none, first-last, last-inside, group-fresh, end-small, gathering-more, gathering-done}
+use Rattle.gathering.proofs.Parts.{starts-long, start-end, end-inside}
+use Rattle.gathering.proofs.Groups.{Gathering, gathering-none, constraints-listed, group-fresh, end-small, gathering-more, gathering-done}
 use Rattle.gathering.proofs.gather.Statement.{statement}
 use Rattle.gathering.proofs.gather.Tie as tie
-use Rattle.gathering.proofs.gather.Reads as reads
-use Rattle.gathering.proofs.gather.Lts as lts
-use Rattle.gathering.proofs.clear.Reads as clear-reads
-use Rattle.gathering.proofs.list_bodies.Reads as list-bodies-reads
 
 abbrev Inv-loop : tie.InvT-loop
 Inv-loop body-count endpoints constraint-colors color-count color-offsets colored-constraints body-stamps₀ scratch-offsets₀ color-body-offsets₀ color-bodies₀ end₀ color₀ body-stamps scratch-offsets color-body-offsets color-bodies end color =
@@ -21,114 +18,95 @@ abbrev μ-loop : tie.MeasureT-loop
 μ-loop body-count endpoints constraint-colors color-count color-offsets colored-constraints body-stamps₀ scratch-offsets₀ color-body-offsets₀ color-bodies₀ end₀ color₀ body-stamps scratch-offsets color-body-offsets color-bodies end color =
     color-count - color
 
--- src/lib.rt:137:5
 clear-requires : tie.Need-clear-requires Inv-loop μ-loop
 clear-requires c κs = search needs
 
--- src/lib.rt:138:5
 slice-write-color-body-offsets : tie.Need-slice-write-color-body-offsets Inv-loop μ-loop
 slice-write-color-body-offsets c = omega (arith, c .before .before .before .before .before .before .before .before .before .before .before .before .pre .ends)
 
--- src/lib.rt:141:5
 loop-holds : tie.Need-loop-holds Inv-loop μ-loop
 loop-holds c =
     let s = c .before .before .before .before .before .before .before .before .before .before .before .before in
     gathering-none (s .args .body-count) (now (s .args .endpoints)) (now (s .args .constraint-colors)) (s .args .color-count) (now (s .args .color-offsets)) (now (s .args .colored-constraints)) (now (s .args .body-stamps)) (now (s .args .scratch-offsets)) (now (s .args .color-body-offsets)) (now (s .args .color-bodies)) (s .pre) _ (c .before .before .clear .ensures) (c .before .before .clear .kept .0)
 
--- src/lib.rt:142:21
 mul-first : tie.Need-mul-first Inv-loop μ-loop
 mul-first c =
     let l = c .before in
     let s = l .before .before .before .before .before .before .before .before .before .before .before .before .before in
-    omega (arith, offsets-long (s .args .body-count) (now (s .args .endpoints)) (now (s .args .constraint-colors)) (s .args .color-count) (now (s .args .color-offsets)) (now (s .args .colored-constraints)) (now (s .args .body-stamps)) (now (s .args .scratch-offsets)) (now (s .args .color-body-offsets)) (now (s .args .color-bodies)) (s .pre))
+    omega (arith, starts-long _ (s .args .color-count) (now (s .args .color-offsets)) (now (s .args .colored-constraints)) (s .pre .starts) (constraints-listed (s .args .body-count) (now (s .args .endpoints)) (now (s .args .constraint-colors)) (s .args .color-count) (now (s .args .color-offsets)) (now (s .args .colored-constraints)) (now (s .args .body-stamps)) (now (s .args .scratch-offsets)) (now (s .args .color-body-offsets)) (now (s .args .color-bodies)) (s .pre)))
 
--- src/lib.rt:142:21
 shared-slice-read-first : tie.Need-shared-slice-read-first Inv-loop μ-loop
 shared-slice-read-first c =
     let l = c .before .before in
     let s = l .before .before .before .before .before .before .before .before .before .before .before .before .before in
-    omega (arith, offsets-long (s .args .body-count) (now (s .args .endpoints)) (now (s .args .constraint-colors)) (s .args .color-count) (now (s .args .color-offsets)) (now (s .args .colored-constraints)) (now (s .args .body-stamps)) (now (s .args .scratch-offsets)) (now (s .args .color-body-offsets)) (now (s .args .color-bodies)) (s .pre))
+    omega (arith, starts-long _ (s .args .color-count) (now (s .args .color-offsets)) (now (s .args .colored-constraints)) (s .pre .starts) (constraints-listed (s .args .body-count) (now (s .args .endpoints)) (now (s .args .constraint-colors)) (s .args .color-count) (now (s .args .color-offsets)) (now (s .args .colored-constraints)) (now (s .args .body-stamps)) (now (s .args .scratch-offsets)) (now (s .args .color-body-offsets)) (now (s .args .color-bodies)) (s .pre)))
 
--- src/lib.rt:142:21
 cast-first : tie.Need-cast-first Inv-loop μ-loop
 cast-first c = omega (arith, c .shared-slice-known5 .given (c .before .before .loop .color))
 
--- src/lib.rt:143:34
 add-last : tie.Need-add-last Inv-loop μ-loop
 add-last c =
     let l = c .before .before in
     let s = l .before .before .before .before .before .before .before .before .before .before .before .before .before in
-    omega (arith, offsets-long (s .args .body-count) (now (s .args .endpoints)) (now (s .args .constraint-colors)) (s .args .color-count) (now (s .args .color-offsets)) (now (s .args .colored-constraints)) (now (s .args .body-stamps)) (now (s .args .scratch-offsets)) (now (s .args .color-body-offsets)) (now (s .args .color-bodies)) (s .pre))
+    omega (arith, starts-long _ (s .args .color-count) (now (s .args .color-offsets)) (now (s .args .colored-constraints)) (s .pre .starts) (constraints-listed (s .args .body-count) (now (s .args .endpoints)) (now (s .args .constraint-colors)) (s .args .color-count) (now (s .args .color-offsets)) (now (s .args .colored-constraints)) (now (s .args .body-stamps)) (now (s .args .scratch-offsets)) (now (s .args .color-body-offsets)) (now (s .args .color-bodies)) (s .pre)))
 
--- src/lib.rt:143:20
 mul-last : tie.Need-mul-last Inv-loop μ-loop
 mul-last c =
     let l = c .before .before in
     let s = l .before .before .before .before .before .before .before .before .before .before .before .before .before in
-    omega (arith, offsets-long (s .args .body-count) (now (s .args .endpoints)) (now (s .args .constraint-colors)) (s .args .color-count) (now (s .args .color-offsets)) (now (s .args .colored-constraints)) (now (s .args .body-stamps)) (now (s .args .scratch-offsets)) (now (s .args .color-body-offsets)) (now (s .args .color-bodies)) (s .pre))
+    omega (arith, starts-long _ (s .args .color-count) (now (s .args .color-offsets)) (now (s .args .colored-constraints)) (s .pre .starts) (constraints-listed (s .args .body-count) (now (s .args .endpoints)) (now (s .args .constraint-colors)) (s .args .color-count) (now (s .args .color-offsets)) (now (s .args .colored-constraints)) (now (s .args .body-stamps)) (now (s .args .scratch-offsets)) (now (s .args .color-body-offsets)) (now (s .args .color-bodies)) (s .pre)))
 
--- src/lib.rt:143:20
 shared-slice-read-last : tie.Need-shared-slice-read-last Inv-loop μ-loop
 shared-slice-read-last c =
     let l = c .before .before .before in
     let s = l .before .before .before .before .before .before .before .before .before .before .before .before .before in
-    omega (arith, offsets-long (s .args .body-count) (now (s .args .endpoints)) (now (s .args .constraint-colors)) (s .args .color-count) (now (s .args .color-offsets)) (now (s .args .colored-constraints)) (now (s .args .body-stamps)) (now (s .args .scratch-offsets)) (now (s .args .color-body-offsets)) (now (s .args .color-bodies)) (s .pre))
+    omega (arith, starts-long _ (s .args .color-count) (now (s .args .color-offsets)) (now (s .args .colored-constraints)) (s .pre .starts) (constraints-listed (s .args .body-count) (now (s .args .endpoints)) (now (s .args .constraint-colors)) (s .args .color-count) (now (s .args .color-offsets)) (now (s .args .colored-constraints)) (now (s .args .body-stamps)) (now (s .args .scratch-offsets)) (now (s .args .color-body-offsets)) (now (s .args .color-bodies)) (s .pre)))
 
--- src/lib.rt:143:20
 cast-last : tie.Need-cast-last Inv-loop μ-loop
 cast-last c = omega (arith, c .shared-slice-known6 .given (c .before .before .before .loop .color + 1))
 
--- src/lib.rt:144:22
 add-stamp : tie.Need-add-stamp Inv-loop μ-loop
 add-stamp c =
     let l = c .before .before .before in
     let s = l .before .before .before .before .before .before .before .before .before .before .before .before .before in
-    omega (arith, offsets-long (s .args .body-count) (now (s .args .endpoints)) (now (s .args .constraint-colors)) (s .args .color-count) (now (s .args .color-offsets)) (now (s .args .colored-constraints)) (now (s .args .body-stamps)) (now (s .args .scratch-offsets)) (now (s .args .color-body-offsets)) (now (s .args .color-bodies)) (s .pre))
+    omega (arith, starts-long _ (s .args .color-count) (now (s .args .color-offsets)) (now (s .args .colored-constraints)) (s .pre .starts) (constraints-listed (s .args .body-count) (now (s .args .endpoints)) (now (s .args .constraint-colors)) (s .args .color-count) (now (s .args .color-offsets)) (now (s .args .colored-constraints)) (now (s .args .body-stamps)) (now (s .args .scratch-offsets)) (now (s .args .color-body-offsets)) (now (s .args .color-bodies)) (s .pre)))
 
--- src/lib.rt:144:21
 cast-stamp : tie.Need-cast-stamp Inv-loop μ-loop
 cast-stamp c =
     let l = c .before .before .before in
     let s = l .before .before .before .before .before .before .before .before .before .before .before .before .before in
     omega (arith, s .pre .colored .low, s .pre .colored .few)
 
--- src/lib.rt:145:38
 mul-list-bodies : tie.Need-mul-list-bodies Inv-loop μ-loop
 mul-list-bodies c = omega (arith, c .before .shared-slice-known5 .given (c .before .before .before .loop .color))
 
--- src/lib.rt:145:38
 sub-list-bodies : tie.Need-sub-list-bodies Inv-loop μ-loop
 sub-list-bodies c =
     let l = c .before .before .before in
     let s = l .before .before .before .before .before .before .before .before .before .before .before .before .before in
-    omega (arith, first-last (s .args .body-count) (now (s .args .endpoints)) (now (s .args .constraint-colors)) (s .args .color-count) (now (s .args .color-offsets)) (now (s .args .colored-constraints)) (now (s .args .body-stamps)) (now (s .args .scratch-offsets)) (now (s .args .color-body-offsets)) (now (s .args .color-bodies)) (s .pre) (l .loop .color) (c .before .before .loop-test .taken))
+    omega (arith, start-end _ (s .args .color-count) (now (s .args .color-offsets)) (now (s .args .colored-constraints)) (s .pre .starts) (constraints-listed (s .args .body-count) (now (s .args .endpoints)) (now (s .args .constraint-colors)) (s .args .color-count) (now (s .args .color-offsets)) (now (s .args .colored-constraints)) (now (s .args .body-stamps)) (now (s .args .scratch-offsets)) (now (s .args .color-body-offsets)) (now (s .args .color-bodies)) (s .pre)) (l .loop .color) (c .before .before .loop-test .taken))
 
--- src/lib.rt:145:38
 part-list-bodies-start : tie.Need-part-list-bodies-start Inv-loop μ-loop
 part-list-bodies-start c =
     let l = c .before .before .before in
     let s = l .before .before .before .before .before .before .before .before .before .before .before .before .before in
-    omega (arith, first-last (s .args .body-count) (now (s .args .endpoints)) (now (s .args .constraint-colors)) (s .args .color-count) (now (s .args .color-offsets)) (now (s .args .colored-constraints)) (now (s .args .body-stamps)) (now (s .args .scratch-offsets)) (now (s .args .color-body-offsets)) (now (s .args .color-bodies)) (s .pre) (l .loop .color) (c .before .before .loop-test .taken))
+    omega (arith, start-end _ (s .args .color-count) (now (s .args .color-offsets)) (now (s .args .colored-constraints)) (s .pre .starts) (constraints-listed (s .args .body-count) (now (s .args .endpoints)) (now (s .args .constraint-colors)) (s .args .color-count) (now (s .args .color-offsets)) (now (s .args .colored-constraints)) (now (s .args .body-stamps)) (now (s .args .scratch-offsets)) (now (s .args .color-body-offsets)) (now (s .args .color-bodies)) (s .pre)) (l .loop .color) (c .before .before .loop-test .taken))
 
--- src/lib.rt:145:38
 part-list-bodies-end : tie.Need-part-list-bodies-end Inv-loop μ-loop
 part-list-bodies-end c =
     let l = c .before .before .before in
     let s = l .before .before .before .before .before .before .before .before .before .before .before .before .before in
-    omega (arith, last-inside (s .args .body-count) (now (s .args .endpoints)) (now (s .args .constraint-colors)) (s .args .color-count) (now (s .args .color-offsets)) (now (s .args .colored-constraints)) (now (s .args .body-stamps)) (now (s .args .scratch-offsets)) (now (s .args .color-body-offsets)) (now (s .args .color-bodies)) (s .pre) (l .loop .color) (c .before .before .loop-test .taken))
+    omega (arith, end-inside _ (s .args .color-count) (now (s .args .color-offsets)) (now (s .args .colored-constraints)) (s .pre .starts) (constraints-listed (s .args .body-count) (now (s .args .endpoints)) (now (s .args .constraint-colors)) (s .args .color-count) (now (s .args .color-offsets)) (now (s .args .colored-constraints)) (now (s .args .body-stamps)) (now (s .args .scratch-offsets)) (now (s .args .color-body-offsets)) (now (s .args .color-bodies)) (s .pre)) (l .loop .color) (c .before .before .loop-test .taken))
 
--- src/lib.rt:145:9
 list-bodies-requires : tie.Need-list-bodies-requires Inv-loop μ-loop
 list-bodies-requires c κs =
     let l = c .before .before .before .before .before .before .before in
     let s = l .before .before .before .before .before .before .before .before .before .before .before .before .before in
     group-fresh (s .args .body-count) (now (s .args .endpoints)) (now (s .args .constraint-colors)) (s .args .color-count) (now (s .args .color-offsets)) (now (s .args .colored-constraints)) (now (s .args .body-stamps)) (now (s .args .scratch-offsets)) (now (s .args .color-body-offsets)) (now (s .args .color-bodies)) (s .pre) (l .loop .color) (c .before .before .before .before .before .before .loop-test .taken) (l .loop .body-stamps) (l .loop .scratch-offsets) (l .loop .color-body-offsets) (l .loop .color-bodies) (l .loop .end) (l .loop .inv)
 
--- src/lib.rt:146:9
 add-color : tie.Need-add-color Inv-loop μ-loop
 add-color c = search needs
 
--- src/lib.rt:147:37
 cast-color-body-offsets : tie.Need-cast-color-body-offsets Inv-loop μ-loop
 cast-color-body-offsets c =
     let l = c .before .before .before .before .before .before .before .before .before .before .before .before .before .before in
@@ -136,25 +114,21 @@ cast-color-body-offsets c =
     let b = c .before .before .before .before .before .before .list-bodies in
     omega (arith, end-small (s .args .body-count) (now (s .args .endpoints)) (now (s .args .constraint-colors)) (s .args .color-count) (now (s .args .color-offsets)) (now (s .args .colored-constraints)) (now (s .args .body-stamps)) (now (s .args .scratch-offsets)) (now (s .args .color-body-offsets)) (now (s .args .color-bodies)) (s .pre) (l .loop .color) (c .before .before .before .before .before .before .before .before .before .before .before .before .before .loop-test .taken) (l .loop .body-stamps) (l .loop .scratch-offsets) (l .loop .color-body-offsets) (l .loop .color-bodies) (l .loop .end) (l .loop .inv) _ [] _ (b .result) (b .ensures) (b .kept .1 .1 .1 .0))
 
--- src/lib.rt:147:9
 mul-color-body-offsets : tie.Need-mul-color-body-offsets Inv-loop μ-loop
 mul-color-body-offsets c =
     let l = c .before .before .before .before .before .before .before .before .before .before .before .before .before .before in
     let s = l .before .before .before .before .before .before .before .before .before .before .before .before .before in
     omega (arith, c .before .before .before .before .before .before .before .before .before .before .before .before .before .loop-test .taken, l .loop .inv .starts-size, length-set (now (s .args .color-body-offsets)) 0 0, s .pre .ends)
 
--- src/lib.rt:147:9
 slice-write-color-body-offsets-2 : tie.Need-slice-write-color-body-offsets-2 Inv-loop μ-loop
 slice-write-color-body-offsets-2 c =
     let l = c .before .before .before .before .before .before .before .before .before .before .before .before .before .before in
     let s = l .before .before .before .before .before .before .before .before .before .before .before .before .before in
     omega (arith, c .before .before .before .before .before .before .before .before .before .before .before .before .before .loop-test .taken, l .loop .inv .starts-size, length-set (now (s .args .color-body-offsets)) 0 0, s .pre .ends)
 
--- src/lib.rt:141:5
 loop-less : tie.Need-loop-less Inv-loop μ-loop
 loop-less c = search needs
 
--- src/lib.rt:141:5
 loop-again : tie.Need-loop-again Inv-loop μ-loop
 loop-again c =
     let l = c .before .before .before .before .before .before .before .before .before .before .before .before .before .before in
@@ -162,29 +136,24 @@ loop-again c =
     let b = c .before .before .before .before .before .before .list-bodies in
     gathering-more (s .args .body-count) (now (s .args .endpoints)) (now (s .args .constraint-colors)) (s .args .color-count) (now (s .args .color-offsets)) (now (s .args .colored-constraints)) (now (s .args .body-stamps)) (now (s .args .scratch-offsets)) (now (s .args .color-body-offsets)) (now (s .args .color-bodies)) (s .pre) (l .loop .color) (c .before .before .before .before .before .before .before .before .before .before .before .before .before .loop-test .taken) (l .loop .body-stamps) (l .loop .scratch-offsets) (l .loop .color-body-offsets) (l .loop .color-bodies) (l .loop .end) (l .loop .inv) _ _ _ (b .result) (b .ensures) (b .kept .1 .1 .1 .0) (b .kept .1 .1 .1 .1 .0) (b .kept .1 .1 .1 .1 .1 .0)
 
--- src/lib.rt:122:1
 same-length : tie.Need-same-length Inv-loop μ-loop
 same-length c =
     let l = c .before in
     let s = l .before .before .before .before .before .before .before .before .before .before .before .before .before in
     l .loop .inv .st-size ∙ sym (s .pre .stamps)
 
--- src/lib.rt:122:1
 same-length-2 : tie.Need-same-length-2 Inv-loop μ-loop
 same-length-2 c = c .before .loop .inv .scratch-size
 
--- src/lib.rt:122:1
 same-length-3 : tie.Need-same-length-3 Inv-loop μ-loop
 same-length-3 c =
     let l = c .before in
     let s = l .before .before .before .before .before .before .before .before .before .before .before .before .before in
     l .loop .inv .starts-size ∙ length-set (now (s .args .color-body-offsets)) 0 0
 
--- src/lib.rt:122:1
 same-length-4 : tie.Need-same-length-4 Inv-loop μ-loop
 same-length-4 c = c .before .loop .inv .bodies-size
 
--- src/lib.rt:122:1
 returns : tie.Need-returns Inv-loop μ-loop
 returns c =
     let l = c .before in

@@ -4,60 +4,46 @@ use denote.Ref.{now}
 use Rattle.gathering.proofs.Arranges.{end-inside, part-sorted, bodies-listed}
 use Rattle.gathering.proofs.list_bodies.Statement.{statement}
 use Rattle.gathering.proofs.list_bodies.Tie as tie
-use Rattle.gathering.proofs.list_bodies.Reads as reads
-use Rattle.gathering.proofs.list_bodies.Lts as lts
-use Rattle.gathering.proofs.arrange.Reads as arrange-reads
-use Rattle.gathering.proofs.note_members.Reads as note-members-reads
 
--- src/lib.rt:116:9
 note-members-requires : tie.Need-note-members-requires
 note-members-requires c κs = c .before .before .before .before .before .before .before .pre .notable
 
--- src/lib.rt:117:33
 mul-arrange : tie.Need-mul-arrange
 mul-arrange c = search needs
 
--- src/lib.rt:117:33
 sub-arrange : tie.Need-sub-arrange
 sub-arrange c =
     let n = c .before .before .before .before .before .note-members in
     let s = c .before .before .before .before .before .before .before .before .before .before .before .before .before in
     omega (arith, n .ensures .counted)
 
--- src/lib.rt:117:33
 part-arrange-start : tie.Need-part-arrange-start
 part-arrange-start c =
     let n = c .before .before .before .before .before .note-members in
     let s = c .before .before .before .before .before .before .before .before .before .before .before .before .before in
     omega (arith, n .ensures .counted)
 
--- src/lib.rt:117:33
 part-arrange-end : tie.Need-part-arrange-end
 part-arrange-end c =
     let n = c .before .before .before .before .before .note-members in
     let s = c .before .before .before .before .before .before .before .before .before .before .before .before .before in
     omega (arith, n .kept, end-inside (now (s .args .endpoints)) (now (s .args .members)) (s .args .stamp) (now (s .args .body-stamps)) (now (s .args .scratch-offsets)) (now (s .args .color-bodies)) (s .args .start) (s .pre) _ _ (n .result) (n .ensures))
 
--- src/lib.rt:117:5
 arrange-requires : tie.Need-arrange-requires
 arrange-requires c κs =
     let n = c .before .before .before .before .before .before .before .note-members in
     let s = c .before .before .before .before .before .before .before .before .before .before .before .before .before .before .before in
     (omega (arith, n .kept, s .pre .few), omega (arith, n .kept, s .pre .scratch-room), part-sorted (now (s .args .endpoints)) (now (s .args .members)) (s .args .stamp) (now (s .args .body-stamps)) (now (s .args .scratch-offsets)) (now (s .args .color-bodies)) (s .args .start) (s .pre) _ _ (n .result) (n .ensures))
 
--- src/lib.rt:104:1
 same-length : tie.Need-same-length
 same-length c = search needs
 
--- src/lib.rt:104:1
 same-length-2 : tie.Need-same-length-2
 same-length-2 c = search needs
 
--- src/lib.rt:104:1
 same-length-3 : tie.Need-same-length-3
 same-length-3 c = search needs
 
--- src/lib.rt:104:1
 returns : tie.Need-returns
 returns c =
     let n = c .before .before .before .before .before .before .before .before .before .before .before .before .note-members in
