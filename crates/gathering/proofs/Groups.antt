@@ -1,21 +1,21 @@
 -- All groups. The members of the groups before k are at most all constraints, and a group has at most two bodies a member, so the
 -- bodies of the groups fit the table; the part of group k starts where the bodies of the groups before it end.
-use Prim.Native.Nat.{ℕ, zero, suc, _+_, _-_, _*_, _≤_, _<_}
+use Prim.Native.Nat.{ℕ, zero, suc, _+_, _*_, _≤_, _<_}
 use mathlib.Core.Path.{_≡_, refl, sym, ap, _∙_}
-use mathlib.Core.Bool.{Bool, true}
-use mathlib.Core.List.{List, [], _∷_, _++_, append-assoc}
+use mathlib.Core.Bool.{true}
+use mathlib.Core.List.{List, [], _∷_, _++_}
 use native.Mathlib.Omega.{arith}
 use native.Mathlib.Numerals.{add-one}
 use lib.Dec.{eqb, ltb}
 use lib.ListN.{length, getD, set, take, drop, replicate, length-append, length-set}
-use lib.Seq.{take-at, drop-at, take-all, take-length, take-suc-set, drop-append-add, drop-drop}
+use lib.Seq.{take-at, take-all, take-length, take-suc-set, drop-append-add, drop-drop}
 use borrow.Author.Tests.{lt-ltb}
-use Rattle.lists.specs.Basics.{one, filter, all, sumOf, count, range, mem, over}
+use Rattle.lists.specs.Basics.{one, all, sumOf, count, range, mem, over}
 use Rattle.lists.proofs.Sums.{sum-le, sum-ext, sum-swap, length-filter}
 use Rattle.lists.proofs.Laws.{all-intro, filter-mem, range-high, length-range, at-most-one, sum-one}
-use Rattle.groups.specs.Groups.{pairsOf, members, groupBodies, flatten, offsets}
-use Rattle.gathering.specs.Gathers.{bodiesOf, bodiesIn, Notable, Fresh, Listed, Colored, Gatherable, Gathered}
-use Rattle.gathering.proofs.Ranges.{length-joinMap, map-range-suc, flatten-zero, flatten-suc, start-suc, start-mono, flatten-part, length-offsets, offsets-at}
+use Rattle.groups.specs.Groups.{members, groupBodies, flatten, offsets}
+use Rattle.gathering.specs.Gathers.{bodiesOf, bodiesIn, Fresh, Listed, Gatherable, Gathered}
+use Rattle.gathering.proofs.Ranges.{length-joinMap, map-range-suc, flatten-zero, flatten-suc, start-suc}
 use Rattle.gathering.proofs.Parts.{partOf, part-is}
 use Rattle.gathering.proofs.Pairs.{bodies-few}
 

@@ -1,14 +1,14 @@
 -- Positions. Both endpoints of a constraint stand among its group's bodies, which rise, so the search finds their places; the
 -- positions of the constraints before r fill the first 2 × r entries.
-use Prim.Native.Nat.{ℕ, suc, _+_, _-_, _*_, _≤_, _<_}
+use Prim.Native.Nat.{ℕ, suc, _+_, _*_, _≤_, _<_}
 use mathlib.Core.Path.{_≡_, refl, sym, ap, _∙_}
 use mathlib.Core.Bool.{true, _&&_}
-use mathlib.Core.List.{List, [], _∷_, _++_, map}
+use mathlib.Core.List.{List, [], _++_, map}
 use native.Mathlib.Omega.{arith}
 use native.Mathlib.Numerals.{add-one}
 use lib.Dec.{eqb, ltb}
-use lib.ListN.{length, getD, set, take, drop, length-append, length-drop, length-map, take-append-drop}
-use lib.Seq.{sets, sets-eq, length-sets, length-take-le, take-at, take-all, take-append-le, drop-append-le}
+use lib.ListN.{length, getD, set, take, drop, length-append, length-map}
+use lib.Seq.{sets, sets-eq, length-sets, length-take-le, take-at, take-all}
 use borrow.Author.Tests.{eq-eqb, ltb-true}
 use Rattle.lists.specs.Basics.{any, all, range, mem, place, rises}
 use Rattle.lists.proofs.Laws.{and-left, and-right, all-in, all-intro, any-in, mem-filter, in-range, length-range, filter-length-le, max-in, getD-mem, place-lt, rises-filter}

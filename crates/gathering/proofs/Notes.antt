@@ -1,20 +1,19 @@
 -- Noting one list of bodies and then another is noting both: stamps, appended bodies and the end go on from where they stand.
 use Prim.Native.Nat.{ℕ, suc, _+_, _*_, _≤_, _<_}
 use mathlib.Core.Path.{_≡_, refl, sym, ap, _∙_}
-use mathlib.Core.Bool.{true, false}
+use mathlib.Core.Bool.{true}
 use mathlib.Core.List.{List, [], _∷_, _++_, append-nil}
 use native.Mathlib.Omega.{arith}
 use native.Mathlib.Numerals.{add-one}
-use lib.Dec.{eqb, ltb}
-use lib.ListN.{length, getD, set, take, drop, length-append}
+use lib.Dec.{ltb}
+use lib.ListN.{length, getD, set, take, length-append}
 use lib.Seq.{sets, length-sets, set-getD, take-suc, length-take-le}
-use borrow.Author.Tests.{eq-eqb, ne-eqb, ltb-true, lt-ltb}
-use Rattle.lists.specs.Basics.{all}
+use borrow.Author.Tests.{eq-eqb, ne-eqb, ltb-true}
 use Rattle.lists.proofs.Laws.{and-left, and-both}
 use Rattle.groups.specs.Groups.{pairsOf}
 use Rattle.gathering.specs.Gathers.{endsOf, unstamped, stampAll, Noted, Notable}
 use Rattle.gathering.proofs.Ranges.{joinMap-append}
-use Rattle.gathering.proofs.Pairs.{pairs-at, entry-all, ends-short}
+use Rattle.gathering.proofs.Pairs.{entry-all, ends-short}
 use Rattle.gathering.proofs.Stamps.{length-stampAll, stampAll-append, unstamped-append, length-unstamped}
 
 sets-append : (l : List ℕ) (i : ℕ) (xs ys : List ℕ) → sets l i (xs ++ ys) ≡ sets (sets l i xs) (i + length xs) ys

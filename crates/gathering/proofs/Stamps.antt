@@ -2,16 +2,15 @@
 -- bodies are those noted, once each. Sorted, they are the bodies that have the stamp, in rising order.
 use Prim.Native.Nat.{ℕ, zero, suc, _+_, _*_, _≤_, _<_}
 use mathlib.Core.Path.{_≡_, refl, sym, ap, _∙_}
-use mathlib.Core.Bool.{Bool, true, false, not, cond, _&&_, _||_, or-false}
+use mathlib.Core.Bool.{Bool, true, false, not, _&&_, _||_, or-false}
 use mathlib.Core.List.{List, [], _∷_, _++_}
-use mathlib.Core.Logic.{_≢_}
 use native.Mathlib.Omega.{arith}
-use lib.Dec.{leb, ltb, eqb}
+use lib.Dec.{ltb, eqb}
 use lib.ListN.{length, getD, set, length-set}
 use lib.Seq.{set-getD, set-out, getD-set-same, getD-set-other}
-use borrow.Author.Tests.{eqb-true, eqb-false, eq-eqb, ne-eqb, ltb-true, ltb-false, leb-true, leb-false, le-leb, lt-leb, lt-ltb, not-true}
+use borrow.Author.Tests.{eqb-true, eqb-false, eq-eqb, ne-eqb, ltb-true, ltb-false, le-leb, lt-leb, lt-ltb, not-true}
 use Rattle.lists.specs.Basics.{filter, all, rangeFrom, range, mem, distinct, insert, sorted}
-use Rattle.lists.proofs.Laws.{by-cases, and-left, and-right, and-both, all-in, all-intro, filter-mem, filter-none, range-low, range-high}
+use Rattle.lists.proofs.Laws.{by-cases, and-left, and-right, and-both, all-intro, filter-mem, filter-none, range-low, range-high}
 use Rattle.gathering.specs.Gathers.{unstamped, stampAll, stamped, endsOf, bodiesOf}
 use Rattle.gathering.proofs.Ranges.{filter-ext-in}
 use Rattle.gathering.proofs.Pairs.{bodies-mem, ends-all}

@@ -1,3 +1,4 @@
+-- `clear`: the first i places are 0.
 use borrow.Author.Needs.{needs}
 use native.Mathlib.Omega.{arith}
 use Prim.Native.Nat.{ℕ, _-_, _≤_}

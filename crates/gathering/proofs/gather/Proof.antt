@@ -1,3 +1,4 @@
+-- `gather`: the groups before `color` are listed, with their starts, and no stamp is above `color`.
 use borrow.Author.Needs.{needs}
 use native.Mathlib.Omega.{arith}
 use Prim.Native.Nat.{_+_, _-_}

@@ -1,3 +1,4 @@
+-- `locate`: the positions of the constraints before `constraint` fill the first entries; the measure is the constraints left.
 use borrow.Author.Needs.{needs}
 use native.Mathlib.Omega.{arith}
 use Prim.Native.Nat.{_+_, _-_}
