@@ -1,2 +1,4 @@
 pub mod Lookups
 pub mod Memory
+pub mod Scans
+pub mod Questions
