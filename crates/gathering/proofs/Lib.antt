@@ -1,4 +1,5 @@
 pub mod Ranges
+pub mod Parts
 pub mod Pairs
 pub mod Stamps
 pub mod Notes
