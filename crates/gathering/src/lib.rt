@@ -9,7 +9,7 @@ ghost use Rattle.lists.specs.Basics.{sorted, place};
 ghost use Rattle.groups.specs.Groups.{pairsOf, positions, flatten};
 ghost use Rattle.gathering.specs.Gathers.{endsOf, stamped, Noted, Notable, Fresh, Listed, Gatherable, Gathered, Findable, Locatable};
 
-// A part with at least one of so many bodies is collected anew, and a shorter one sorted.
+// A part that holds a sixteenth of all bodies or more is collected anew, and a shorter one sorted.
 const LONG: usize = 16;
 
 // A body with another stamp gets this one and is appended.
