@@ -24,12 +24,12 @@ roomy ts ps js r = leb (length ts) (r .parents) && leb (length ts) (r .bodies) &
 -- the refusal of a call with these types, manifold pairs, joint pairs and enabled bytes; 0 is acceptance
 unfoldable pub islandRefusal : List ℕ → List ℕ → List ℕ → List ℕ → Rooms → ℕ
 islandRefusal ts ps js es r = asked
-  ( question 3 (fewEach (length ts) (pairCount ps) (pairCount js))
-  ∷ question 4 (even ps && even js && eqb (length es) (pairCount js))
-  ∷ question 5 (typesKnown ts && bits es)
-  ∷ question 6 (roomy ts ps js r)
-  ∷ question 7 (allSound (frameOf ts ps js es))
-  ∷ [])
+    (question 3 (fewEach (length ts) (pairCount ps) (pairCount js))
+    ∷ question 4 (even ps && even js && eqb (length es) (pairCount js))
+    ∷ question 5 (typesKnown ts && bits es)
+    ∷ question 6 (roomy ts ps js r)
+    ∷ question 7 (allSound (frameOf ts ps js es))
+    ∷ [])
 
 -- ---- parents: links from body to body
 
