@@ -1,3 +1,6 @@
 pub mod Counts
 pub mod Joins
 pub mod Theorem
+pub mod Roots
+pub mod Tables
+pub mod Joining

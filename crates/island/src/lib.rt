@@ -1,1 +1,186 @@
-// island
+// Islands: the sets of dynamic bodies that live constraints connect, and the labels of bodies, manifolds and joints.
+// Every table is lent by the caller; a call that is refused says so by the number of the first question that got a "no".
+ghost use mathlib.Core.Path.{_≡_};
+ghost use mathlib.Core.Bool.{true, cond, _||_};
+ghost use mathlib.Core.List.{map, _∷_, []};
+ghost use Prim.Native.Nat.{ℕ, _+_, _<_, _≤_};
+ghost use lib.Dec.{eqb};
+ghost use lib.ListN.{length, getD, set, replicate};
+ghost use Rattle.lists.specs.Basics.{all, range};
+ghost use Rattle.frame.specs.Frames.{constraint, constraintsOf, sound, none};
+ghost use Rattle.island.specs.Islands.{merge, join, edgesOf};
+ghost use Rattle.island.specs.Calls.{rootOf};
+ghost use Rattle.island.specs.Steps.{bare, Falls, Joined, marked, Together, nextLabel, nextCount, Numbered, labelBy};
+
+// The label of what has no island.
+const NONE: u16 = 65535;
+
+// How many islands there are, or the number of the first question that got a "no".
+pub enum Answer {
+    Islands(u16),
+    Refused(u8),
+}
+
+// Where the links of `body` end.
+fn root_of(parents: &[u16], body: u16) -> u16
+    requires { ⌜ Falls (now parents) × (body < length (now parents)) ⌝ }
+    ensures { λ r. ⌜ r ≡ rootOf (now (parents .entry)) body ⌝ }
+{
+    let mut root = body;
+    loop {
+        let parent = parents[root as usize];
+        if parent == root {
+            break;
+        }
+        root = parent;
+    }
+    root
+}
+
+// Every body on the way from `start` to its root is linked to that root.
+fn compress(parents: &mut [u16], start: u16, root: u16)
+    requires { ⌜ Falls (now parents) × (start < length (now parents)) × (root ≡ rootOf (now parents) start) ⌝ }
+    ensures { λ _. ⌜ Falls (now (parents .exit)) × (rootOf (now (parents .exit)) ≡ rootOf (now (parents .entry))) ⌝ }
+{
+    let mut body = start;
+    while body != root {
+        let parent = parents[body as usize];
+        parents[body as usize] = root;
+        body = parent;
+    }
+}
+
+// The root of `body`, with the way to it compressed.
+fn find(parents: &mut [u16], body: u16) -> u16
+    requires { ⌜ Falls (now parents) × (body < length (now parents)) ⌝ }
+    ensures { λ r. ⌜ (r ≡ rootOf (now (parents .entry)) body) × Falls (now (parents .exit)) × (rootOf (now (parents .exit)) ≡ rootOf (now (parents .entry))) ⌝ }
+{
+    let root = root_of(parents, body);
+    compress(parents, body, root);
+    root
+}
+
+// The sets of `left` and `right` become one, whose root is the lower of the two roots.
+fn union(parents: &mut [u16], left: u16, right: u16)
+    requires { ⌜ Falls (now parents) × (left < length (now parents)) × (right < length (now parents)) ⌝ }
+    ensures { λ _. ⌜ Falls (now (parents .exit)) × (rootOf (now (parents .exit)) ≡ merge (rootOf (now (parents .entry))) left right) ⌝ }
+{
+    let root_left = find(parents, left);
+    let root_right = find(parents, right);
+    if root_left < root_right {
+        parents[root_right as usize] = root_left;
+    } else {
+        parents[root_left as usize] = root_right;
+    }
+}
+
+// Every place none.
+fn fill_none(labels: &mut [u16])
+    ensures { λ _. ⌜ now (labels .exit) ≡ replicate (length (now (labels .entry))) none ⌝ }
+{
+    let mut i = 0;
+    while i < labels.len() {
+        labels[i] = NONE;
+        i += 1;
+    }
+}
+
+// Every body its own parent.
+fn fill_self(parents: &mut [u16])
+    requires { ⌜ length (now parents) ≤ 4096 ⌝ }
+    ensures { λ _. ⌜ now (parents .exit) ≡ range (length (now (parents .entry))) ⌝ }
+{
+    let mut body = 0;
+    while body < parents.len() {
+        parents[body] = body as u16;
+        body += 1;
+    }
+}
+
+// Two bodies are joined if both are dynamic.
+fn join_dynamic(body_types: &[u8], parents: &mut [u16], a: u16, b: u16)
+    requires { ⌜ Falls (now parents) × (length (now parents) ≡ length (now «body_types»)) × (a < length (now «body_types»)) × (b < length (now «body_types»)) ⌝ }
+    ensures { λ _. ⌜ Falls (now (parents .exit)) × (rootOf (now (parents .exit)) ≡ join (rootOf (now (parents .entry))) (edgesOf (bare (now («body_types» .entry))) (constraint true a b))) ⌝ }
+{
+    let both = (body_types[a as usize] == 2) & (body_types[b as usize] == 2);
+    if !both {
+        return;
+    }
+    union(parents, a, b);
+}
+
+// Two bodies are marked: label 0 where the numbering will put their island's.
+fn mark(body_islands: &mut [u16], a: u16, b: u16)
+    requires { ⌜ (a < length (now «body_islands»)) × (b < length (now «body_islands»)) ⌝ }
+    ensures { λ _. ⌜ now («body_islands» .exit) ≡ set (set (now («body_islands» .entry)) a 0) b 0 ⌝ }
+{
+    body_islands[a as usize] = 0;
+    body_islands[b as usize] = 0;
+}
+
+// Whether constraint `i` is live: it has no enabled byte, or a byte 1.
+fn live_at(enabled: &[u8], i: usize) -> bool
+    ensures { λ r. ⌜ r ≡ eqb (getD (now (enabled .entry)) i 1) 1 ⌝ }
+{
+    if i < enabled.len() {
+        return enabled[i] == 1;
+    }
+    true
+}
+
+// Question 7 of one constraint.
+fn sound_one(bodies: usize, live: bool, a: u16, b: u16) -> bool
+    ensures { λ r. ⌜ r ≡ sound bodies (constraint live a b) ⌝ }
+{
+    if !live {
+        return true;
+    }
+    ((a as usize) < bodies) & ((b as usize) < bodies) & (a != b)
+}
+
+// One constraint is asked question 7; if it is live and passes, it marks its two bodies and joins them.
+fn join_one(
+    body_types: &[u8],
+    parents: &mut [u16],
+    body_islands: &mut [u16],
+    live: bool,
+    a: u16,
+    b: u16,
+) -> bool
+    requires { ⌜ Falls (now parents) × (length (now parents) ≡ length (now «body_types»)) × (length (now «body_islands») ≡ length (now «body_types»)) ⌝ }
+    ensures { λ r. ⌜ (r ≡ sound (length (now («body_types» .entry))) (constraint live a b)) × (r ≡ true → Joined (now («body_types» .entry)) (constraint live a b ∷ []) (now (parents .entry)) (now («body_islands» .entry)) (now (parents .exit)) (now («body_islands» .exit))) ⌝ }
+{
+    if !sound_one(body_types.len(), live, a, b) {
+        return false;
+    }
+    if !live {
+        return true;
+    }
+    mark(body_islands, a, b);
+    join_dynamic(body_types, parents, a, b);
+    true
+}
+
+// Every constraint of a list, up to the first that does not pass question 7.
+fn join_all(
+    body_types: &[u8],
+    pairs: &[u16],
+    enabled: &[u8],
+    parents: &mut [u16],
+    body_islands: &mut [u16],
+) -> bool
+    requires { ⌜ Falls (now parents) × (length (now parents) ≡ length (now «body_types»)) × (length (now «body_islands») ≡ length (now «body_types»)) ⌝ }
+    ensures { λ r. ⌜ (r ≡ all (sound (length (now («body_types» .entry)))) (constraintsOf (now (pairs .entry)) (now (enabled .entry)))) × (r ≡ true → Joined (now («body_types» .entry)) (constraintsOf (now (pairs .entry)) (now (enabled .entry))) (now (parents .entry)) (now («body_islands» .entry)) (now (parents .exit)) (now («body_islands» .exit))) ⌝ }
+{
+    let mut k: usize = 0;
+    let mut i: usize = 0;
+    while k + 1 < pairs.len() {
+        let live = live_at(enabled, i);
+        if !join_one(body_types, parents, body_islands, live, pairs[k], pairs[k + 1]) {
+            return false;
+        }
+        k += 2;
+        i += 1;
+    }
+    true
+}
