@@ -65,6 +65,14 @@ mark-two l a b x h k =
   ∙ either (eqb x a) (eqb x b) (getD l x none)
 
 -- ---- one constraint
+
+-- a live constraint that passes question 7 has both its bodies below n
+pub sound-in : (t : Bool) (a b n : ℕ) → t ≡ true → sound n (constraint t a b) ≡ true → (a < n) × (b < n)
+sound-in t a b n e s =
+  let h : (ltb a n && ltb b n && not (eqb a b)) ≡ true = sound-live n t a b e ∙ s in
+  let two = and-left (ltb a n && ltb b n) (not (eqb a b)) h in
+  (ltb-true a n (and-left (ltb a n) (ltb b n) two), ltb-true b n (and-right (ltb a n) (ltb b n) two))
+
 module _ (ts p l : List ℕ) (t : Bool) (a b : ℕ) where
   pub joined-dead : Falls p → t ≡ false → Joined ts (constraint t a b ∷ []) p l p l
   unfolding edges edgesOf on
@@ -79,12 +87,6 @@ module _ (ts p l : List ℕ) (t : Bool) (a b : ℕ) where
     roots = rw e (r ∙ ap (join (rootOf p)) (sym (append-nil (edgesOf (bare ts) (constraint true a b)))));
     marks = λ x. rw e (ap (λ (k : List ℕ). getD k x none) m ∙ mark-two l a b x ha hb);
   }
-
-  pub sound-in : (n : ℕ) → t ≡ true → sound n (constraint t a b) ≡ true → (a < n) × (b < n)
-  sound-in n e s =
-    let h : (ltb a n && ltb b n && not (eqb a b)) ≡ true = sound-live n t a b e ∙ s in
-    let two = and-left (ltb a n && ltb b n) (not (eqb a b)) h in
-    (ltb-true a n (and-left (ltb a n) (ltb b n) two), ltb-true b n (and-right (ltb a n) (ltb b n) two))
 
 -- ---- two lists of constraints together
 module _ {A : Type 0} (q : A → Bool) where

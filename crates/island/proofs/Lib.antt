@@ -4,3 +4,5 @@ pub mod Theorem
 pub mod Roots
 pub mod Tables
 pub mod Joining
+pub mod Numbering
+pub mod Labelling

@@ -7,7 +7,7 @@ ghost use Prim.Native.Nat.{ℕ, _+_, _<_, _≤_};
 ghost use lib.Dec.{eqb};
 ghost use lib.ListN.{length, getD, set, replicate};
 ghost use Rattle.lists.specs.Basics.{all, range};
-ghost use Rattle.frame.specs.Frames.{constraint, constraintsOf, sound, none};
+ghost use Rattle.frame.specs.Frames.{constraint, constraints, constraintsOf, frameOf, sound, allSound, none};
 ghost use Rattle.island.specs.Islands.{merge, join, edgesOf};
 ghost use Rattle.island.specs.Calls.{rootOf};
 ghost use Rattle.island.specs.Steps.{bare, Falls, Joined, marked, Together, nextLabel, nextCount, Numbered, labelBy};
@@ -183,4 +183,97 @@ fn join_all(
         i += 1;
     }
     true
+}
+
+// Every constraint of a frame.
+fn join_frame(
+    body_types: &[u8],
+    manifolds: &[u16],
+    joints: &[u16],
+    enabled: &[u8],
+    parents: &mut [u16],
+    body_islands: &mut [u16],
+) -> bool
+    requires { ⌜ Falls (now parents) × (length (now parents) ≡ length (now «body_types»)) × (length (now «body_islands») ≡ length (now «body_types»)) ⌝ }
+    ensures { λ r. ⌜ (r ≡ allSound (frameOf (now («body_types» .entry)) (now (manifolds .entry)) (now (joints .entry)) (now (enabled .entry)))) × (r ≡ true → Joined (now («body_types» .entry)) (constraints (frameOf (now («body_types» .entry)) (now (manifolds .entry)) (now (joints .entry)) (now (enabled .entry)))) (now (parents .entry)) (now («body_islands» .entry)) (now (parents .exit)) (now («body_islands» .exit))) ⌝ }
+{
+    if !join_all(body_types, manifolds, &enabled[..0], parents, body_islands) {
+        return false;
+    }
+    join_all(body_types, joints, enabled, parents, body_islands)
+}
+
+// A marked dynamic body gets the next number if it is its own parent, and its parent's number if not; any other body none.
+// Answers how many islands there are so far.
+fn number_one(
+    body_types: &[u8],
+    parents: &[u16],
+    body_islands: &mut [u16],
+    body: usize,
+    count: u16,
+) -> u16
+    requires { ⌜ Falls (now parents) × (length (now parents) ≡ length (now «body_types»)) × (length (now «body_islands») ≡ length (now «body_types»)) × (body < length (now «body_types»)) × (count ≤ 4096) ⌝ }
+    ensures { λ r. ⌜ (r ≡ nextCount (now («body_types» .entry)) (now (parents .entry)) (now («body_islands» .entry)) body count) × (now («body_islands» .exit) ≡ set (now («body_islands» .entry)) body (nextLabel (now («body_types» .entry)) (now (parents .entry)) (now («body_islands» .entry)) body count)) ⌝ }
+{
+    if body_islands[body] == NONE {
+        return count;
+    }
+    if body_types[body] != 2 {
+        body_islands[body] = NONE;
+        return count;
+    }
+    let parent = parents[body] as usize;
+    if parent == body {
+        body_islands[body] = count;
+        return count + 1;
+    }
+    body_islands[body] = body_islands[parent];
+    count
+}
+
+// The marked dynamic bodies get their island's number, in rising order: a parent is lower, so it has its number already.
+// Answers how many islands there are.
+fn number(body_types: &[u8], parents: &[u16], body_islands: &mut [u16]) -> u16
+    requires { ⌜ Falls (now parents) × (length (now parents) ≡ length (now «body_types»)) × (length (now «body_islands») ≡ length (now «body_types»)) × (length (now «body_types») ≤ 4096) × Together (marked (now «body_types») (now «body_islands»)) (rootOf (now parents)) ⌝ }
+    ensures { λ r. ⌜ Numbered (marked (now («body_types» .entry)) (now («body_islands» .entry))) (rootOf (now (parents .entry))) (length (now («body_types» .entry))) r (now («body_islands» .exit)) ⌝ }
+{
+    let mut islands: u16 = 0;
+    let mut body = 0;
+    while body < body_islands.len() {
+        islands = number_one(body_types, parents, body_islands, body, islands);
+        body += 1;
+    }
+    islands
+}
+
+// The label of one constraint: none if it is not live, else the lower of its bodies' labels. Two dynamic bodies have the
+// same, and any other body has none, above every label.
+fn label_one(body_islands: &[u16], live: bool, a: u16, b: u16) -> u16
+    requires { ⌜ sound (length (now «body_islands»)) (constraint live a b) ≡ true ⌝ }
+    ensures { λ r. ⌜ r ≡ labelBy (now («body_islands» .entry)) (constraint live a b) ⌝ }
+{
+    if !live {
+        return NONE;
+    }
+    let island_a = body_islands[a as usize];
+    let island_b = body_islands[b as usize];
+    if island_a < island_b {
+        return island_a;
+    }
+    island_b
+}
+
+// The label of each constraint of a list.
+fn label_all(pairs: &[u16], enabled: &[u8], body_islands: &[u16], labels: &mut [u16])
+    requires { ⌜ (length (now labels) ≡ length (constraintsOf (now pairs) (now enabled))) × (all (sound (length (now «body_islands»))) (constraintsOf (now pairs) (now enabled)) ≡ true) ⌝ }
+    ensures { λ _. ⌜ now (labels .exit) ≡ map (labelBy (now («body_islands» .entry))) (constraintsOf (now (pairs .entry)) (now (enabled .entry))) ⌝ }
+{
+    let mut k: usize = 0;
+    let mut i: usize = 0;
+    while k + 1 < pairs.len() {
+        let live = live_at(enabled, i);
+        labels[i] = label_one(body_islands, live, pairs[k], pairs[k + 1]);
+        k += 2;
+        i += 1;
+    }
 }

@@ -17,7 +17,7 @@ start c = c .before .before .before .before .before .before
 inside : (c : tie.Else2) → (start c .args .a < length (start c .args .body-types .now)) × (start c .args .b < length (start c .args .body-types .now))
 inside c =
   let a = start c .args in
-  sound-in (a .body-types .now) (a .parents .now) (a .body-islands .now) (a .live) (a .a) (a .b) (length (a .body-types .now)) (not-false _ (c .if2 .left)) (sym (c .before .before .sound-one .ensures) ∙ not-false _ (c .before .if1 .left))
+  sound-in (a .live) (a .a) (a .b) (length (a .body-types .now)) (not-false _ (c .if2 .left)) (sym (c .before .before .sound-one .ensures) ∙ not-false _ (c .before .if1 .left))
 
 sound-one-requires : tie.Need-sound-one-requires
 sound-one-requires c κs = search needs
