@@ -1,14 +1,14 @@
 -- What the steps of a build leave: only the private functions' contracts cite these.
 use Prim.Native.Nat.{ℕ, _+_, _≤_, min}
 use mathlib.Core.Path.{_≡_}
-use mathlib.Core.Bool.{Bool, not, _&&_, cond}
-use mathlib.Core.List.{List, [], _∷_}
+use mathlib.Core.Bool.{Bool, true, false, not, _&&_, cond}
+use mathlib.Core.List.{List, [], _∷_, map}
 use lib.Dec.{eqb}
-use lib.ListN.{length, getD, set}
+use lib.ListN.{length, getD, replicate}
 use Rattle.lists.specs.Basics.{any, count, range}
-use Rattle.frame.specs.Frames.{Constraint, Frame, frameOf, dynamic, on, none}
-use Rattle.island.specs.Islands.{join, edges}
-use Rattle.island.specs.Calls.{link, rootOf}
+use Rattle.frame.specs.Frames.{Constraint, Frame, frameOf, constraints, bodies, dynamic, on, allSound, none}
+use Rattle.island.specs.Islands.{join, edges, lowest, islandCount, bodyLabel, label}
+use Rattle.island.specs.Calls.{link, rootOf, Parents}
 
 -- a frame's bodies alone
 abbrev pub bare : List ℕ → Frame
@@ -57,3 +57,30 @@ least l (x ∷ xs) = min (getD l x none) (least l xs)
 
 abbrev pub labelBy : List ℕ → Constraint → ℕ
 labelBy l c = cond (c .live) (least l (c .ends)) none
+
+-- ---- a frame on tables of just its sizes
+
+-- its constraints are sound, joined and marked
+pub record Ready (f : Frame) (p b m j : List ℕ) : Type 0 where
+  pub few : length (f .types) ≤ 4096
+  pub long-parents : length p ≡ length (f .types)
+  pub long-bodies : length b ≡ length (f .types)
+  pub long-manifolds : length m ≡ length (f .manifolds)
+  pub long-joints : length j ≡ length (f .joints)
+  pub passed : allSound f ≡ true
+  pub falls : Falls p
+  pub roots : rootOf p ≡ lowest f
+  pub marks : (x : ℕ) → getD b x none ≡ cond (any (on x) (constraints f)) 0 none
+
+-- its labels
+pub record Labelled (f : Frame) (b m j : List ℕ) (islands : ℕ) : Type 0 where
+  pub count : islands ≡ islandCount f
+  pub body-labels : b ≡ map (bodyLabel f) (bodies f)
+  pub manifold-labels : m ≡ map (label f) (f .manifolds)
+  pub joint-labels : j ≡ map (label f) (f .joints)
+
+-- what is left of it, ok saying whether it passes question 7
+pub record Laid (f : Frame) (ok : Bool) (p b m j : List ℕ) (number islands : ℕ) : Type 0 where
+  pub refusal : number ≡ cond ok 0 7
+  pub accepted : ok ≡ true → Parents f p × Labelled f b m j islands
+  pub refused : ok ≡ false → (islands ≡ 0) × (p ≡ bodies f) × (b ≡ replicate (length (f .types)) none) × (m ≡ replicate (length (f .manifolds)) none) × (j ≡ replicate (length (f .joints)) none)

@@ -10,7 +10,7 @@ ghost use Rattle.lists.specs.Basics.{all, range};
 ghost use Rattle.frame.specs.Frames.{constraint, constraints, constraintsOf, frameOf, sound, allSound, none};
 ghost use Rattle.island.specs.Islands.{merge, join, edgesOf};
 ghost use Rattle.island.specs.Calls.{rootOf};
-ghost use Rattle.island.specs.Steps.{bare, Falls, Joined, marked, Together, nextLabel, nextCount, Numbered, labelBy};
+ghost use Rattle.island.specs.Steps.{bare, Falls, Joined, Ready, marked, Together, nextLabel, nextCount, Numbered, labelBy, Labelled, Laid};
 
 // The label of what has no island.
 const NONE: u16 = 65535;
@@ -276,4 +276,33 @@ fn label_all(pairs: &[u16], enabled: &[u8], body_islands: &[u16], labels: &mut [
         k += 2;
         i += 1;
     }
+}
+
+// Every body its own parent, and no body marked.
+fn reset(parents: &mut [u16], body_islands: &mut [u16])
+    requires { ⌜ length (now parents) ≤ 4096 ⌝ }
+    ensures { λ _. ⌜ (now (parents .exit) ≡ range (length (now (parents .entry)))) × (now («body_islands» .exit) ≡ replicate (length (now («body_islands» .entry))) none) ⌝ }
+{
+    fill_self(parents);
+    fill_none(body_islands);
+}
+
+// The labels of a frame whose constraints are joined and marked. Answers how many islands there are.
+fn label_frame(
+    body_types: &[u8],
+    manifolds: &[u16],
+    joints: &[u16],
+    enabled: &[u8],
+    parents: &[u16],
+    body_islands: &mut [u16],
+    manifold_islands: &mut [u16],
+    joint_islands: &mut [u16],
+) -> u16
+    requires { ⌜ Ready (frameOf (now «body_types») (now manifolds) (now joints) (now enabled)) (now parents) (now «body_islands») (now «manifold_islands») (now «joint_islands») ⌝ }
+    ensures { λ r. ⌜ Labelled (frameOf (now («body_types» .entry)) (now (manifolds .entry)) (now (joints .entry)) (now (enabled .entry))) (now («body_islands» .exit)) (now («manifold_islands» .exit)) (now («joint_islands» .exit)) r ⌝ }
+{
+    let islands = number(body_types, parents, body_islands);
+    label_all(manifolds, &enabled[..0], body_islands, manifold_islands);
+    label_all(joints, enabled, body_islands, joint_islands);
+    islands
 }
