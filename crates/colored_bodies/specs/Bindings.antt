@@ -19,10 +19,10 @@ lastBelow n (x ∷ y ∷ ys) = lastBelow n (y ∷ ys)
 
 unfoldable pub bindRefusal : List ℕ → List ℕ → ℕ
 bindRefusal types bs = asked
-  ( question 3 (leb (length types) 4096)
-  ∷ question 5 (typesKnown types)
-  ∷ question 8 (rises bs && lastBelow (length types) bs)
-  ∷ [])
+    (question 3 (leb (length types) 4096)
+    ∷ question 5 (typesKnown types)
+    ∷ question 8 (rises bs && lastBelow (length types) bs)
+    ∷ [])
 
 -- a dynamic body is held (1), any other read-only (0)
 abbrev pub markOf : List ℕ → ℕ → ℕ
@@ -88,5 +88,5 @@ unfoldable pub takeOf : BodyBinding → List ℕ → Taking
 takeOf b ps = record {
   refusal = takeRefusal b ps;
   handed = cond (eqb (takeRefusal b ps) 0) (map (handedAt b) ps) [];
-  after = record { bodies = b .bodies; marks = takeMarks b ps; count = b .count }
-  }
+  after = record { bodies = b .bodies; marks = takeMarks b ps; count = b .count };
+}

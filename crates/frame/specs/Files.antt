@@ -64,11 +64,11 @@ decode bs = frameOf (typesIn bs) (manifoldsIn bs) (jointsIn bs) (enabledIn bs)
 -- questions 1 to 4 look at the sizes, 5 at the bytes
 abbrev pub sizeQuestions : List ℕ → List Question
 sizeQuestions bs =
-  question 1 (ltb 0 (length bs) && eqb (byte bs 0) 1)
-  ∷ question 2 (leb 11 (length bs) && eqb (word bs 1) (length bs - 5))
-  ∷ question 3 (fewEach (countB bs) (countM bs) (countJ bs))
-  ∷ question 4 (eqb (word bs 1) (6 + countB bs + 4 * countM bs + 5 * countJ bs))
-  ∷ []
+    question 1 (ltb 0 (length bs) && eqb (byte bs 0) 1)
+    ∷ question 2 (leb 11 (length bs) && eqb (word bs 1) (length bs - 5))
+    ∷ question 3 (fewEach (countB bs) (countM bs) (countJ bs))
+    ∷ question 4 (eqb (word bs 1) (6 + countB bs + 4 * countM bs + 5 * countJ bs))
+    ∷ []
 
 abbrev pub fileQuestions : List ℕ → List Question
 fileQuestions bs = sizeQuestions bs ++ question 5 (typesKnown (typesIn bs) && bits (enabledIn bs)) ∷ []

@@ -92,11 +92,14 @@ degreeMax f = maxOf (degree f) (bodies f)
 -- ---- a frame as a call is lent it: types, endpoint pairs a, b, a, b, .., enabled bytes
 
 -- one constraint a pair, live unless it has an enabled byte that is not 1; a last odd entry is no pair
+abbrev pub constraint : Bool → ℕ → ℕ → Constraint
+constraint live a b = record { ends = a ∷ b ∷ []; live = live }
+
 abbrev pub constraintsOf : List ℕ → List ℕ → List Constraint
 constraintsOf [] es = []
 constraintsOf (a ∷ []) es = []
-constraintsOf (a ∷ b ∷ r) [] = record { ends = a ∷ b ∷ []; live = true } ∷ constraintsOf r []
-constraintsOf (a ∷ b ∷ r) (e ∷ es) = record { ends = a ∷ b ∷ []; live = eqb e 1 } ∷ constraintsOf r es
+constraintsOf (a ∷ b ∷ r) [] = constraint true a b ∷ constraintsOf r []
+constraintsOf (a ∷ b ∷ r) (e ∷ es) = constraint (eqb e 1) a b ∷ constraintsOf r es
 
 -- the frame of types, manifold pairs, joint pairs and the joints' enabled bytes
 abbrev pub frameOf : List ℕ → List ℕ → List ℕ → List ℕ → Frame

@@ -1,3 +1,4 @@
 pub mod Frames
 pub mod Questions
 pub mod Files
+pub mod Answers

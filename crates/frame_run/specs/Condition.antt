@@ -43,7 +43,7 @@ pub record Condition3 (bs : List ℕ) (f : Frame) (o : Orders) : Type 0 where
   pub few : (i : ℕ) → i < islandCount f → planAt f i .groups ≤ 2 * degreeMax f - 1
   -- a disabled joint is on no body, touches none, has no island and is never taken
   pub disabled : (n : ℕ) → constraintAt f n .live ≡ false
-    → ((b : ℕ) → on b (constraintAt f n) ≡ false) × (touches f (constraintAt f n) ≡ false) × (label f (constraintAt f n) ≡ none) × (takesOn n (schedule f o) ≡ 0)
+      → ((b : ℕ) → on b (constraintAt f n) ≡ false) × (touches f (constraintAt f n) ≡ false) × (label f (constraintAt f n) ≡ none) × (takesOn n (schedule f o) ≡ 0)
   -- the run reports these numbers, and a turn for each take of the schedule with rising members
   pub report : runOf bs true ≡ record {
     refusal = 0;
@@ -51,8 +51,8 @@ pub record Condition3 (bs : List ℕ) (f : Frame) (o : Orders) : Type 0 where
     turns = turnCount f;
     takes = degreeSum f;
     degree = degreeMax f;
-    table = joinMap turnOf (schedule f (rising f))
-    }
+    table = joinMap turnOf (schedule f (rising f));
+  }
 
 -- the claim, of every file that is accepted
 abbrev pub Claim : Type 0

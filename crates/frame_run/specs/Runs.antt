@@ -41,8 +41,8 @@ boundAt f i k = bindOf (f .types) (bodiesAt f i k)
 -- a take asks for its constraint's positions, by its rank r in the island, and takes them
 unfoldable pub takeRank : Plan → BodyBinding → ℕ → Taking
 takeRank p b r =
-  let q = positionsRefusal (p .constraints) (p .positions) r in
-  cond (eqb q 0) (takeOf b (positionsAt (p .positions) r)) (record { refusal = q; handed = []; after = b })
+    let q = positionsRefusal (p .constraints) (p .positions) r in
+    cond (eqb q 0) (takeOf b (positionsAt (p .positions) r)) (record { refusal = q; handed = []; after = b })
 
 -- a take that was made: for which island, group and constraint, its refusal or 0, and the bodies it answered
 pub record Call : Type 0 where
@@ -56,9 +56,9 @@ pub record Call : Type 0 where
 unfoldable pub callsFrom : Frame → ℕ → ℕ → BodyBinding → List ℕ → List Call
 callsFrom f i k b [] = []
 callsFrom f i k b (r ∷ rs) =
-  let t = takeRank (planAt f i) b r in
-  record { island = i; group = k; constraint = getD (ofIsland f i) r 0; refusal = t .refusal; handed = t .handed }
-  ∷ callsFrom f i k (t .after) rs
+    let t = takeRank (planAt f i) b r in
+    record { island = i; group = k; constraint = getD (ofIsland f i) r 0; refusal = t .refusal; handed = t .handed }
+    ∷ callsFrom f i k (t .after) rs
 
 -- an order of takes for each island and group
 abbrev pub Orders : Type 0
@@ -98,8 +98,8 @@ reportOf f cs = record {
   turns = length (turnsOf cs);
   takes = takesOf cs;
   degree = degreeMax f;
-  table = joinMap turnOf (turnsOf cs)
-  }
+  table = joinMap turnOf (turnsOf cs);
+}
 
 -- a refusal carries 0 in all four numbers
 abbrev pub refused : ℕ → Report

@@ -1,14 +1,15 @@
 -- Laws of membership tests, of places and of ranges.
 use Prim.Native.Nat.{ℕ, zero, suc, _+_, _-_, _*_, _≤_, _<_, max}
-use mathlib.Core.Path.{_≡_, refl, sym, ap, _∙_, subst}
-use mathlib.Core.Bool.{Bool, true, false, not, _&&_, _||_, or-true, cond}
-use mathlib.Core.Logic.{_≢_}
-use mathlib.Core.List.{List, [], _∷_, _++_, map}
+use mathlib.Core.Path.{_≡_, refl, sym, ap, _∙_}
+use mathlib.Core.Bool.{Bool, true, false, not, _&&_, _||_}
+use mathlib.Core.List.{List, [], _∷_, map}
 use native.Mathlib.Omega.{arith}
 use lib.Dec.{leb, ltb, eqb}
-use lib.ListN.{length, getD}
-use borrow.Author.Tests.{eqb-true, eqb-false, eq-eqb, ne-eqb, ltb-true, ltb-false, lt-ltb, le-ltb, leb-true, le-leb, not-true, leb-false}
-use Rattle.lists.specs.Basics.{one, filter, any, all, sumOf, maxOf, count, joinMap, rangeFrom, range, mem, place, distinct, rises}
+use lib.ListN.{length, getD, drop, drop-of-length-le}
+use lib.Seq.{drop-cons}
+use native.Mathlib.Numerals.{add-one}
+use borrow.Author.Tests.{eqb-true, eqb-false, eq-eqb, ltb-true, lt-ltb, leb-true, le-leb, not-true, leb-false}
+use Rattle.lists.specs.Basics.{one, filter, any, all, sumOf, maxOf, count, rangeFrom, range, mem, place, distinct, rises}
 use Rattle.lists.proofs.Sums.{past, collapse, sum-swap, sum-le, sum-ext, sum-add, sum-null}
 
 -- ---- tests
@@ -110,9 +111,9 @@ sum-one (x ∷ xs) = omega (arith, sum-one xs)
 
 pub pigeonhole : (n : ℕ) (used : List ℕ) → ((i : ℕ) → i < n → mem i used ≡ true) → n ≤ length used
 pigeonhole n used h =
-  let a : sumOf (λ i. 1) (range n) ≤ sumOf (λ i. count (eqb i) used) (range n) = sum-le-in (λ i. 1) (λ i. count (eqb i) used) (range n) (λ i m. hit i (h i (omega (arith, range-high i 0 n m)))) in
-  let b : sumOf (λ x. sumOf (λ i. one (eqb i x)) (range n)) used ≤ sumOf (λ x. 1) used = sum-le (λ x. sumOf (λ i. one (eqb i x)) (range n)) (λ x. 1) used (λ x. at-most-one x 0 n) in
-  omega (arith, sum-one (range n), length-range 0 n, sum-one used, sum-swap (λ i x. one (eqb i x)) (range n) used)
+    let a : sumOf (λ i. 1) (range n) ≤ sumOf (λ i. count (eqb i) used) (range n) = sum-le-in (λ i. 1) (λ i. count (eqb i) used) (range n) (λ i m. hit i (h i (omega (arith, range-high i 0 n m)))) in
+    let b : sumOf (λ x. sumOf (λ i. one (eqb i x)) (range n)) used ≤ sumOf (λ x. 1) used = sum-le (λ x. sumOf (λ i. one (eqb i x)) (range n)) (λ x. 1) used (λ x. at-most-one x 0 n) in
+    omega (arith, sum-one (range n), length-range 0 n, sum-one used, sum-swap (λ i x. one (eqb i x)) (range n) used)
   where
     hit : (i : ℕ) → mem i used ≡ true → 1 ≤ count (eqb i) used
     hit i e = omega (arith, one-any (eqb i) used, ap one e)
@@ -134,16 +135,16 @@ all-getD p d (x ∷ xs) (suc n) e h = all-getD p d xs n e (and-right (p x) (all 
 pub filter-mem : (p : ℕ → Bool) (x : ℕ) (xs : List ℕ) → mem x (filter p xs) ≡ true → (mem x xs ≡ true) × (p x ≡ true)
 filter-mem p x [] h = clashes false h refl
 filter-mem p x (y ∷ ys) h =
-  by-cases (p y)
+    by-cases (p y)
     (λ e. or-cases (eqb x y) (mem x (filter p ys)) (rw e at h)
-      (λ q. (or-left (eqb x y) (mem x ys) q, ap p (eqb-true x y q) ∙ e))
-      (λ k. let o = filter-mem p x ys k in (or-right (eqb x y) (mem x ys) (o .0), o .1)))
+    (λ q. (or-left (eqb x y) (mem x ys) q, ap p (eqb-true x y q) ∙ e))
+    (λ k. let o = filter-mem p x ys k in (or-right (eqb x y) (mem x ys) (o .0), o .1)))
     (λ e. let o = filter-mem p x ys (rw e at h) in (or-right (eqb x y) (mem x ys) (o .0), o .1))
 
 pub mem-filter : (p : ℕ → Bool) (x : ℕ) (xs : List ℕ) → mem x xs ≡ true → p x ≡ true → mem x (filter p xs) ≡ true
 mem-filter p x [] h e = clashes false h refl
 mem-filter p x (y ∷ ys) h e =
-  or-cases (eqb x y) (mem x ys) h
+    or-cases (eqb x y) (mem x ys) h
     (λ q. rw (ap p (sym (eqb-true x y q)) ∙ e) (or-left (eqb x y) (mem x (filter p ys)) q))
     (λ k. by-cases (p y) (λ t. rw t (or-right (eqb x y) (mem x (filter p ys)) (mem-filter p x ys k e))) (λ t. rw t (mem-filter p x ys k e)))
 
@@ -199,7 +200,7 @@ pub get-place : (bs : List ℕ) (i : ℕ) → distinct bs ≡ true → i < lengt
 get-place [] i d h = absurd (omega arith)
 get-place (x ∷ xs) zero d h = rw (eq-eqb x x refl)
 get-place (x ∷ xs) (suc i) d h =
-  by-cases (eqb (getD xs i 0) x)
+    by-cases (eqb (getD xs i 0) x)
     (λ q. clashes (mem x xs) (ap (λ (k : ℕ). mem k xs) (sym (eqb-true (getD xs i 0) x q)) ∙ getD-mem xs i (omega arith)) (not-true (mem x xs) (and-left (not (mem x xs)) (distinct xs) d)))
     (λ q. rw q (ap suc (get-place xs i (and-right (not (mem x xs)) (distinct xs) d) (omega arith))))
 
@@ -207,9 +208,9 @@ get-place (x ∷ xs) (suc i) d h =
 pub distinct-map : (g : ℕ → ℕ) (xs : List ℕ) → ((x y : ℕ) → mem x xs ≡ true → mem y xs ≡ true → g x ≡ g y → x ≡ y) → distinct xs ≡ true → distinct (map g xs) ≡ true
 distinct-map g [] inj d = refl
 distinct-map g (x ∷ xs) inj d =
-  and-both (not (mem (g x) (map g xs))) (distinct (map g xs))
+    and-both (not (mem (g x) (map g xs))) (distinct (map g xs))
     (ap not (not-true-false (mem (g x) (map g xs)) (λ h. let o = map-mem g (g x) xs h in
-      clashes (mem x xs) (ap (λ (k : ℕ). mem k xs) (inj x (o .0) (mem-self x xs) (or-right (eqb (o .0) x) (mem (o .0) xs) (o .1)) (sym (o .2))) ∙ o .1) (not-true (mem x xs) (and-left (not (mem x xs)) (distinct xs) d)))))
+    clashes (mem x xs) (ap (λ (k : ℕ). mem k xs) (inj x (o .0) (mem-self x xs) (or-right (eqb (o .0) x) (mem (o .0) xs) (o .1)) (sym (o .2))) ∙ o .1) (not-true (mem x xs) (and-left (not (mem x xs)) (distinct xs) d)))))
     (distinct-map g xs (λ y z m n e. inj y z (or-right (eqb y x) (mem y xs) m) (or-right (eqb z x) (mem z xs) n) e) (and-right (not (mem x xs)) (distinct xs) d))
 
 -- ---- counts
@@ -222,16 +223,16 @@ mem-count n xs e = omega (arith, one-any (eqb n) xs, ap one e)
 pub distinct-count : (n : ℕ) (xs : List ℕ) → distinct xs ≡ true → count (eqb n) xs ≤ 1
 distinct-count n [] d = omega arith
 distinct-count n (x ∷ xs) d =
-  by-cases (eqb n x)
+    by-cases (eqb n x)
     (λ e. rw e (by-cases (mem n xs)
-      (λ m. clashes (mem x xs) (ap (λ (k : ℕ). mem k xs) (sym (eqb-true n x e)) ∙ m) (not-true (mem x xs) (and-left (not (mem x xs)) (distinct xs) d)))
-      (λ m. by-cases (leb 1 (count (eqb n) xs)) (λ t. clashes (mem n xs) (count-any (eqb n) xs (leb-true 1 (count (eqb n) xs) t)) m) (λ t. omega (arith, leb-false 1 (count (eqb n) xs) t)))))
+    (λ m. clashes (mem x xs) (ap (λ (k : ℕ). mem k xs) (sym (eqb-true n x e)) ∙ m) (not-true (mem x xs) (and-left (not (mem x xs)) (distinct xs) d)))
+    (λ m. by-cases (leb 1 (count (eqb n) xs)) (λ t. clashes (mem n xs) (count-any (eqb n) xs (leb-true 1 (count (eqb n) xs) t)) m) (λ t. omega (arith, leb-false 1 (count (eqb n) xs) t)))))
     (λ e. rw e (omega (arith, distinct-count n xs (and-right (not (mem x xs)) (distinct xs) d))))
 
 pub count-distinct : (xs : List ℕ) → ((n : ℕ) → count (eqb n) xs ≤ 1) → distinct xs ≡ true
 count-distinct [] h = refl
 count-distinct (x ∷ xs) h =
-  and-both (not (mem x xs)) (distinct xs)
+    and-both (not (mem x xs)) (distinct xs)
     (ap not (not-true-false (mem x xs) (λ m. omega (arith, mem-count x xs m, h x, ap one (eq-eqb x x refl)))))
     (count-distinct xs (λ n. omega (arith, h n)))
 
@@ -242,16 +243,16 @@ range-rises a b (suc n) h = and-both (leb a b) (all (λ x. leb a x) (rangeFrom (
 pub rises-filter : (p : ℕ → Bool) (a n : ℕ) → rises (filter p (rangeFrom a n)) ≡ true
 rises-filter p a zero = refl
 rises-filter p a (suc n) =
-  by-cases (p a)
+    by-cases (p a)
     (λ e. rw e (and-both (all (ltb a) (filter p (rangeFrom (suc a) n))) (rises (filter p (rangeFrom (suc a) n)))
-      (all-intro (ltb a) (filter p (rangeFrom (suc a) n)) (λ x m. lt-ltb a x (omega (arith, range-low x (suc a) n (filter-mem p x (rangeFrom (suc a) n) m .0)))))
-      (rises-filter p (suc a) n)))
+    (all-intro (ltb a) (filter p (rangeFrom (suc a) n)) (λ x m. lt-ltb a x (omega (arith, range-low x (suc a) n (filter-mem p x (rangeFrom (suc a) n) m .0)))))
+    (rises-filter p (suc a) n)))
     (λ e. rw e (rises-filter p (suc a) n))
 
 pub rises-distinct : (xs : List ℕ) → rises xs ≡ true → distinct xs ≡ true
 rises-distinct [] h = refl
 rises-distinct (x ∷ xs) h =
-  and-both (not (mem x xs)) (distinct xs)
+    and-both (not (mem x xs)) (distinct xs)
     (ap not (not-true-false (mem x xs) (λ m. omega (arith, ltb-true x x (all-in (ltb x) x xs m (and-left (all (ltb x) xs) (rises xs) h))))))
     (rises-distinct xs (and-right (all (ltb x) xs) (rises xs) h))
 
@@ -263,29 +264,50 @@ filter-length-le p (x ∷ xs) = by-cases (p x) (λ e. rw e (omega (arith, filter
 pub sum-distinct : (g : ℕ → ℕ) (n : ℕ) (xs : List ℕ) → distinct xs ≡ true → all (λ x. ltb x n) xs ≡ true → sumOf g xs ≡ sumOf (λ b. one (mem b xs) * g b) (range n)
 sum-distinct g n [] d l = sym (sum-null (λ b. 0 * g b) (range n) (λ b. omega arith))
 sum-distinct g n (x ∷ xs) d l =
-  let a = collapse g x 0 n (omega arith) (omega (arith, ltb-true x n (and-left (ltb x n) (all (λ y. ltb y n) xs) l))) in
-  let b = sum-distinct g n xs (and-right (not (mem x xs)) (distinct xs) d) (and-right (ltb x n) (all (λ y. ltb y n) xs) l) in
-  let c = sum-add (λ m. one (eqb m x) * g m) (λ m. one (mem m xs) * g m) (range n) in
-  let e = sum-ext (λ m. one (mem m (x ∷ xs)) * g m) (λ m. one (eqb m x) * g m + one (mem m xs) * g m) (range n) each in
-  omega arith
+    let a = collapse g x 0 n (omega arith) (omega (arith, ltb-true x n (and-left (ltb x n) (all (λ y. ltb y n) xs) l))) in
+    let b = sum-distinct g n xs (and-right (not (mem x xs)) (distinct xs) d) (and-right (ltb x n) (all (λ y. ltb y n) xs) l) in
+    let c = sum-add (λ m. one (eqb m x) * g m) (λ m. one (mem m xs) * g m) (range n) in
+    let e = sum-ext (λ m. one (mem m (x ∷ xs)) * g m) (λ m. one (eqb m x) * g m + one (mem m xs) * g m) (range n) each in
+    omega arith
   where
     each : (m : ℕ) → one (mem m (x ∷ xs)) * g m ≡ one (eqb m x) * g m + one (mem m xs) * g m
     each m = by-cases (eqb m x)
-      (λ e. rw (e, ap (λ (k : ℕ). mem k xs) (eqb-true m x e) ∙ not-true (mem x xs) (and-left (not (mem x xs)) (distinct xs) d)) (omega arith))
-      (λ e. rw e (omega arith))
+        (λ e. rw (e, ap (λ (k : ℕ). mem k xs) (eqb-true m x e) ∙ not-true (mem x xs) (and-left (not (mem x xs)) (distinct xs) d)) (omega arith))
+        (λ e. rw e (omega arith))
 
 -- lists of the same numbers have the same sums
 spread : (g : ℕ → ℕ) (n : ℕ) (xs : List ℕ) → maxOf suc xs ≤ n → sumOf g xs ≡ sumOf (λ m. count (eqb m) xs * g m) (range n)
 spread g n [] l = sym (sum-null (λ b. 0 * g b) (range n) (λ b. omega arith))
 spread g n (x ∷ xs) l =
-  let a = collapse g x 0 n (omega arith) (omega arith) in
-  let b = spread g n xs (omega arith) in
-  let c = sum-add (λ m. one (eqb m x) * g m) (λ m. count (eqb m) xs * g m) (range n) in
-  let e = sum-ext (λ m. count (eqb m) (x ∷ xs) * g m) (λ m. one (eqb m x) * g m + count (eqb m) xs * g m) (range n) (λ m. omega arith) in
-  omega arith
+    let a = collapse g x 0 n (omega arith) (omega arith) in
+    let b = spread g n xs (omega arith) in
+    let c = sum-add (λ m. one (eqb m x) * g m) (λ m. count (eqb m) xs * g m) (range n) in
+    let e = sum-ext (λ m. count (eqb m) (x ∷ xs) * g m) (λ m. one (eqb m x) * g m + count (eqb m) xs * g m) (range n) (λ m. omega arith) in
+    omega arith
 
 pub same-sum : (g : ℕ → ℕ) (xs ys : List ℕ) → ((n : ℕ) → count (eqb n) xs ≡ count (eqb n) ys) → sumOf g xs ≡ sumOf g ys
 same-sum g xs ys h =
-  let n = max (maxOf suc xs) (maxOf suc ys) in
-  omega (arith, spread g n xs (omega arith), spread g n ys (omega arith),
-    sum-ext (λ m. count (eqb m) xs * g m) (λ m. count (eqb m) ys * g m) (range n) (λ m. ap (λ (k : ℕ). k * g m) (h m)))
+    let n = max (maxOf suc xs) (maxOf suc ys) in
+    omega (
+      arith,
+      spread g n xs (omega arith),
+      spread g n ys (omega arith),
+      sum-ext (λ m. count (eqb m) xs * g m) (λ m. count (eqb m) ys * g m) (range n) (λ m. ap (λ (k : ℕ). k * g m) (h m)),
+    )
+
+-- ---- scans: all of the rest, from place i on
+module _ {A : Type 0} (p : A → Bool) (xs : List A) (i : ℕ) (d : A) where
+  pub all-stop : i < length xs → p (getD xs i d) ≡ false → all p (drop i xs) ≡ false
+  all-stop h e = rw (drop-cons xs i d, e)
+
+  pub all-turn : i < length xs → p (getD xs i d) ≡ true → all p (drop (i + 1) xs) ≡ all p (drop i xs)
+  all-turn h e = rw (add-one, drop-cons xs i d, e)
+
+pub all-end : {A : Type 0} (p : A → Bool) (xs : List A) (i : ℕ) → length xs ≤ i → all p (drop i xs) ≡ true
+all-end p xs i h = rw (drop-of-length-le xs {i = i})
+
+-- inside a list the default does not matter
+pub getD-any : {A : Type 0} (xs : List A) (i : ℕ) (d e : A) → i < length xs → getD xs i d ≡ getD xs i e
+getD-any [] i d e h = absurd (omega arith)
+getD-any (x ∷ xs) zero d e h = refl
+getD-any (x ∷ xs) (suc i) d e h = getD-any xs i d e (omega arith)

@@ -1,0 +1,5 @@
+pub mod Questions
+pub mod Sizes
+pub mod Pairs
+pub mod Decoding
+pub mod Files

@@ -1,0 +1,26 @@
+-- Questions one after another: a list that continues another asks the rest only where the first gets no "no".
+use Prim.Native.Nat.{ℕ, suc}
+use mathlib.Core.Path.{_≡_, refl}
+use mathlib.Core.Bool.{Bool, true, false, cond}
+use mathlib.Core.List.{List, [], _∷_, _++_}
+use native.Mathlib.Omega.{arith}
+use lib.Dec.{ltb, eqb}
+use borrow.Author.Tests.{ltb-true, ne-eqb}
+use Rattle.lists.specs.Basics.{all}
+use Rattle.lists.proofs.Laws.{and-left, and-right, by-cases}
+use Rattle.frame.specs.Questions.{Question, asked}
+
+-- a question that passed
+pub passed : (b : Bool) (rest k : ℕ) → cond b rest (suc k) ≡ 0 → (b ≡ true) × (rest ≡ 0)
+passed true rest k e = (refl, e)
+passed false rest k e = absurd (omega arith)
+
+-- every question has a number that refuses
+abbrev pub Numbered : List Question → Type 0
+Numbered qs = all (λ q. ltb 0 (q .number)) qs ≡ true
+
+pub asked-append : (qs rs : List Question) → Numbered qs → asked (qs ++ rs) ≡ cond (eqb (asked qs) 0) (asked rs) (asked qs)
+asked-append [] rs h = refl
+asked-append (q ∷ qs) rs h = by-cases (q .yes)
+    (λ e. rw e (asked-append qs rs (and-right (ltb 0 (q .number)) (all (λ x. ltb 0 (x .number)) qs) h)))
+    (λ e. rw (e, ne-eqb (q .number) 0 (λ z. omega (arith, ltb-true 0 (q .number) (and-left (ltb 0 (q .number)) (all (λ x. ltb 0 (x .number)) qs) h)))))

@@ -1,0 +1,180 @@
+-- The greedy coloring is proper, and no color is above the number of earlier conflicts.
+use Prim.Native.Nat.{ℕ, zero, suc, _+_, _-_, _*_, _≤_, _<_}
+use mathlib.Core.Path.{_≡_, refl, sym, ap, _∙_}
+use mathlib.Core.Bool.{Bool, true, false, not, _&&_}
+use mathlib.Core.List.{List, [], _∷_, _++_, append-assoc, append-nil}
+use native.Mathlib.Omega.{arith}
+use native.Mathlib.Nat.{mul-le-mul-right}
+use lib.Dec.{leb, ltb, eqb}
+use lib.ListN.{length, getD, length-append, List·getD-append}
+use lib.Seq.{getD-at}
+use borrow.Author.Tests.{eqb-true, eqb-false, ltb-true, ltb-false, leb-true}
+use Rattle.lists.specs.Basics.{one, any, all, sumOf, maxOf, count, mem}
+use Rattle.lists.proofs.Sums.{sum-swap, sum-le, sum-append, sum-times, sum-zero}
+use Rattle.lists.proofs.Laws.{and-left, and-right, and-both, or-right, clashes, by-cases, not-true-false, one-any, any-in, any-out, mem-self, sum-le-in, sum-one, pigeonhole}
+use Rattle.groups.specs.Groups.{flagged, clash, freeFrom, free, usedBy, colorFrom, colorsOf}
+
+-- ---- the least free number
+freeFrom-le : (d c : ℕ) (used : List ℕ) → freeFrom d c used ≤ c + d
+unfolding freeFrom
+freeFrom-le zero c used = omega arith
+freeFrom-le (suc d) c used = by-cases (mem c used) (λ e. rw e (omega (arith, freeFrom-le d (suc c) used))) (λ e. rw e (omega arith))
+
+pub free-le : (used : List ℕ) → free used ≤ length used
+unfolding free
+free-le used = omega (arith, freeFrom-le (length used) 0 used)
+
+freeFrom-new : (d c : ℕ) (used : List ℕ) → ((i : ℕ) → i < c → mem i used ≡ true) → length used ≤ c + d → mem (freeFrom d c used) used ≡ false
+unfolding freeFrom
+freeFrom-new zero c used h l = not-true-false (mem c used) (λ e. omega (arith, pigeonhole (suc c) used (λ i p. by-cases (eqb i c) (λ q. ap (λ (k : ℕ). mem k used) (eqb-true i c q) ∙ e) (λ q. h i (omega (arith, eqb-false i c q))))))
+freeFrom-new (suc d) c used h l =
+    by-cases (mem c used)
+    (λ e. rw e (freeFrom-new d (suc c) used (λ i p. by-cases (eqb i c) (λ q. ap (λ (k : ℕ). mem k used) (eqb-true i c q) ∙ e) (λ q. h i (omega (arith, eqb-false i c q)))) (omega arith)))
+    (λ e. rw e e)
+
+pub free-new : (used : List ℕ) → mem (free used) used ≡ false
+unfolding free
+free-new used = freeFrom-new (length used) 0 used (λ i p. absurd (omega arith)) (omega arith)
+
+freeFrom-least : (d c i : ℕ) (used : List ℕ) → c ≤ i → i < freeFrom d c used → mem i used ≡ true
+unfolding freeFrom
+freeFrom-least zero c i used l h = absurd (omega arith)
+freeFrom-least (suc d) c i used l h =
+    by-cases (mem c used)
+    (λ e. by-cases (eqb i c) (λ q. ap (λ (k : ℕ). mem k used) (eqb-true i c q) ∙ e) (λ q. freeFrom-least d (suc c) i used (omega (arith, eqb-false i c q)) (rw e at h)))
+    (λ e. absurd (let h′ : i < c = rw e at h in omega arith))
+
+-- free is the least number that is not used
+pub free-least : (used : List ℕ) (i : ℕ) → i < free used → mem i used ≡ true
+unfolding free
+free-least used i h = freeFrom-least (length used) 0 i used (omega arith) h
+
+-- ---- what is used: colors of earlier conflicts
+used-le : (flag : List ℕ) (done : List (List ℕ)) (colors : List ℕ) (bs : List ℕ) → length (usedBy flag done colors bs) ≤ count (clash flag bs) done
+unfolding usedBy
+used-le flag [] colors bs = omega arith
+used-le flag (xs ∷ xss) [] bs = omega arith
+used-le flag (xs ∷ xss) (c ∷ cs) bs = by-cases (clash flag bs xs) (λ e. rw e (omega (arith, used-le flag xss cs bs))) (λ e. rw e (omega (arith, used-le flag xss cs bs)))
+
+used-has : (flag : List ℕ) (done : List (List ℕ)) (colors : List ℕ) (bs : List ℕ) (r : ℕ) → length colors ≡ length done → r < length done → clash flag bs (getD done r []) ≡ true → mem (getD colors r 0) (usedBy flag done colors bs) ≡ true
+unfolding usedBy
+used-has flag [] colors bs r l h e = absurd (omega arith)
+used-has flag (xs ∷ xss) [] bs r l h e = absurd (omega arith)
+used-has flag (xs ∷ xss) (c ∷ cs) bs zero l h e = rw e (mem-self c (usedBy flag xss cs bs))
+used-has flag (xs ∷ xss) (c ∷ cs) bs (suc r) l h e =
+    let k : mem (getD cs r 0) (usedBy flag xss cs bs) ≡ true = used-has flag xss cs bs r (omega arith) (omega arith) e in
+    by-cases (clash flag bs xs) (λ q. rw q (or-right (eqb (getD cs r 0) c) (mem (getD cs r 0) (usedBy flag xss cs bs)) k)) (λ q. rw q k)
+
+-- the conflicts with earlier constraints, where each flagged body of bs has at most m earlier ones
+conflicts-le : (flag : List ℕ) (bs : List ℕ) (done : List (List ℕ)) (m : ℕ) → ((b : ℕ) → mem b bs ≡ true → flagged flag b ≡ true → count (mem b) done ≤ m) → count (clash flag bs) done ≤ length bs * m
+unfolding clash
+conflicts-le flag bs done m h =
+    omega (
+      arith,
+      sum-le (λ xs. one (any (λ b. flagged flag b && mem b xs) bs)) (λ xs. sumOf (λ b. one (flagged flag b && mem b xs)) bs) done (λ xs. one-any (λ b. flagged flag b && mem b xs) bs),
+      sum-swap (λ xs b. one (flagged flag b && mem b xs)) done bs,
+      sum-le-in (λ b. sumOf (λ xs. one (flagged flag b && mem b xs)) done) (λ b. m * 1) bs each,
+      sum-times m (λ b. 1) bs,
+      ap (λ (k : ℕ). m * k) (sum-one bs),
+    )
+  where
+    each : (b : ℕ) → mem b bs ≡ true → sumOf (λ xs. one (flagged flag b && mem b xs)) done ≤ m * 1
+    each b i = by-cases (flagged flag b) (λ e. rw e (omega (arith, h b i e))) (λ e. rw e (omega (arith, sum-zero done)))
+
+max-append-le : (xs : List ℕ) (c k : ℕ) → maxOf suc xs ≤ k → c < k → maxOf suc (xs ++ c ∷ []) ≤ k
+max-append-le [] c k h l = omega arith
+max-append-le (x ∷ xs) c k h l = omega (arith, max-append-le xs c k (omega arith) l)
+
+count-shift : (p : List ℕ → Bool) (done rest : List (List ℕ)) (bs : List ℕ) → count p (done ++ bs ∷ rest) ≡ count p done + one (p bs) + count p rest
+count-shift p done rest bs = omega (arith, sum-append (λ xs. one (p xs)) done (bs ∷ rest))
+
+-- the colors stay below k, where r × (D - 1) + 1 ≤ k, no flagged body has more than D constraints, and each constraint has at most r bodies, one of them flagged
+module _ (flag : List ℕ) (D r k : ℕ) (fits : 1 ≤ D → r * (D - 1) < k) where
+  color-next : (done rest : List (List ℕ)) (colors bs : List ℕ) → ((b : ℕ) → flagged flag b ≡ true → count (mem b) (done ++ bs ∷ rest) ≤ D)
+      → (leb (length bs) r && any (λ b. flagged flag b) bs) ≡ true → free (usedBy flag done colors bs) < k
+  color-next done rest colors bs deg ok =
+      let short : length bs ≤ r = leb-true (length bs) r (and-left (leb (length bs) r) (any (λ b. flagged flag b) bs) ok) in
+      let o = any-out (λ b. flagged flag b) bs (and-right (leb (length bs) r) (any (λ b. flagged flag b) bs) ok) in
+      let pos : 1 ≤ D = omega (arith, deg (o .0) (o .2), count-shift (mem (o .0)) done rest bs, ap one (o .1)) in
+      omega (
+        arith,
+        free-le (usedBy flag done colors bs),
+        used-le flag done colors bs,
+        conflicts-le flag bs done (D - 1) (λ b i e. omega (arith, deg b e, count-shift (mem b) done rest bs, ap one i)),
+        mul-le-mul-right (D - 1) short,
+        fits pos,
+      )
+
+  pub color-few : (done : List (List ℕ)) (colors : List ℕ) (rest : List (List ℕ)) → ((b : ℕ) → flagged flag b ≡ true → count (mem b) (done ++ rest) ≤ D)
+      → all (λ bs. leb (length bs) r && any (λ b. flagged flag b) bs) rest ≡ true → maxOf suc colors ≤ k → maxOf suc (colorFrom flag done colors rest) ≤ k
+  unfolding colorFrom
+  color-few done colors [] deg ok h = h
+  color-few done colors (bs ∷ rest) deg ok h =
+      color-few (done ++ bs ∷ []) (colors ++ free (usedBy flag done colors bs) ∷ []) rest
+      (λ b e. rw append-assoc (deg b e))
+      (and-right (leb (length bs) r && any (λ b. flagged flag b) bs) (all (λ xs. leb (length xs) r && any (λ b. flagged flag b) xs) rest) ok)
+      (max-append-le colors (free (usedBy flag done colors bs)) k h (color-next done rest colors bs deg
+      (and-left (leb (length bs) r && any (λ b. flagged flag b) bs) (all (λ xs. leb (length xs) r && any (λ b. flagged flag b) xs) rest) ok)))
+
+-- ---- the coloring is proper: of two constraints on one flagged body, the colors differ
+abbrev pub Proper : List ℕ → List (List ℕ) → List ℕ → Type 0
+Proper flag cs colors = (r s b : ℕ) → r < s → s < length cs → flagged flag b ≡ true → mem b (getD cs r []) ≡ true → mem b (getD cs s []) ≡ true → getD colors r 0 ≡ getD colors s 0 → ⊥
+
+proper-next : (flag : List ℕ) (done : List (List ℕ)) (colors bs : List ℕ) → length colors ≡ length done → Proper flag done colors
+    → Proper flag (done ++ bs ∷ []) (colors ++ free (usedBy flag done colors bs) ∷ [])
+unfolding clash
+proper-next flag done colors bs l h r s b p q e i j same =
+    let c = free (usedBy flag done colors bs) in
+    let used = usedBy flag done colors bs in
+    let n : s < suc (length done) = omega (arith, length-append done (bs ∷ [])) in
+    let i′ : mem b (getD done r []) ≡ true = rw (List·getD-append done (bs ∷ []) [] r (omega arith)) at i in
+    by-cases (eqb s (length done))
+    (λ t. let j′ : mem b bs ≡ true = rw (getD-at done bs [] [] s (sym (eqb-true s (length done) t))) at j in
+    let same′ : getD colors r 0 ≡ c = sym (List·getD-append colors (c ∷ []) 0 r (omega arith)) ∙ same ∙ getD-at colors c [] 0 s (omega (arith, eqb-true s (length done) t)) in
+    clashes (mem (getD colors r 0) used)
+    (used-has flag done colors bs r l (omega arith) (any-in (λ a. flagged flag a && mem a (getD done r [])) b bs j′ (and-both (flagged flag b) (mem b (getD done r [])) e i′)))
+    (ap (λ (a : ℕ). mem a used) same′ ∙ free-new used))
+    (λ t. let lt : s < length done = omega (arith, eqb-false s (length done) t) in
+    h r s b p lt e i′ (rw (List·getD-append done (bs ∷ []) [] s lt) at j)
+    (sym (List·getD-append colors (c ∷ []) 0 r (omega arith)) ∙ same ∙ List·getD-append colors (c ∷ []) 0 s (omega arith)))
+
+proper-from : (flag : List ℕ) (done : List (List ℕ)) (colors : List ℕ) (rest : List (List ℕ)) → length colors ≡ length done → Proper flag done colors
+    → Proper flag (done ++ rest) (colorFrom flag done colors rest)
+unfolding colorFrom
+proper-from flag done colors [] l h = rw append-nil h
+proper-from flag done colors (bs ∷ rest) l h =
+    let c = free (usedBy flag done colors bs) in
+    rw append-assoc at (proper-from flag (done ++ bs ∷ []) (colors ++ c ∷ []) rest (omega (arith, length-append colors (c ∷ []), length-append done (bs ∷ []))) (proper-next flag done colors bs l h))
+
+pub proper : (flag : List ℕ) (cs : List (List ℕ)) → Proper flag cs (colorsOf flag cs)
+unfolding colorsOf
+proper flag cs = proper-from flag [] [] cs refl (λ r s b p q. absurd (omega arith))
+
+colors-length-from : (flag : List ℕ) (done : List (List ℕ)) (colors : List ℕ) (rest : List (List ℕ)) → length (colorFrom flag done colors rest) ≡ length colors + length rest
+unfolding colorFrom
+colors-length-from flag done colors [] = omega arith
+colors-length-from flag done colors (bs ∷ rest) = let c = free (usedBy flag done colors bs) in omega (arith, colors-length-from flag (done ++ bs ∷ []) (colors ++ c ∷ []) rest, length-append colors (c ∷ []))
+
+pub colors-length : (flag : List ℕ) (cs : List (List ℕ)) → length (colorsOf flag cs) ≡ length cs
+unfolding colorsOf
+colors-length flag cs = omega (arith, colors-length-from flag [] [] cs)
+
+-- ---- one more constraint at the end
+colorFrom-append : (flag : List ℕ) (done : List (List ℕ)) (colors : List ℕ) (xs ys : List (List ℕ)) → colorFrom flag done colors (xs ++ ys) ≡ colorFrom flag (done ++ xs) (colorFrom flag done colors xs) ys
+unfolding colorFrom
+colorFrom-append flag done colors [] ys = rw append-nil
+colorFrom-append flag done colors (x ∷ xs) ys = colorFrom-append flag (done ++ x ∷ []) (colors ++ free (usedBy flag done colors x) ∷ []) xs ys ∙ rw append-assoc
+
+-- the color of one more constraint
+pub colors-snoc : (flag : List ℕ) (cs : List (List ℕ)) (bs : List ℕ) → colorsOf flag (cs ++ bs ∷ []) ≡ colorsOf flag cs ++ free (usedBy flag cs (colorsOf flag cs) bs) ∷ []
+unfolding colorsOf colorFrom
+colors-snoc flag cs bs = colorFrom-append flag [] [] cs (bs ∷ [])
+
+-- a scan that stops at the first number that is not used has found it
+pub free-unique : (used : List ℕ) (c : ℕ) → mem c used ≡ false → ((i : ℕ) → i < c → mem i used ≡ true) → free used ≡ c
+free-unique used c no-c below =
+    by-cases (ltb (free used) c)
+    (λ l. clashes (mem (free used) used) (below (free used) (ltb-true (free used) c l)) (free-new used))
+    (λ l. by-cases (ltb c (free used))
+    (λ m. clashes (mem c used) (free-least used c (ltb-true c (free used) m)) no-c)
+    (λ m. omega (arith, ltb-false (free used) c l, ltb-false c (free used) m)))
