@@ -6,3 +6,4 @@ pub mod Tables
 pub mod Joining
 pub mod Numbering
 pub mod Labelling
+pub mod Whole

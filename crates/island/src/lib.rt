@@ -118,26 +118,6 @@ fn mark(body_islands: &mut [u16], a: u16, b: u16)
     body_islands[b as usize] = 0;
 }
 
-// Whether constraint `i` is live: it has no enabled byte, or a byte 1.
-fn live_at(enabled: &[u8], i: usize) -> bool
-    ensures { λ r. ⌜ r ≡ eqb (getD (now (enabled .entry)) i 1) 1 ⌝ }
-{
-    if i < enabled.len() {
-        return enabled[i] == 1;
-    }
-    true
-}
-
-// Question 7 of one constraint.
-fn sound_one(bodies: usize, live: bool, a: u16, b: u16) -> bool
-    ensures { λ r. ⌜ r ≡ sound bodies (constraint live a b) ⌝ }
-{
-    if !live {
-        return true;
-    }
-    ((a as usize) < bodies) & ((b as usize) < bodies) & (a != b)
-}
-
 // One constraint is asked question 7; if it is live and passes, it marks its two bodies and joins them.
 fn join_one(
     body_types: &[u8],
@@ -150,7 +130,7 @@ fn join_one(
     requires { ⌜ Falls (now parents) × (length (now parents) ≡ length (now «body_types»)) × (length (now «body_islands») ≡ length (now «body_types»)) ⌝ }
     ensures { λ r. ⌜ (r ≡ sound (length (now («body_types» .entry))) (constraint live a b)) × (r ≡ true → Joined (now («body_types» .entry)) (constraint live a b ∷ []) (now (parents .entry)) (now («body_islands» .entry)) (now (parents .exit)) (now («body_islands» .exit))) ⌝ }
 {
-    if !sound_one(body_types.len(), live, a, b) {
+    if !frame::sound_one(body_types.len(), live, a, b) {
         return false;
     }
     if !live {
@@ -175,7 +155,7 @@ fn join_all(
     let mut k: usize = 0;
     let mut i: usize = 0;
     while k + 1 < pairs.len() {
-        let live = live_at(enabled, i);
+        let live = frame::live_at(enabled, i);
         if !join_one(body_types, parents, body_islands, live, pairs[k], pairs[k + 1]) {
             return false;
         }
@@ -271,7 +251,7 @@ fn label_all(pairs: &[u16], enabled: &[u8], body_islands: &[u16], labels: &mut [
     let mut k: usize = 0;
     let mut i: usize = 0;
     while k + 1 < pairs.len() {
-        let live = live_at(enabled, i);
+        let live = frame::live_at(enabled, i);
         labels[i] = label_one(body_islands, live, pairs[k], pairs[k + 1]);
         k += 2;
         i += 1;
