@@ -60,13 +60,16 @@ labelBy l c = cond (c .live) (least l (c .ends)) none
 
 -- ---- a frame on tables of just its sizes
 
--- its constraints are sound, joined and marked
-pub record Ready (f : Frame) (p b m j : List ℕ) : Type 0 where
+pub record Sized (f : Frame) (p b m j : List ℕ) : Type 0 where
   pub few : length (f .types) ≤ 4096
   pub long-parents : length p ≡ length (f .types)
   pub long-bodies : length b ≡ length (f .types)
   pub long-manifolds : length m ≡ length (f .manifolds)
   pub long-joints : length j ≡ length (f .joints)
+
+-- its constraints are sound, joined and marked
+pub record Ready (f : Frame) (p b m j : List ℕ) : Type 0 where
+  pub sized : Sized f p b m j
   pub passed : allSound f ≡ true
   pub falls : Falls p
   pub roots : rootOf p ≡ lowest f
@@ -79,8 +82,16 @@ pub record Labelled (f : Frame) (b m j : List ℕ) (islands : ℕ) : Type 0 wher
   pub manifold-labels : m ≡ map (label f) (f .manifolds)
   pub joint-labels : j ≡ map (label f) (f .joints)
 
--- what is left of it, ok saying whether it passes question 7
-pub record Laid (f : Frame) (ok : Bool) (p b m j : List ℕ) (number islands : ℕ) : Type 0 where
-  pub refusal : number ≡ cond ok 0 7
-  pub accepted : ok ≡ true → Parents f p × Labelled f b m j islands
-  pub refused : ok ≡ false → (islands ≡ 0) × (p ≡ bodies f) × (b ≡ replicate (length (f .types)) none) × (m ≡ replicate (length (f .manifolds)) none) × (j ≡ replicate (length (f .joints)) none)
+-- no labels, and each parent itself
+pub record Blank (f : Frame) (p b m j : List ℕ) (islands : ℕ) : Type 0 where
+  pub count : islands ≡ 0
+  pub alone : p ≡ bodies f
+  pub body-labels : b ≡ replicate (length (f .types)) none
+  pub manifold-labels : m ≡ replicate (length (f .manifolds)) none
+  pub joint-labels : j ≡ replicate (length (f .joints)) none
+
+-- question 7 decides between the two
+pub record Laid (f : Frame) (p b m j : List ℕ) (number islands : ℕ) : Type 0 where
+  pub refusal : number ≡ cond (allSound f) 0 7
+  pub accepted : allSound f ≡ true → Parents f p × Labelled f b m j islands
+  pub refused : allSound f ≡ false → Blank f p b m j islands

@@ -10,7 +10,8 @@ ghost use Rattle.lists.specs.Basics.{all, range};
 ghost use Rattle.frame.specs.Frames.{constraint, constraints, constraintsOf, frameOf, sound, allSound, none};
 ghost use Rattle.island.specs.Islands.{merge, join, edgesOf};
 ghost use Rattle.island.specs.Calls.{rootOf};
-ghost use Rattle.island.specs.Steps.{bare, Falls, Joined, Ready, marked, Together, nextLabel, nextCount, Numbered, labelBy, Labelled, Laid};
+ghost use Rattle.island.specs.Answers.{answerNumber, answerIslands};
+ghost use Rattle.island.specs.Steps.{bare, Falls, Joined, Sized, Ready, marked, Together, nextLabel, nextCount, Numbered, labelBy, Labelled, Laid};
 
 // The label of what has no island.
 const NONE: u16 = 65535;
@@ -285,4 +286,37 @@ fn label_frame(
     label_all(manifolds, &enabled[..0], body_islands, manifold_islands);
     label_all(joints, enabled, body_islands, joint_islands);
     islands
+}
+
+// A frame on tables of just its sizes: question 7 while it is joined, then its labels.
+fn lay(
+    body_types: &[u8],
+    manifolds: &[u16],
+    joints: &[u16],
+    enabled: &[u8],
+    parents: &mut [u16],
+    body_islands: &mut [u16],
+    manifold_islands: &mut [u16],
+    joint_islands: &mut [u16],
+) -> Answer
+    requires { ⌜ Sized (frameOf (now «body_types») (now manifolds) (now joints) (now enabled)) (now parents) (now «body_islands») (now «manifold_islands») (now «joint_islands») ⌝ }
+    ensures { λ r. ⌜ Laid (frameOf (now («body_types» .entry)) (now (manifolds .entry)) (now (joints .entry)) (now (enabled .entry))) (now (parents .exit)) (now («body_islands» .exit)) (now («manifold_islands» .exit)) (now («joint_islands» .exit)) (answerNumber r) (answerIslands r) ⌝ }
+{
+    reset(parents, body_islands);
+    if !join_frame(body_types, manifolds, joints, enabled, parents, body_islands) {
+        reset(parents, body_islands);
+        fill_none(manifold_islands);
+        fill_none(joint_islands);
+        return Answer::Refused(7);
+    }
+    Answer::Islands(label_frame(
+        body_types,
+        manifolds,
+        joints,
+        enabled,
+        parents,
+        body_islands,
+        manifold_islands,
+        joint_islands,
+    ))
 }

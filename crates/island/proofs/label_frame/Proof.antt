@@ -15,7 +15,7 @@ number-requires : tie.Need-number-requires
 number-requires c κs =
   let s = c .before .before .before .before .before .before .before .before .before in
   let a = s .args in
-  (s .pre .falls, s .pre .long-parents, s .pre .long-bodies, s .pre .few, together (frame s) (a .parents .now) (a .body-islands .now) (a .manifold-islands .now) (a .joint-islands .now) (s .pre))
+  (s .pre .falls, s .pre .sized .long-parents, s .pre .sized .long-bodies, s .pre .sized .few, together (frame s) (a .parents .now) (a .body-islands .now) (a .manifold-islands .now) (a .joint-islands .now) (s .pre))
 
 slice-aggregate-label-all : tie.Need-slice-aggregate-label-all
 slice-aggregate-label-all c = search needs
@@ -25,14 +25,14 @@ label-all-requires c κs =
   let n = c .before .before .before .before .before .number in
   let s = c .before .before .before .before .before .before .before .before .before .before .before .before .before .before .before in
   let a = s .args in
-  (s .pre .long-manifolds, asks-manifolds (frame s) (a .parents .now) (a .body-islands .now) (a .manifold-islands .now) (a .joint-islands .now) (s .pre) (n .result) (n .last .1 .1 .0) (n .ensures) (n .kept .1 .1 .0))
+  (s .pre .sized .long-manifolds, asks-manifolds (frame s) (a .parents .now) (a .body-islands .now) (a .manifold-islands .now) (a .joint-islands .now) (s .pre) (n .result) (n .last .1 .1 .0) (n .ensures) (n .kept .1 .1 .0))
 
 label-all-requires-2 : tie.Need-label-all-requires-2
 label-all-requires-2 c κs =
   let n = c .before .before .before .before .before .before .before .before .before .before .number in
   let s = c .before .before .before .before .before .before .before .before .before .before .before .before .before .before .before .before .before .before .before .before in
   let a = s .args in
-  (s .pre .long-joints, asks-joints (frame s) (a .parents .now) (a .body-islands .now) (a .manifold-islands .now) (a .joint-islands .now) (s .pre) (n .result) (n .last .1 .1 .0) (n .ensures) (n .kept .1 .1 .0))
+  (s .pre .sized .long-joints, asks-joints (frame s) (a .parents .now) (a .body-islands .now) (a .manifold-islands .now) (a .joint-islands .now) (s .pre) (n .result) (n .last .1 .1 .0) (n .ensures) (n .kept .1 .1 .0))
 
 same-length : tie.Need-same-length
 same-length c = search needs
