@@ -7,3 +7,4 @@ pub mod Joining
 pub mod Numbering
 pub mod Labelling
 pub mod Whole
+pub mod Refusals

@@ -7,8 +7,9 @@ use lib.Dec.{eqb}
 use lib.ListN.{length, getD, replicate}
 use Rattle.lists.specs.Basics.{any, count, range}
 use Rattle.frame.specs.Frames.{Constraint, Frame, frameOf, constraints, bodies, dynamic, on, allSound, none}
+use Rattle.frame.specs.Questions.{Question, question, fewEach, even, pairCount, typesKnown, bits}
 use Rattle.island.specs.Islands.{join, edges, lowest, islandCount, bodyLabel, label}
-use Rattle.island.specs.Calls.{link, rootOf, Parents}
+use Rattle.island.specs.Calls.{Rooms, roomy, link, rootOf, Parents}
 
 -- a frame's bodies alone
 abbrev pub bare : List ℕ → Frame
@@ -95,3 +96,12 @@ pub record Laid (f : Frame) (p b m j : List ℕ) (number islands : ℕ) : Type 0
   pub refusal : number ≡ cond (allSound f) 0 7
   pub accepted : allSound f ≡ true → Parents f p × Labelled f b m j islands
   pub refused : allSound f ≡ false → Blank f p b m j islands
+
+-- ---- the questions before the 7th
+abbrev pub earlyQuestions : List ℕ → List ℕ → List ℕ → List ℕ → Rooms → List Question
+earlyQuestions ts ps js es r =
+    question 3 (fewEach (length ts) (pairCount ps) (pairCount js))
+    ∷ question 4 (even ps && even js && eqb (length es) (pairCount js))
+    ∷ question 5 (typesKnown ts && bits es)
+    ∷ question 6 (roomy ts ps js r)
+    ∷ []

@@ -1,17 +1,18 @@
 // Islands: the sets of dynamic bodies that live constraints connect, and the labels of bodies, manifolds and joints.
 // Every table is lent by the caller; a call that is refused says so by the number of the first question that got a "no".
 ghost use mathlib.Core.Path.{_≡_};
-ghost use mathlib.Core.Bool.{true, cond, _||_};
+ghost use mathlib.Core.Bool.{true, _&&_};
 ghost use mathlib.Core.List.{map, _∷_, []};
-ghost use Prim.Native.Nat.{ℕ, _+_, _<_, _≤_};
-ghost use lib.Dec.{eqb};
-ghost use lib.ListN.{length, getD, set, replicate};
+ghost use Prim.Native.Nat.{_/_, _%_, _<_, _≤_};
+ghost use lib.Dec.{eqb, leb};
+ghost use lib.ListN.{length, set, replicate};
 ghost use Rattle.lists.specs.Basics.{all, range};
 ghost use Rattle.frame.specs.Frames.{constraint, constraints, constraintsOf, frameOf, sound, allSound, none};
+ghost use Rattle.frame.specs.Questions.{asked};
 ghost use Rattle.island.specs.Islands.{merge, join, edgesOf};
-ghost use Rattle.island.specs.Calls.{rootOf};
+ghost use Rattle.island.specs.Calls.{rootOf, islandRefusal, Built};
 ghost use Rattle.island.specs.Answers.{answerNumber, answerIslands};
-ghost use Rattle.island.specs.Steps.{bare, Falls, Joined, Sized, Ready, marked, Together, nextLabel, nextCount, Numbered, labelBy, Labelled, Laid};
+ghost use Rattle.island.specs.Steps.{bare, Falls, Joined, Sized, Ready, marked, Together, nextLabel, nextCount, Numbered, labelBy, Labelled, Laid, earlyQuestions};
 
 // The label of what has no island.
 const NONE: u16 = 65535;
@@ -319,4 +320,90 @@ fn lay(
         manifold_islands,
         joint_islands,
     ))
+}
+
+// Question 4.
+fn lengths_agree(manifolds: usize, joints: usize, enabled: usize) -> bool
+    ensures { λ r. ⌜ r ≡ (eqb (manifolds % 2) 0 && eqb (joints % 2) 0 && eqb enabled (joints / 2)) ⌝ }
+{
+    (manifolds % 2 == 0) & (joints % 2 == 0) & (enabled == joints / 2)
+}
+
+// Questions 3 to 5 of a frame, and 6 of tables with these lengths; 0 where all get a "yes".
+fn early_refusal(
+    body_types: &[u8],
+    manifolds: &[u16],
+    joints: &[u16],
+    enabled: &[u8],
+    parents: usize,
+    body_islands: usize,
+    manifold_islands: usize,
+    joint_islands: usize,
+) -> u8
+    ensures { λ r. ⌜ r ≡ asked (earlyQuestions (now («body_types» .entry)) (now (manifolds .entry)) (now (joints .entry)) (now (enabled .entry)) (record { parents = parents; bodies = «body_islands»; manifolds = «manifold_islands»; joints = «joint_islands» })) ⌝ }
+{
+    let bodies = body_types.len();
+    let pairs = manifolds.len() / 2;
+    let joined = joints.len() / 2;
+    if !frame::few_each(bodies, pairs, joined) {
+        return 3;
+    }
+    if !lengths_agree(manifolds.len(), joints.len(), enabled.len()) {
+        return 4;
+    }
+    let known = frame::at_most(body_types, 2) & frame::at_most(enabled, 1);
+    if !known {
+        return 5;
+    }
+    let room = (bodies <= parents)
+        & (bodies <= body_islands)
+        & (pairs <= manifold_islands)
+        & (joined <= joint_islands);
+    if !room {
+        return 6;
+    }
+    0
+}
+
+// The islands of a frame: body types, endpoint pairs of manifolds and of joints, an enabled byte a joint.
+pub fn build_with_joints(
+    body_types: &[u8],
+    manifolds: &[u16],
+    joints: &[u16],
+    enabled: &[u8],
+    parents: &mut [u16],
+    body_islands: &mut [u16],
+    manifold_islands: &mut [u16],
+    joint_islands: &mut [u16],
+) -> Answer
+    ensures { λ r. ⌜ Built (frameOf (now («body_types» .entry)) (now (manifolds .entry)) (now (joints .entry)) (now (enabled .entry)))
+        (islandRefusal (now («body_types» .entry)) (now (manifolds .entry)) (now (joints .entry)) (now (enabled .entry)) (record { parents = length (now (parents .entry)); bodies = length (now («body_islands» .entry)); manifolds = length (now («manifold_islands» .entry)); joints = length (now («joint_islands» .entry)) }))
+        (now (parents .entry)) (now («body_islands» .entry)) (now («manifold_islands» .entry)) (now («joint_islands» .entry))
+        (now (parents .exit)) (now («body_islands» .exit)) (now («manifold_islands» .exit)) (now («joint_islands» .exit))
+        (answerNumber r) (answerIslands r) ⌝ }
+{
+    let refusal = early_refusal(
+        body_types,
+        manifolds,
+        joints,
+        enabled,
+        parents.len(),
+        body_islands.len(),
+        manifold_islands.len(),
+        joint_islands.len(),
+    );
+    if refusal != 0 {
+        return Answer::Refused(refusal);
+    }
+    let bodies = body_types.len();
+    lay(
+        body_types,
+        manifolds,
+        joints,
+        enabled,
+        &mut parents[..bodies],
+        &mut body_islands[..bodies],
+        &mut manifold_islands[..manifolds.len() / 2],
+        &mut joint_islands[..joints.len() / 2],
+    )
 }
