@@ -8,3 +8,4 @@ pub mod Numbering
 pub mod Labelling
 pub mod Whole
 pub mod Refusals
+pub mod Entry

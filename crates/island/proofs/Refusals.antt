@@ -1,5 +1,6 @@
 -- The questions of a call in order: the first "no" of questions 3 to 6 refuses; where there is none, question 7 decides.
 use Prim.Native.Nat.{ℕ, _≤_, _/_}
+use native.Mathlib.Omega.{arith}
 use mathlib.Core.Path.{_≡_, refl, sym, ap, _∙_}
 use mathlib.Core.Bool.{Bool, true, false, _&&_, cond}
 use mathlib.Core.List.{List, [], _∷_}
@@ -26,7 +27,7 @@ module _ (ts ps js es : List ℕ) (r : Rooms) where
   abbrev pub q6 : Bool
   q6 = roomy ts ps js r
 
-  abbrev early : ℕ
+  abbrev pub early : ℕ
   early = asked (earlyQuestions ts ps js es r)
 
   pub no-3 : q3 ≡ false → 3 ≡ early
@@ -43,6 +44,27 @@ module _ (ts ps js es : List ℕ) (r : Rooms) where
 
   pub no-none : q3 ≡ true → q4 ≡ true → q5 ≡ true → q6 ≡ true → 0 ≡ early
   no-none a b c d = rw (a, b, c, d)
+
+  -- ---- where all got a "yes"
+  pub early-few : early ≡ 0 → length ts ≤ 4096
+  unfolding fewEach
+  early-few e =
+    let three = leb (length ts) 4096 && leb (pairCount ps) 4096 in
+    leb-true (length ts) 4096 (and-left (leb (length ts) 4096) (leb (pairCount ps) 4096) (and-left three (leb (pairCount js) 4096) (passed q3 _ 2 e .0)))
+
+  pub early-room : early ≡ 0 → q6 ≡ true
+  early-room e = passed q6 0 5 (passed q5 _ 4 (passed q4 _ 3 (passed q3 _ 2 e .1) .1) .1) .0
+
+  -- none of them is question 7
+  first-of : (a b c d : Bool) → asked (question 3 a ∷ question 4 b ∷ question 5 c ∷ question 6 d ∷ []) ≤ 6
+  first-of false b c d = omega arith
+  first-of true false c d = omega arith
+  first-of true true false d = omega arith
+  first-of true true true false = omega arith
+  first-of true true true true = omega arith
+
+  pub early-below : early ≡ 7 → ⊥
+  early-below e = omega (arith, first-of q3 q4 q5 q6)
 
   -- ---- and then question 7
   abbrev pub q7 : Bool
