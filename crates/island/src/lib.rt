@@ -407,3 +407,30 @@ pub fn build_with_joints(
         &mut joint_islands[..joints.len() / 2],
     )
 }
+
+// The islands of a frame without joints.
+pub fn build(
+    body_types: &[u8],
+    manifolds: &[u16],
+    parents: &mut [u16],
+    body_islands: &mut [u16],
+    manifold_islands: &mut [u16],
+) -> Answer
+    ensures { λ r. ⌜ Built (frameOf (now («body_types» .entry)) (now (manifolds .entry)) [] [])
+        (islandRefusal (now («body_types» .entry)) (now (manifolds .entry)) [] [] (record { parents = length (now (parents .entry)); bodies = length (now («body_islands» .entry)); manifolds = length (now («manifold_islands» .entry)); joints = 0 }))
+        (now (parents .entry)) (now («body_islands» .entry)) (now («manifold_islands» .entry)) []
+        (now (parents .exit)) (now («body_islands» .exit)) (now («manifold_islands» .exit)) []
+        (answerNumber r) (answerIslands r) ⌝ }
+{
+    let mut joint_islands = [0; 1];
+    build_with_joints(
+        body_types,
+        manifolds,
+        &manifolds[..0],
+        &body_types[..0],
+        parents,
+        body_islands,
+        manifold_islands,
+        &mut joint_islands[..0],
+    )
+}
