@@ -47,17 +47,17 @@ module _ (ts ps js es p₀ b₀ m₀ j₀ : List ℕ) where
 
   pub room : early ts ps js es rooms ≡ 0 → Room
   room e =
-    let h = early-room ts ps js es rooms e in
-    let pb = leb (length ts) (length p₀) && leb (length ts) (length b₀) in
-    let pbm = and-left (pb && leb (length ps / 2) (length m₀)) (leb (length js / 2) (length j₀)) h in
-    let two = and-left pb (leb (length ps / 2) (length m₀)) pbm in
-    record {
-      few = early-few ts ps js es rooms e;
-      parents = leb-true _ _ (and-left (leb (length ts) (length p₀)) (leb (length ts) (length b₀)) two);
-      bodies = leb-true _ _ (and-right (leb (length ts) (length p₀)) (leb (length ts) (length b₀)) two);
-      manifolds = leb-true _ _ (and-right pb (leb (length ps / 2) (length m₀)) pbm);
-      joints = leb-true _ _ (and-right (pb && leb (length ps / 2) (length m₀)) (leb (length js / 2) (length j₀)) h);
-    }
+      let h = early-room ts ps js es rooms e in
+      let pb = leb (length ts) (length p₀) && leb (length ts) (length b₀) in
+      let pbm = and-left (pb && leb (length ps / 2) (length m₀)) (leb (length js / 2) (length j₀)) h in
+      let two = and-left pb (leb (length ps / 2) (length m₀)) pbm in
+      record {
+        few = early-few ts ps js es rooms e;
+        parents = leb-true _ _ (and-left (leb (length ts) (length p₀)) (leb (length ts) (length b₀)) two);
+        bodies = leb-true _ _ (and-right (leb (length ts) (length p₀)) (leb (length ts) (length b₀)) two);
+        manifolds = leb-true _ _ (and-right pb (leb (length ps / 2) (length m₀)) pbm);
+        joints = leb-true _ _ (and-right (pb && leb (length ps / 2) (length m₀)) (leb (length js / 2) (length j₀)) h);
+      }
 
   pub sized : Room → Sized f (take (length ts) p₀) (take (length ts) b₀) (take (length ps / 2) m₀) (take (length js / 2) j₀)
   sized w = record {

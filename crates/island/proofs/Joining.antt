@@ -60,18 +60,18 @@ either false false n = refl
 mark-two : (l : List ℕ) (a b x : ℕ) → a < length l → b < length l → getD (set (set l a 0) b 0) x none ≡ cond (any (on x) (constraint true a b ∷ [])) 0 (getD l x none)
 unfolding on
 mark-two l a b x h k =
-  mark-one (set l a 0) b x (rw length-set k)
-  ∙ ap (λ (n : ℕ). cond (eqb x b) 0 n) (mark-one l a x h)
-  ∙ either (eqb x a) (eqb x b) (getD l x none)
+    mark-one (set l a 0) b x (rw length-set k)
+    ∙ ap (λ (n : ℕ). cond (eqb x b) 0 n) (mark-one l a x h)
+    ∙ either (eqb x a) (eqb x b) (getD l x none)
 
 -- ---- one constraint
 
 -- a live constraint that passes question 7 has both its bodies below n
 pub sound-in : (t : Bool) (a b n : ℕ) → t ≡ true → sound n (constraint t a b) ≡ true → (a < n) × (b < n)
 sound-in t a b n e s =
-  let h : (ltb a n && ltb b n && not (eqb a b)) ≡ true = sound-live n t a b e ∙ s in
-  let two = and-left (ltb a n && ltb b n) (not (eqb a b)) h in
-  (ltb-true a n (and-left (ltb a n) (ltb b n) two), ltb-true b n (and-right (ltb a n) (ltb b n) two))
+    let h : (ltb a n && ltb b n && not (eqb a b)) ≡ true = sound-live n t a b e ∙ s in
+    let two = and-left (ltb a n && ltb b n) (not (eqb a b)) h in
+    (ltb-true a n (and-left (ltb a n) (ltb b n) two), ltb-true b n (and-right (ltb a n) (ltb b n) two))
 
 module _ (ts p l : List ℕ) (t : Bool) (a b : ℕ) where
   pub joined-dead : Falls p → t ≡ false → Joined ts (constraint t a b ∷ []) p l p l

@@ -47,15 +47,15 @@ module _ (ps es l out₀ out : List ℕ) (k i : ℕ) (w : Labelling ps es l out�
 
   pub labelling-room : k + 1 < length ps → i < length out
   labelling-room h =
-    let now = constraintsOf (drop k ps) (drop i es) in
-    omega (
-      arith,
-      w .long,
-      sym (length-append (take i out) (map (labelBy l) now)) ∙ ap length (w .filled) ∙ length-map (constraintsOf ps es) (labelBy l),
-      length-map now (labelBy l),
-      ap length (pairs-step ps es k i h),
-      length-take i out,
-    )
+      let now = constraintsOf (drop k ps) (drop i es) in
+      omega (
+        arith,
+        w .long,
+        sym (length-append (take i out) (map (labelBy l) now)) ∙ ap length (w .filled) ∙ length-map (constraintsOf ps es) (labelBy l),
+        length-map now (labelBy l),
+        ap length (pairs-step ps es k i h),
+        length-take i out,
+      )
 
   pub labelling-turns : (t : Bool) (v : ℕ) (out′ : List ℕ) → k + 1 < length ps → t ≡ eqb (getD es i 1) 1 → v ≡ labelBy l (here t) → out′ ≡ set out i v → length out′ ≡ length out → Labelling ps es l out₀ out′ (k + 2) (i + 1)
   labelling-turns t v out′ h e q eo el = record {
@@ -73,8 +73,8 @@ module _ (ps es l out₀ out : List ℕ) (k i : ℕ) (w : Labelling ps es l out�
 
   pub labelling-ends : length ps ≤ k + 1 → out ≡ map (labelBy l) (constraintsOf ps es)
   labelling-ends h =
-    let f : take i out ++ [] ≡ map (labelBy l) (constraintsOf ps es) = ap (λ (cs : List Constraint). take i out ++ map (labelBy l) cs) (sym (pairs-end ps (drop i es) k h)) ∙ w .filled in
-    fill-end out (map (labelBy l) (constraintsOf ps es)) i (omega (arith, ap length f, length-append (take i out) [], length-take i out, length-map (constraintsOf ps es) (labelBy l), w .long)) f
+      let f : take i out ++ [] ≡ map (labelBy l) (constraintsOf ps es) = ap (λ (cs : List Constraint). take i out ++ map (labelBy l) cs) (sym (pairs-end ps (drop i es) k h)) ∙ w .filled in
+      fill-end out (map (labelBy l) (constraintsOf ps es)) i (omega (arith, ap length f, length-append (take i out) [], length-take i out, length-map (constraintsOf ps es) (labelBy l), w .long)) f
 
 -- ---- the least label is the island
 module _ (f : Frame) (few : length (f .types) ≤ 4096) (l : List ℕ) (bodies : (x : ℕ) → getD l x none ≡ bodyLabel f x) (c : Constraint) (listed : List·Memᴰ c (constraints f)) (live : c .live ≡ true) where
@@ -94,9 +94,9 @@ module _ (f : Frame) (few : length (f .types) ≤ 4096) (l : List ℕ) (bodies :
   unfolding on
   least-is [] sub = refl
   least-is (x ∷ xs) sub =
-    let more = least-is xs (λ y m. sub y (or-right (eqb y x) (mem y xs) m)) in
-    let range = between (any (dynamic f) xs) (label f c) label-le in
-    by-cases (dynamic f x)
+      let more = least-is xs (λ y m. sub y (or-right (eqb y x) (mem y xs) m)) in
+      let range = between (any (dynamic f) xs) (label f c) label-le in
+      by-cases (dynamic f x)
       (λ d. rw d (omega (arith, bodies x, label-each f c x listed (and-both (c .live) (mem x (c .ends)) live (sub x (mem-self x xs))) d)))
       (λ d. rw d (omega (arith, bodies x, still-none x d)))
 
@@ -107,11 +107,11 @@ once u false x y e = rw e
 pub label-is : (f : Frame) → length (f .types) ≤ 4096 → (l : List ℕ) → ((x : ℕ) → getD l x none ≡ bodyLabel f x) → (c : Constraint) → List·Memᴰ c (constraints f) → labelBy l c ≡ label f c
 unfolding label touches
 label-is f few l bodies c m = by-cases (c .live)
-  (λ e.
+    (λ e.
     ap (λ (t : Bool). cond t (least l (c .ends)) none) e
     ∙ least-is f few l bodies c m e (c .ends) (λ x h. h)
     ∙ once (c .live) (any (dynamic f) (c .ends)) (bodyLabel f (getD (filter (dynamic f) (c .ends)) 0 0)) none e)
-  (λ e. rw e)
+    (λ e. rw e)
 
 -- the labels of constraints that a frame has
 pub labels-are : (f : Frame) → length (f .types) ≤ 4096 → (l : List ℕ) → ((x : ℕ) → getD l x none ≡ bodyLabel f x) → (cs : List Constraint) → ((c : Constraint) → List·Memᴰ c cs → List·Memᴰ c (constraints f)) → map (labelBy l) cs ≡ map (label f) cs

@@ -78,8 +78,8 @@ module _ (ts p l₀ l : List ℕ) (n b : ℕ) (w : Numbering ts p l₀ l n b) (h
   fixed-b : Dec (getD p b 0 ≡ b) → eqb (getD p b 0) b ≡ eqb (rootOf p b) b
   fixed-b (yes e) = eq-eqb (getD p b 0) b e ∙ sym (eq-eqb (rootOf p b) b (read-here p b in-p e))
   fixed-b (no e) =
-    let r : rootOf p b ≡ b → ⊥ = λ q. omega (arith, read-le p h b in-p, e, q, read-root p h b in-p, root-le p h (getD p b 0)) in
-    ne-eqb (getD p b 0) b e ∙ sym (ne-eqb (rootOf p b) b r)
+      let r : rootOf p b ≡ b → ⊥ = λ q. omega (arith, read-le p h b in-p, e, q, read-root p h b in-p, root-le p h (getD p b 0)) in
+      ne-eqb (getD p b 0) b e ∙ sym (ne-eqb (rootOf p b) b r)
 
   both : (u v : Bool) → cond u (cond v (n + 1) n) n ≡ n + one (u && v)
   both true true = refl
@@ -88,29 +88,29 @@ module _ (ts p l₀ l : List ℕ) (n b : ℕ) (w : Numbering ts p l₀ l n b) (h
 
   next-count : nextCount ts p l b n ≡ upTo ts l₀ p (b + 1)
   next-count =
-    ap (λ (u : Bool). cond u (cond (eqb (getD p b 0) b) (n + 1) n) n) mark-b
-    ∙ ap (λ (u : Bool). cond (marked ts l₀ b) (cond u (n + 1) n) n) (fixed-b (ℕ-discrete (getD p b 0) b))
-    ∙ both (marked ts l₀ b) (eqb (rootOf p b) b)
-    ∙ ap (λ (m : ℕ). m + one (leadsBy (marked ts l₀) (rootOf p) b)) (w .islands)
-    ∙ sym (count-next (leadsBy (marked ts l₀) (rootOf p)) b)
-    ∙ ap (upTo ts l₀ p) (sym (add-one b))
+      ap (λ (u : Bool). cond u (cond (eqb (getD p b 0) b) (n + 1) n) n) mark-b
+      ∙ ap (λ (u : Bool). cond (marked ts l₀ b) (cond u (n + 1) n) n) (fixed-b (ℕ-discrete (getD p b 0) b))
+      ∙ both (marked ts l₀ b) (eqb (rootOf p b) b)
+      ∙ ap (λ (m : ℕ). m + one (leadsBy (marked ts l₀) (rootOf p) b)) (w .islands)
+      ∙ sym (count-next (leadsBy (marked ts l₀) (rootOf p)) b)
+      ∙ ap (upTo ts l₀ p) (sym (add-one b))
 
   next-label : nextLabel ts p l b n ≡ numberOf ts l₀ p b
   unfolding Together
   next-label =
-    ap (λ (u : Bool). cond u (cond (eqb (getD p b 0) b) n (getD l (getD p b 0) 0)) none) mark-b
-    ∙ by-cases (marked ts l₀ b) (λ m. rw m (go m (ℕ-discrete (getD p b 0) b))) (λ m. rw m)
+      ap (λ (u : Bool). cond u (cond (eqb (getD p b 0) b) n (getD l (getD p b 0) 0)) none) mark-b
+      ∙ by-cases (marked ts l₀ b) (λ m. rw m (go m (ℕ-discrete (getD p b 0) b))) (λ m. rw m)
     where
       go : marked ts l₀ b ≡ true → Dec (getD p b 0 ≡ b) → cond (eqb (getD p b 0) b) n (getD l (getD p b 0) 0) ≡ upTo ts l₀ p (rootOf p b)
       go m (yes e) = rw (eq-eqb (getD p b 0) b e) (w .islands ∙ ap (upTo ts l₀ p) (sym (read-here p b in-p e)))
       go m (no e) =
-        let lt : getD p b 0 < b = omega (arith, read-le p h b in-p, e) in
-        let at : getD p b 0 < length l = omega (arith, w .long) in
-        rw (ne-eqb (getD p b 0) b e)
-        (getD-any l (getD p b 0) 0 none at
-        ∙ w .done (getD p b 0) lt
-        ∙ ap (λ (u : Bool). cond u (upTo ts l₀ p (rootOf p (getD p b 0))) none) (same (getD p b 0) b (read-root p h b in-p) ∙ m)
-        ∙ ap (upTo ts l₀ p) (read-root p h b in-p))
+          let lt : getD p b 0 < b = omega (arith, read-le p h b in-p, e) in
+          let at : getD p b 0 < length l = omega (arith, w .long) in
+          rw (ne-eqb (getD p b 0) b e)
+          (getD-any l (getD p b 0) 0 none at
+          ∙ w .done (getD p b 0) lt
+          ∙ ap (λ (u : Bool). cond u (upTo ts l₀ p (rootOf p (getD p b 0))) none) (same (getD p b 0) b (read-root p h b in-p) ∙ m)
+          ∙ ap (upTo ts l₀ p) (read-root p h b in-p))
 
   pub numbering-turns : (l′ : List ℕ) (n′ : ℕ) → l′ ≡ set l b (nextLabel ts p l b n) → n′ ≡ nextCount ts p l b n → length l′ ≡ length l → Numbering ts p l₀ l′ n′ (b + 1)
   numbering-turns l′ n′ e en el′ = record {
@@ -127,8 +127,8 @@ module _ (ts p l₀ l : List ℕ) (n b : ℕ) (w : Numbering ts p l₀ l n b) (h
 
 pub numbering-ends : (ts p l₀ l : List ℕ) (n b : ℕ) → Numbering ts p l₀ l n b → length l₀ ≡ length ts → length l ≤ b → Numbered (marked ts l₀) (rootOf p) (length ts) n l
 numbering-ends ts p l₀ l n b w el h =
-  let e : b ≡ length ts = omega (arith, w .long, w .inside) in
-  record { islands-are = w .islands ∙ ap (upTo ts l₀ p) e; labels-are = λ x. go x (decLt x b) }
+    let e : b ≡ length ts = omega (arith, w .long, w .inside) in
+    record { islands-are = w .islands ∙ ap (upTo ts l₀ p) e; labels-are = λ x. go x (decLt x b) }
   where
     off : (t : Bool) (v : ℕ) → cond (t && false) v none ≡ none
     off true v = refl
@@ -137,6 +137,6 @@ numbering-ends ts p l₀ l n b w el h =
     go : (x : ℕ) → Dec (x < b) → getD l x none ≡ numberOf ts l₀ p x
     go x (yes k) = w .done x k
     go x (no k) =
-      let z : getD l₀ x none ≡ none = List·getD-eq-default l₀ none (omega (arith, k, h, w .long)) in
-      List·getD-eq-default l none (omega (arith, k, h))
-      ∙ sym (ap (λ (v : ℕ). cond (dynamic (bare ts) x && not (eqb v none)) (upTo ts l₀ p (rootOf p x)) none) z ∙ off (dynamic (bare ts) x) (upTo ts l₀ p (rootOf p x)))
+        let z : getD l₀ x none ≡ none = List·getD-eq-default l₀ none (omega (arith, k, h, w .long)) in
+        List·getD-eq-default l none (omega (arith, k, h))
+        ∙ sym (ap (λ (v : ℕ). cond (dynamic (bare ts) x && not (eqb v none)) (upTo ts l₀ p (rootOf p x)) none) z ∙ off (dynamic (bare ts) x) (upTo ts l₀ p (rootOf p x)))

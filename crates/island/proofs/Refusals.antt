@@ -49,8 +49,8 @@ module _ (ts ps js es : List ℕ) (r : Rooms) where
   pub early-few : early ≡ 0 → length ts ≤ 4096
   unfolding fewEach
   early-few e =
-    let three = leb (length ts) 4096 && leb (pairCount ps) 4096 in
-    leb-true (length ts) 4096 (and-left (leb (length ts) 4096) (leb (pairCount ps) 4096) (and-left three (leb (pairCount js) 4096) (passed q3 _ 2 e .0)))
+      let three = leb (length ts) 4096 && leb (pairCount ps) 4096 in
+      leb-true (length ts) 4096 (and-left (leb (length ts) 4096) (leb (pairCount ps) 4096) (and-left three (leb (pairCount js) 4096) (passed q3 _ 2 e .0)))
 
   pub early-room : early ≡ 0 → q6 ≡ true
   early-room e = passed q6 0 5 (passed q5 _ 4 (passed q4 _ 3 (passed q3 _ 2 e .1) .1) .1) .0

@@ -159,4 +159,3 @@ module _ (p₀ p₁ p₂ : List ℕ) (a b x y : ℕ) (h₀ : Falls p₀) (h₂ :
 
   pub united-left : y ≤ x → x < length p₂ → Falls (set p₂ x y) × (rootOf (set p₂ x y) ≡ merge (rootOf p₀) a b)
   united-left l k = (falls-set p₂ h₂ x y k l, united p₂ h₂ x y x y (omega arith) (omega arith) k x-end y-end ∙ merged (sym (e₂ ∙ e₁)))
-

@@ -50,5 +50,5 @@ root-self n = roots-are (range n) (falls-self n) (λ x. x) (λ b e. refl) (link-
 
 pub tabled : (g : ℕ → ℕ) (l : List ℕ) (n d : ℕ) → length l ≡ n → ((x : ℕ) → getD l x d ≡ g x) → l ≡ map g (range n)
 tabled g l n d e h =
-  ext-getD d l (map g (range n)) (omega (arith, length-map (range n) g, length-range 0 n))
-  (λ i k. h i ∙ ap g (sym (range-at 0 n i 0 (omega (arith, k)) ∙ omega arith)) ∙ sym (getD-map-lt g (range n) i d 0 (omega (arith, k, length-range 0 n))))
+    ext-getD d l (map g (range n)) (omega (arith, length-map (range n) g, length-range 0 n))
+    (λ i k. h i ∙ ap g (sym (range-at 0 n i 0 (omega (arith, k)) ∙ omega arith)) ∙ sym (getD-map-lt g (range n) i d 0 (omega (arith, k, length-range 0 n))))

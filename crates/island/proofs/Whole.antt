@@ -54,9 +54,9 @@ module _ (f : Frame) (p b m j : List ℕ) (r : Ready f p b m j) where
   pub together : Together (marked (f .types) b) (rootOf p)
   unfolding Together
   together x y e =
-    ap (λ (g : ℕ → Bool). g x) marked-is
-    ∙ connected-island f x y (lowest-connected f x y (subst (λ (g : ℕ → ℕ). g x ≡ g y) (r .roots) e))
-    ∙ ap (λ (g : ℕ → Bool). g y) (sym marked-is)
+      ap (λ (g : ℕ → Bool). g x) marked-is
+      ∙ connected-island f x y (lowest-connected f x y (subst (λ (g : ℕ → ℕ). g x ≡ g y) (r .roots) e))
+      ∙ ap (λ (g : ℕ → Bool). g y) (sym marked-is)
 
   leads-is : leadsBy (marked (f .types) b) (rootOf p) ≡ leads f
   unfolding leads
@@ -81,10 +81,10 @@ module _ (f : Frame) (p b m j : List ℕ) (r : Ready f p b m j) where
     body-is : (x : ℕ) → getD l x none ≡ bodyLabel f x
     unfolding bodyLabel
     body-is x =
-      w .labels-are x
-      ∙ ap (λ (g : ℕ → Bool). cond (g x) (count (leadsBy (marked (f .types) b) (rootOf p)) (range (rootOf p x))) none) marked-is
-      ∙ ap (λ (g : ℕ → Bool). cond (inIsland f x) (count g (range (rootOf p x))) none) leads-is
-      ∙ ap (λ (g : ℕ → ℕ). cond (inIsland f x) (count (leads f) (range (g x))) none) (r .roots)
+        w .labels-are x
+        ∙ ap (λ (g : ℕ → Bool). cond (g x) (count (leadsBy (marked (f .types) b) (rootOf p)) (range (rootOf p x))) none) marked-is
+        ∙ ap (λ (g : ℕ → Bool). cond (inIsland f x) (count g (range (rootOf p x))) none) leads-is
+        ∙ ap (λ (g : ℕ → ℕ). cond (inIsland f x) (count (leads f) (range (g x))) none) (r .roots)
 
     pub labelled : (m′ j′ : List ℕ) → m′ ≡ map (labelBy l) (f .manifolds) → j′ ≡ map (labelBy l) (f .joints) → Labelled f l m′ j′ n
     unfolding islandCount

@@ -158,7 +158,14 @@ fn join_all(
     let mut i: usize = 0;
     while k + 1 < pairs.len() {
         let live = frame::live_at(enabled, i);
-        if !join_one(body_types, parents, body_islands, live, pairs[k], pairs[k + 1]) {
+        if !join_one(
+            body_types,
+            parents,
+            body_islands,
+            live,
+            pairs[k],
+            pairs[k + 1],
+        ) {
             return false;
         }
         k += 2;
@@ -304,7 +311,14 @@ fn lay(
     ensures { λ r. ⌜ Laid (frameOf (now («body_types» .entry)) (now (manifolds .entry)) (now (joints .entry)) (now (enabled .entry))) (now (parents .exit)) (now («body_islands» .exit)) (now («manifold_islands» .exit)) (now («joint_islands» .exit)) (answerNumber r) (answerIslands r) ⌝ }
 {
     reset(parents, body_islands);
-    if !join_frame(body_types, manifolds, joints, enabled, parents, body_islands) {
+    if !join_frame(
+        body_types,
+        manifolds,
+        joints,
+        enabled,
+        parents,
+        body_islands,
+    ) {
         reset(parents, body_islands);
         fill_none(manifold_islands);
         fill_none(joint_islands);

@@ -14,16 +14,16 @@ start c = c .before .before .before .before .before .before .before .before .bef
 
 fits : (c : tie.Else1) → Room (start c .args .body-types .now) (start c .args .manifolds .now) (start c .args .joints .now) (start c .args .enabled .now) (start c .args .parents .now) (start c .args .body-islands .now) (start c .args .manifold-islands .now) (start c .args .joint-islands .now)
 fits c =
-  let a = start c .args in
-  room (a .body-types .now) (a .manifolds .now) (a .joints .now) (a .enabled .now) (a .parents .now) (a .body-islands .now) (a .manifold-islands .now) (a .joint-islands .now) (sym (c .before .early-refusal .ensures) ∙ c .if1 .left)
+    let a = start c .args in
+    room (a .body-types .now) (a .manifolds .now) (a .joints .now) (a .enabled .now) (a .parents .now) (a .body-islands .now) (a .manifold-islands .now) (a .joint-islands .now) (sym (c .before .early-refusal .ensures) ∙ c .if1 .left)
 
 early-refusal-requires : tie.Need-early-refusal-requires
 early-refusal-requires c κs = search needs
 
 returns : tie.Need-returns
 returns c =
-  let a = c .before .before .before .before .before .before .before .before .before .before .args in
-  kept-built (a .body-types .now) (a .manifolds .now) (a .joints .now) (a .enabled .now) (a .parents .now) (a .body-islands .now) (a .manifold-islands .now) (a .joint-islands .now) (c .before .early-refusal .result) (c .before .early-refusal .ensures) (c .if1 .taken)
+    let a = c .before .before .before .before .before .before .before .before .before .before .args in
+    kept-built (a .body-types .now) (a .manifolds .now) (a .joints .now) (a .enabled .now) (a .parents .now) (a .body-islands .now) (a .manifold-islands .now) (a .joint-islands .now) (c .before .early-refusal .result) (c .before .early-refusal .ensures) (c .if1 .taken)
 
 slice-relend-prefix-lay : tie.Need-slice-relend-prefix-lay
 slice-relend-prefix-lay c = fits c .parents
@@ -51,9 +51,9 @@ slice-aggregate-lay-4 c = let a = start (c .before .before .before .before) .arg
 
 lay-requires : tie.Need-lay-requires
 lay-requires c κs =
-  let d = c .before .before .before .before in
-  let a = start d .args in
-  sized (a .body-types .now) (a .manifolds .now) (a .joints .now) (a .enabled .now) (a .parents .now) (a .body-islands .now) (a .manifold-islands .now) (a .joint-islands .now) (fits d)
+    let d = c .before .before .before .before in
+    let a = start d .args in
+    sized (a .body-types .now) (a .manifolds .now) (a .joints .now) (a .enabled .now) (a .parents .now) (a .body-islands .now) (a .manifold-islands .now) (a .joint-islands .now) (fits d)
 
 same-length : tie.Need-same-length
 same-length c = let a = start (c .before .before .before .before .before .before .before .before .before .before .before .before .before) .args in length-front (a .parents .now) (c .before .before .before .before .before .before .before .before .lay .last .1 .1 .1 .1 .0) (length (a .body-types .now)) (c .before .before .before .before .before .before .before .before .lay .kept .1 .1 .1 .1 .0)
@@ -69,10 +69,10 @@ same-length-4 c = let a = start (c .before .before .before .before .before .befo
 
 returns-2 : tie.Need-returns-2
 returns-2 c =
-  let d = c .before .before .before .before .before .before .before .before .before .before .before .before .before in
-  let a = start d .args in
-  let f = c .before .before .before .before .before .before .before .before .lay in
-  laid-built (a .body-types .now) (a .manifolds .now) (a .joints .now) (a .enabled .now) (a .parents .now) (a .body-islands .now) (a .manifold-islands .now) (a .joint-islands .now)
+    let d = c .before .before .before .before .before .before .before .before .before .before .before .before .before in
+    let a = start d .args in
+    let f = c .before .before .before .before .before .before .before .before .lay in
+    laid-built (a .body-types .now) (a .manifolds .now) (a .joints .now) (a .enabled .now) (a .parents .now) (a .body-islands .now) (a .manifold-islands .now) (a .joint-islands .now)
     (f .last .1 .1 .1 .1 .0) (f .last .1 .1 .1 .1 .1 .0) (f .last .1 .1 .1 .1 .1 .1 .0) (f .last .1 .1 .1 .1 .1 .1 .1 .0) _ _ (f .ensures)
     (f .kept .1 .1 .1 .1 .0 ∙ length-take-le (length (a .body-types .now)) (a .parents .now) (fits d .parents))
     (sym (d .before .early-refusal .ensures) ∙ d .if1 .left)

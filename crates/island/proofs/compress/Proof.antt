@@ -47,26 +47,26 @@ slice-write-parents c = search needs
 
 loop-less : tie.Need-loop-less Inv-loop μ-loop
 loop-less c =
-  let l = c .before .before .loop in
-  let k : l .body < length (l .parents) = omega arith in
-  let moves : getD (l .parents) (l .body) 0 ≡ l .body → ⊥ = λ e. c .before .loop-test .taken (sym (read-here (l .parents) (l .body) k e) ∙ l .inv .ahead) in
-  omega (arith, read-le (l .parents) (l .inv .falls) (l .body) k, moves)
+    let l = c .before .before .loop in
+    let k : l .body < length (l .parents) = omega arith in
+    let moves : getD (l .parents) (l .body) 0 ≡ l .body → ⊥ = λ e. c .before .loop-test .taken (sym (read-here (l .parents) (l .body) k e) ∙ l .inv .ahead) in
+    omega (arith, read-le (l .parents) (l .inv .falls) (l .body) k, moves)
 
 loop-again : tie.Need-loop-again Inv-loop μ-loop
 loop-again c =
-  let l = c .before .before .loop in
-  let p = l .parents in
-  let b = l .body in
-  let root = c .before .before .before .args .root in
-  let k : b < length p = omega arith in
-  let e = shortened p (l .inv .falls) b root k (sym (l .inv .ahead)) in
-  record {
-    below = omega (arith, read-le p (l .inv .falls) b k);
-    long = length-set p b root ∙ l .inv .long;
-    falls = falls-set p (l .inv .falls) b root k (omega (arith, l .inv .ahead, root-le p (l .inv .falls) b));
-    roots = e ∙ l .inv .roots;
-    ahead = ap (λ (g : ℕ → ℕ). g (getD p b 0)) e ∙ read-root p (l .inv .falls) b k ∙ l .inv .ahead;
-  }
+    let l = c .before .before .loop in
+    let p = l .parents in
+    let b = l .body in
+    let root = c .before .before .before .args .root in
+    let k : b < length p = omega arith in
+    let e = shortened p (l .inv .falls) b root k (sym (l .inv .ahead)) in
+    record {
+      below = omega (arith, read-le p (l .inv .falls) b k);
+      long = length-set p b root ∙ l .inv .long;
+      falls = falls-set p (l .inv .falls) b root k (omega (arith, l .inv .ahead, root-le p (l .inv .falls) b));
+      roots = e ∙ l .inv .roots;
+      ahead = ap (λ (g : ℕ → ℕ). g (getD p b 0)) e ∙ read-root p (l .inv .falls) b k ∙ l .inv .ahead;
+    }
 
 same-length : tie.Need-same-length Inv-loop μ-loop
 same-length c = c .before .loop .inv .long

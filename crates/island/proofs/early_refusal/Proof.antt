@@ -29,18 +29,18 @@ few-each-requires c κs = search needs
 
 returns : tie.Need-returns
 returns c =
-  let s = c .before .before .before .before .before .before in
-  let a = s .args in
-  no-3 (a .body-types .now) (a .manifolds .now) (a .joints .now) (a .enabled .now) (rooms s) (sym (c .before .few-each .ensures) ∙ not-true _ (c .if1 .taken))
+    let s = c .before .before .before .before .before .before in
+    let a = s .args in
+    no-3 (a .body-types .now) (a .manifolds .now) (a .joints .now) (a .enabled .now) (rooms s) (sym (c .before .few-each .ensures) ∙ not-true _ (c .if1 .taken))
 
 lengths-agree-requires : tie.Need-lengths-agree-requires
 lengths-agree-requires c κs = search needs
 
 returns-2 : tie.Need-returns-2
 returns-2 c =
-  let s = start (c .before .before) in
-  let a = s .args in
-  no-4 (a .body-types .now) (a .manifolds .now) (a .joints .now) (a .enabled .now) (rooms s) (yes-3 (c .before .before)) (sym (c .before .lengths-agree .ensures) ∙ not-true _ (c .if2 .taken))
+    let s = start (c .before .before) in
+    let a = s .args in
+    no-4 (a .body-types .now) (a .manifolds .now) (a .joints .now) (a .enabled .now) (rooms s) (yes-3 (c .before .before)) (sym (c .before .lengths-agree .ensures) ∙ not-true _ (c .if2 .taken))
 
 at-most-requires : tie.Need-at-most-requires
 at-most-requires c κs = search needs
@@ -50,24 +50,24 @@ at-most-requires-2 c κs = search needs
 
 returns-3 : tie.Need-returns-3
 returns-3 c =
-  let d = c .before .before .before in
-  let s = start (d .before .before) in
-  let a = s .args in
-  no-5 (a .body-types .now) (a .manifolds .now) (a .joints .now) (a .enabled .now) (rooms s) (yes-3 (d .before .before)) (yes-4 d) (sym (ap₂ _&&_ (c .before .before .at-most .ensures) (c .before .at-most2 .ensures)) ∙ not-true _ (c .if3 .taken))
+    let d = c .before .before .before in
+    let s = start (d .before .before) in
+    let a = s .args in
+    no-5 (a .body-types .now) (a .manifolds .now) (a .joints .now) (a .enabled .now) (rooms s) (yes-3 (d .before .before)) (yes-4 d) (sym (ap₂ _&&_ (c .before .before .at-most .ensures) (c .before .at-most2 .ensures)) ∙ not-true _ (c .if3 .taken))
 
 returns-4 : tie.Need-returns-4
 returns-4 c =
-  let d = c .before .before .before .before in
-  let s = start (d .before .before) in
-  let a = s .args in
-  no-6 (a .body-types .now) (a .manifolds .now) (a .joints .now) (a .enabled .now) (rooms s) (yes-3 (d .before .before)) (yes-4 d) (yes-5 (c .before)) (not-true _ (c .if4 .taken))
+    let d = c .before .before .before .before in
+    let s = start (d .before .before) in
+    let a = s .args in
+    no-6 (a .body-types .now) (a .manifolds .now) (a .joints .now) (a .enabled .now) (rooms s) (yes-3 (d .before .before)) (yes-4 d) (yes-5 (c .before)) (not-true _ (c .if4 .taken))
 
 returns-5 : tie.Need-returns-5
 returns-5 c =
-  let d = c .before .before .before .before in
-  let s = start (d .before .before) in
-  let a = s .args in
-  no-none (a .body-types .now) (a .manifolds .now) (a .joints .now) (a .enabled .now) (rooms s) (yes-3 (d .before .before)) (yes-4 d) (yes-5 (c .before)) (not-false _ (c .if4 .left))
+    let d = c .before .before .before .before in
+    let s = start (d .before .before) in
+    let a = s .args in
+    no-none (a .body-types .now) (a .manifolds .now) (a .joints .now) (a .enabled .now) (rooms s) (yes-3 (d .before .before)) (yes-4 d) (yes-5 (c .before)) (not-false _ (c .if4 .left))
 
 pub early-refusal-spec : {M : Type 1} → statement M
 early-refusal-spec =

@@ -34,22 +34,22 @@ loop-less c = search needs
 
 loop-again : tie.Need-loop-again Inv-loop μ-loop
 loop-again c =
-  let l = c .before .loop in
-  let n = length (c .before .before .args .labels .now) in
-  let t = l .labels in
-  let i = l .i in
-  let h : i < n = omega arith in
-  (omega arith, length-set t i none ∙ l .inv .1, fill-turn t (replicate (n - (i + 1)) none) (replicate n none) i none (c .loop-test .taken) (ap (λ (r : List ℕ). take i t ++ r) (sym (none-next n i h)) ∙ l .inv .2))
+    let l = c .before .loop in
+    let n = length (c .before .before .args .labels .now) in
+    let t = l .labels in
+    let i = l .i in
+    let h : i < n = omega arith in
+    (omega arith, length-set t i none ∙ l .inv .1, fill-turn t (replicate (n - (i + 1)) none) (replicate n none) i none (c .loop-test .taken) (ap (λ (r : List ℕ). take i t ++ r) (sym (none-next n i h)) ∙ l .inv .2))
 
 same-length : tie.Need-same-length Inv-loop μ-loop
 same-length c = c .before .loop .inv .1
 
 returns : tie.Need-returns Inv-loop μ-loop
 returns c =
-  let l = c .before .loop in
-  let n = length (c .before .before .args .labels .now) in
-  let e : 0 ≡ n - l .i = omega arith in
-  fill-end (l .labels) (replicate n none) (l .i) (c .loop-test .left) (ap (λ (m : ℕ). take (l .i) (l .labels) ++ replicate m none) e ∙ l .inv .2)
+    let l = c .before .loop in
+    let n = length (c .before .before .args .labels .now) in
+    let e : 0 ≡ n - l .i = omega arith in
+    fill-end (l .labels) (replicate n none) (l .i) (c .loop-test .left) (ap (λ (m : ℕ). take (l .i) (l .labels) ++ replicate m none) e ∙ l .inv .2)
 
 pub fill-none-spec : {M : Type 1} → statement M
 fill-none-spec =

@@ -37,22 +37,22 @@ loop-less c = search needs
 
 loop-again : tie.Need-loop-again Inv-loop μ-loop
 loop-again c =
-  let l = c .before .loop in
-  let n = length (c .before .before .args .parents .now) in
-  let t = l .parents in
-  let i = l .body in
-  let h : i < n = omega arith in
-  (omega arith, length-set t i i ∙ l .inv .1, fill-turn t (rangeFrom (i + 1) (n - (i + 1))) (range n) i i (c .loop-test .taken) (ap (λ (r : List ℕ). take i t ++ r) (sym (self-next n i h)) ∙ l .inv .2))
+    let l = c .before .loop in
+    let n = length (c .before .before .args .parents .now) in
+    let t = l .parents in
+    let i = l .body in
+    let h : i < n = omega arith in
+    (omega arith, length-set t i i ∙ l .inv .1, fill-turn t (rangeFrom (i + 1) (n - (i + 1))) (range n) i i (c .loop-test .taken) (ap (λ (r : List ℕ). take i t ++ r) (sym (self-next n i h)) ∙ l .inv .2))
 
 same-length : tie.Need-same-length Inv-loop μ-loop
 same-length c = c .before .loop .inv .1
 
 returns : tie.Need-returns Inv-loop μ-loop
 returns c =
-  let l = c .before .loop in
-  let n = length (c .before .before .args .parents .now) in
-  let e : 0 ≡ n - l .body = omega arith in
-  fill-end (l .parents) (range n) (l .body) (c .loop-test .left) (ap (λ (m : ℕ). take (l .body) (l .parents) ++ rangeFrom (l .body) m) e ∙ l .inv .2)
+    let l = c .before .loop in
+    let n = length (c .before .before .args .parents .now) in
+    let e : 0 ≡ n - l .body = omega arith in
+    fill-end (l .parents) (range n) (l .body) (c .loop-test .left) (ap (λ (m : ℕ). take (l .body) (l .parents) ++ rangeFrom (l .body) m) e ∙ l .inv .2)
 
 pub fill-self-spec : {M : Type 1} → statement M
 fill-self-spec =

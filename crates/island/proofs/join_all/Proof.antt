@@ -19,9 +19,9 @@ abbrev μ-loop : tie.MeasureT-loop
 
 loop-holds : tie.Need-loop-holds Inv-loop μ-loop
 loop-holds c =
-  let s = c .before .before .before .before .before in
-  let a = s .args in
-  joining-starts (a .body-types .now) (a .pairs .now) (a .enabled .now) (a .parents .now) (a .body-islands .now) (s .pre .0)
+    let s = c .before .before .before .before .before in
+    let a = s .args in
+    joining-starts (a .body-types .now) (a .pairs .now) (a .enabled .now) (a .parents .now) (a .body-islands .now) (s .pre .0)
 
 add-loop : tie.Need-add-loop Inv-loop μ-loop
 add-loop c = search needs
@@ -46,9 +46,9 @@ shared-slice-read-join-one-2 c = search needs
 
 join-one-requires : tie.Need-join-one-requires Inv-loop μ-loop
 join-one-requires c κs =
-  let w = c .before .before .before .before .before .before .loop .inv in
-  let s = c .before .before .before .before .before .before .before .before .before .before .before .before in
-  (w .joined .falls, w .long-p ∙ s .pre .1, w .long-l ∙ s .pre .2)
+    let w = c .before .before .before .before .before .before .loop .inv in
+    let s = c .before .before .before .before .before .before .before .before .before .before .before .before in
+    (w .joined .falls, w .long-p ∙ s .pre .1, w .long-l ∙ s .pre .2)
 
 same-length : tie.Need-same-length Inv-loop μ-loop
 same-length c = c .before .before .before .before .before .join-one .kept .1 .0 ∙ c .before .before .before .before .before .before .before .before .before .before .before .before .loop .inv .long-p
@@ -58,14 +58,13 @@ same-length-2 c = c .before .before .before .before .before .join-one .kept .1 .
 
 returns : tie.Need-returns Inv-loop μ-loop
 returns c =
-  let l = c .before .before .before .before .before .before .before .before .before .before .before .before .loop in
-  let a = c .before .before .before .before .before .before .before .before .before .before .before .before .before .before .before .before .before .before .args in
-  let v = c .before .before .before .before .before .before .before .before .before .before .live-at in
-  (
-    sym (joining-stops (a .body-types .now) (a .pairs .now) (a .enabled .now) (a .parents .now) (a .body-islands .now) (l .parents) (l .body-islands) (l .k) (l .i) (l .inv) (v .result)
-      (c .before .before .before .before .before .before .before .before .before .before .before .loop-test .taken) (v .ensures) (sym (c .before .before .before .before .before .join-one .ensures .0) ∙ not-true _ (c .if1 .taken))),
-    λ e. clashes false e refl,
-  )
+    let l = c .before .before .before .before .before .before .before .before .before .before .before .before .loop in
+    let a = c .before .before .before .before .before .before .before .before .before .before .before .before .before .before .before .before .before .before .args in
+    let v = c .before .before .before .before .before .before .before .before .before .before .live-at in (
+      sym (joining-stops (a .body-types .now) (a .pairs .now) (a .enabled .now) (a .parents .now) (a .body-islands .now) (l .parents) (l .body-islands) (l .k) (l .i) (l .inv) (v .result)
+          (c .before .before .before .before .before .before .before .before .before .before .before .loop-test .taken) (v .ensures) (sym (c .before .before .before .before .before .join-one .ensures .0) ∙ not-true _ (c .if1 .taken))),
+      λ e. clashes false e refl,
+    )
 
 add-k : tie.Need-add-k Inv-loop μ-loop
 add-k c = search needs
@@ -78,11 +77,11 @@ loop-less c = search needs
 
 loop-again : tie.Need-loop-again Inv-loop μ-loop
 loop-again c =
-  let j = c .before .before .before .before .before .join-one in
-  let l = c .before .before .before .before .before .before .before .before .before .before .before .before .loop in
-  let a = c .before .before .before .before .before .before .before .before .before .before .before .before .before .before .before .before .before .before .args in
-  let v = c .before .before .before .before .before .before .before .before .before .before .live-at in
-  joining-turns (a .body-types .now) (a .pairs .now) (a .enabled .now) (a .parents .now) (a .body-islands .now) (l .parents) (l .body-islands) (l .k) (l .i) (l .inv) (j .last .1 .0) (j .last .1 .1 .0) (v .result)
+    let j = c .before .before .before .before .before .join-one in
+    let l = c .before .before .before .before .before .before .before .before .before .before .before .before .loop in
+    let a = c .before .before .before .before .before .before .before .before .before .before .before .before .before .before .before .before .before .before .args in
+    let v = c .before .before .before .before .before .before .before .before .before .before .live-at in
+    joining-turns (a .body-types .now) (a .pairs .now) (a .enabled .now) (a .parents .now) (a .body-islands .now) (l .parents) (l .body-islands) (l .k) (l .i) (l .inv) (j .last .1 .0) (j .last .1 .1 .0) (v .result)
     (c .before .before .before .before .before .before .before .before .before .before .before .loop-test .taken) (v .ensures) (sym (j .ensures .0) ∙ not-false _ (c .if1 .left)) (j .kept .1 .0) (j .kept .1 .1 .0) (j .ensures .1 (not-false _ (c .if1 .left)))
 
 same-length-3 : tie.Need-same-length-3 Inv-loop μ-loop
@@ -93,12 +92,11 @@ same-length-4 c = c .before .loop .inv .long-l
 
 returns-2 : tie.Need-returns-2 Inv-loop μ-loop
 returns-2 c =
-  let l = c .before .loop in
-  let a = c .before .before .before .before .before .before .before .args in
-  (
-    sym (joining-passes (a .body-types .now) (a .pairs .now) (a .enabled .now) (a .parents .now) (a .body-islands .now) (l .parents) (l .body-islands) (l .k) (l .i) (l .inv) (c .loop-test .left)),
-    λ e. joining-ends (a .body-types .now) (a .pairs .now) (a .enabled .now) (a .parents .now) (a .body-islands .now) (l .parents) (l .body-islands) (l .k) (l .i) (l .inv) (c .loop-test .left),
-  )
+    let l = c .before .loop in
+    let a = c .before .before .before .before .before .before .before .args in (
+      sym (joining-passes (a .body-types .now) (a .pairs .now) (a .enabled .now) (a .parents .now) (a .body-islands .now) (l .parents) (l .body-islands) (l .k) (l .i) (l .inv) (c .loop-test .left)),
+      λ e. joining-ends (a .body-types .now) (a .pairs .now) (a .enabled .now) (a .parents .now) (a .body-islands .now) (l .parents) (l .body-islands) (l .k) (l .i) (l .inv) (c .loop-test .left),
+    )
 
 pub join-all-spec : {M : Type 1} → statement M
 join-all-spec =

@@ -15,9 +15,9 @@ shared-slice-read-both-2 c = search needs
 
 returns : tie.Need-returns
 returns c =
-  let s = c .before .before .before .before .before in
-  let a = s .args in
-  (s .pre .0, join-off (rootOf (a .parents .now)) (a .body-types .now) (a .a) (a .b) (not-true _ (c .if1 .taken)))
+    let s = c .before .before .before .before .before in
+    let a = s .args in
+    (s .pre .0, join-off (rootOf (a .parents .now)) (a .body-types .now) (a .a) (a .b) (not-true _ (c .if1 .taken)))
 
 union-requires : tie.Need-union-requires
 union-requires c κs = search needs
@@ -27,9 +27,9 @@ same-length c = search needs
 
 returns-2 : tie.Need-returns-2
 returns-2 c =
-  let f = c .before .before .union in
-  let a = c .before .before .before .before .before .before .before .before .before .args in
-  (f .ensures .0, f .ensures .1 ∙ join-on (rootOf (a .parents .now)) (a .body-types .now) (a .a) (a .b) (not-false _ (c .before .before .before .before .if1 .left)))
+    let f = c .before .before .union in
+    let a = c .before .before .before .before .before .before .before .before .before .args in
+    (f .ensures .0, f .ensures .1 ∙ join-on (rootOf (a .parents .now)) (a .body-types .now) (a .a) (a .b) (not-false _ (c .before .before .before .before .if1 .left)))
 
 pub join-dynamic-spec : {M : Type 1} → statement M
 join-dynamic-spec =

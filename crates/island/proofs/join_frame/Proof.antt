@@ -37,18 +37,17 @@ same-length-2 c = search needs
 returns : tie.Need-returns
 unfolding allSound
 returns c =
-  let s = c .before .before .before .before .before .before .before .before .before .before .before .before .before .before .before in
-  let f = c .before .before .before .before .before .join-all in
-  (
-    sym (all-append (passes s) (ms s) (js s) ∙ ap (λ (t : Bool). t && all (passes s) (js s)) (sym (f .ensures .0) ∙ not-true _ (c .if1 .taken))),
-    λ e. clashes false e refl,
-  )
+    let s = c .before .before .before .before .before .before .before .before .before .before .before .before .before .before .before in
+    let f = c .before .before .before .before .before .join-all in (
+      sym (all-append (passes s) (ms s) (js s) ∙ ap (λ (t : Bool). t && all (passes s) (js s)) (sym (f .ensures .0) ∙ not-true _ (c .if1 .taken))),
+      λ e. clashes false e refl,
+    )
 
 join-all-requires-2 : tie.Need-join-all-requires-2
 join-all-requires-2 c κs =
-  let s = c .before .before .before .before .before .before .before .before .before .before .before .before .before .before .before .before .before in
-  let f = c .before .before .before .before .before .before .before .join-all in
-  (f .ensures .1 (not-false _ (c .before .before .if1 .left)) .falls, f .kept .1 .1 .1 .0 ∙ s .pre .1, f .kept .1 .1 .1 .1 .0 ∙ s .pre .2)
+    let s = c .before .before .before .before .before .before .before .before .before .before .before .before .before .before .before .before .before in
+    let f = c .before .before .before .before .before .before .before .join-all in
+    (f .ensures .1 (not-false _ (c .before .before .if1 .left)) .falls, f .kept .1 .1 .1 .0 ∙ s .pre .1, f .kept .1 .1 .1 .1 .0 ∙ s .pre .2)
 
 same-length-3 : tie.Need-same-length-3
 same-length-3 c = search needs
@@ -59,16 +58,15 @@ same-length-4 c = search needs
 returns-2 : tie.Need-returns-2
 unfolding allSound
 returns-2 c =
-  let g = c .before .before .before .before .join-all2 in
-  let d = c .before .before .before .before .before .before .before in
-  let f = d .before .before .before .before .before .join-all in
-  let s = d .before .before .before .before .before .before .before .before .before .before .before .before .before .before .before in
-  let a = s .args in
-  let ok = not-false _ (d .if1 .left) in
-  (
-    g .ensures .0 ∙ sym (all-append (passes s) (ms s) (js s) ∙ ap (λ (t : Bool). t && all (passes s) (js s)) (sym (f .ensures .0) ∙ ok)),
-    λ e. joined-append (a .body-types .now) (ms s) (js s) (a .parents .now) (a .body-islands .now) (f .last .1 .1 .1 .0) (f .last .1 .1 .1 .1 .0) (g .last .1 .1 .1 .0) (g .last .1 .1 .1 .1 .0) (f .ensures .1 ok) (g .ensures .1 e),
-  )
+    let g = c .before .before .before .before .join-all2 in
+    let d = c .before .before .before .before .before .before .before in
+    let f = d .before .before .before .before .before .join-all in
+    let s = d .before .before .before .before .before .before .before .before .before .before .before .before .before .before .before in
+    let a = s .args in
+    let ok = not-false _ (d .if1 .left) in (
+      g .ensures .0 ∙ sym (all-append (passes s) (ms s) (js s) ∙ ap (λ (t : Bool). t && all (passes s) (js s)) (sym (f .ensures .0) ∙ ok)),
+      λ e. joined-append (a .body-types .now) (ms s) (js s) (a .parents .now) (a .body-islands .now) (f .last .1 .1 .1 .0) (f .last .1 .1 .1 .1 .0) (g .last .1 .1 .1 .0) (g .last .1 .1 .1 .1 .0) (f .ensures .1 ok) (g .ensures .1 e),
+    )
 
 pub join-frame-spec : {M : Type 1} → statement M
 join-frame-spec =

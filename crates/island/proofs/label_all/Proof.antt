@@ -16,10 +16,10 @@ abbrev μ-loop : tie.MeasureT-loop
 
 room : (c : tie.After-label-one Inv-loop μ-loop) → c .before .before .before .before .before .loop .i < length (c .before .before .before .before .before .loop .labels)
 room c =
-  let l = c .before .before .before .before .before .loop in
-  let s = c .before .before .before .before .before .before .before .before .before .before in
-  let a = s .args in
-  labelling-room (a .pairs .now) (a .enabled .now) (a .body-islands .now) (a .labels .now) (l .labels) (l .k) (l .i) (l .inv) (s .pre .0) (c .before .before .before .before .loop-test .taken)
+    let l = c .before .before .before .before .before .loop in
+    let s = c .before .before .before .before .before .before .before .before .before .before in
+    let a = s .args in
+    labelling-room (a .pairs .now) (a .enabled .now) (a .body-islands .now) (a .labels .now) (l .labels) (l .k) (l .i) (l .inv) (s .pre .0) (c .before .before .before .before .loop-test .taken)
 
 loop-holds : tie.Need-loop-holds Inv-loop μ-loop
 loop-holds c = record { near = omega arith; inside = omega arith; long = refl; passed = c .before .before .before .before .pre .1; filled = refl }
@@ -47,10 +47,10 @@ shared-slice-read-label-one-2 c = search needs
 
 label-one-requires : tie.Need-label-one-requires Inv-loop μ-loop
 label-one-requires c κs =
-  let l = c .before .before .before .before .loop in
-  let s = c .before .before .before .before .before .before .before .before .before in
-  let a = s .args in
-  labelling-sound (a .pairs .now) (a .enabled .now) (a .body-islands .now) (a .labels .now) (l .labels) (l .k) (l .i) (l .inv) (s .pre .0) (c .before .before .live-at .result) (c .before .before .before .loop-test .taken) (c .before .before .live-at .ensures)
+    let l = c .before .before .before .before .loop in
+    let s = c .before .before .before .before .before .before .before .before .before in
+    let a = s .args in
+    labelling-sound (a .pairs .now) (a .enabled .now) (a .body-islands .now) (a .labels .now) (l .labels) (l .k) (l .i) (l .inv) (s .pre .0) (c .before .before .live-at .result) (c .before .before .before .loop-test .taken) (c .before .before .live-at .ensures)
 
 mul-labels : tie.Need-mul-labels Inv-loop μ-loop
 mul-labels c = search needs
@@ -69,11 +69,11 @@ loop-less c = search needs
 
 loop-again : tie.Need-loop-again Inv-loop μ-loop
 loop-again c =
-  let l = c .before .before .before .before .before .loop in
-  let s = c .before .before .before .before .before .before .before .before .before .before in
-  let a = s .args in
-  let v = c .before .before .before .live-at in
-  labelling-turns (a .pairs .now) (a .enabled .now) (a .body-islands .now) (a .labels .now) (l .labels) (l .k) (l .i) (l .inv) (s .pre .0) (v .result) (c .label-one .result) _
+    let l = c .before .before .before .before .before .loop in
+    let s = c .before .before .before .before .before .before .before .before .before .before in
+    let a = s .args in
+    let v = c .before .before .before .live-at in
+    labelling-turns (a .pairs .now) (a .enabled .now) (a .body-islands .now) (a .labels .now) (l .labels) (l .k) (l .i) (l .inv) (s .pre .0) (v .result) (c .label-one .result) _
     (c .before .before .before .before .loop-test .taken) (v .ensures) (c .label-one .ensures) refl (length-set (l .labels) (l .i) (c .label-one .result))
 
 same-length : tie.Need-same-length Inv-loop μ-loop
@@ -81,10 +81,10 @@ same-length c = c .before .loop .inv .long
 
 returns : tie.Need-returns Inv-loop μ-loop
 returns c =
-  let l = c .before .loop in
-  let s = c .before .before .before .before .before .before in
-  let a = s .args in
-  labelling-ends (a .pairs .now) (a .enabled .now) (a .body-islands .now) (a .labels .now) (l .labels) (l .k) (l .i) (l .inv) (s .pre .0) (c .loop-test .left)
+    let l = c .before .loop in
+    let s = c .before .before .before .before .before .before in
+    let a = s .args in
+    labelling-ends (a .pairs .now) (a .enabled .now) (a .body-islands .now) (a .labels .now) (l .labels) (l .k) (l .i) (l .inv) (s .pre .0) (c .loop-test .left)
 
 pub label-all-spec : {M : Type 1} → statement M
 label-all-spec =

@@ -11,8 +11,8 @@ use Rattle.island.proofs.label_one.Tie as tie
 
 inside : (c : tie.Else1) → (c .before .args .a < length (c .before .args .body-islands .now)) × (c .before .args .b < length (c .before .args .body-islands .now))
 inside c =
-  let a = c .before .args in
-  sound-in (a .live) (a .a) (a .b) (length (a .body-islands .now)) (not-false _ (c .if1 .left)) (c .before .pre)
+    let a = c .before .args in
+    sound-in (a .live) (a .a) (a .b) (length (a .body-islands .now)) (not-false _ (c .if1 .left)) (c .before .pre)
 
 returns : tie.Need-returns
 returns c = let a = c .before .args in label-dead (a .body-islands .now) (a .live) (a .a) (a .b) (not-true _ (c .if1 .taken))
@@ -31,15 +31,15 @@ shared-slice-read-island-b c = inside (c .before .before) .1
 
 returns-2 : tie.Need-returns-2
 returns-2 c =
-  let d = c .before .before .before in
-  let a = d .before .args in
-  label-live (a .body-islands .now) (a .live) (a .a) (a .b) _ (not-false _ (d .if1 .left)) (inside d .0) (inside d .1) (omega arith) (omega (arith, c .before .shared-slice-known2 .given (a .b)))
+    let d = c .before .before .before in
+    let a = d .before .args in
+    label-live (a .body-islands .now) (a .live) (a .a) (a .b) _ (not-false _ (d .if1 .left)) (inside d .0) (inside d .1) (omega arith) (omega (arith, c .before .shared-slice-known2 .given (a .b)))
 
 returns-3 : tie.Need-returns-3
 returns-3 c =
-  let d = c .before .before .before in
-  let a = d .before .args in
-  label-live (a .body-islands .now) (a .live) (a .a) (a .b) _ (not-false _ (d .if1 .left)) (inside d .0) (inside d .1) (omega arith) (omega (arith, c .before .shared-slice-known2 .given (a .b)))
+    let d = c .before .before .before in
+    let a = d .before .args in
+    label-live (a .body-islands .now) (a .live) (a .a) (a .b) _ (not-false _ (d .if1 .left)) (inside d .0) (inside d .1) (omega arith) (omega (arith, c .before .shared-slice-known2 .given (a .b)))
 
 pub label-one-spec : {M : Type 1} → statement M
 label-one-spec =

@@ -20,12 +20,12 @@ frame s = frameOf (s .args .body-types .now) (s .args .manifolds .now) (s .args 
 -- once the constraints are joined
 joined : (c : tie.After-label-frame-arg4) → Ready (frame (c .before .before .before .before .before .before .before .before .before .before .before .before .before .before .before .before .before .before .before .before .before .before .before .before .before .before .before)) (c .before .before .before .before .before .before .before .before .before .join-frame .last .1 .1 .1 .1 .0) (c .before .before .before .before .before .before .before .before .before .join-frame .last .1 .1 .1 .1 .1 .0) (c .before .before .before .before .before .before .before .before .before .before .before .before .before .before .before .before .before .before .before .before .before .before .before .before .before .before .before .args .manifold-islands .now) (c .before .before .before .before .before .before .before .before .before .before .before .before .before .before .before .before .before .before .before .before .before .before .before .before .before .before .before .args .joint-islands .now)
 joined c =
-  let s = c .before .before .before .before .before .before .before .before .before .before .before .before .before .before .before .before .before .before .before .before .before .before .before .before .before .before .before in
-  let a = s .args in
-  let j = c .before .before .before .before .before .before .before .before .before .join-frame in
-  let r = c .before .before .before .before .before .before .before .before .before .before .before .before .before .before .before .before .reset in
-  let ok = not-false _ (c .before .before .before .before .if1 .left) in
-  ready (frame s) (r .last .0) (r .last .1 .0) (j .last .1 .1 .1 .1 .0) (j .last .1 .1 .1 .1 .1 .0) (a .manifold-islands .now) (a .joint-islands .now) (length (a .parents .now)) (length (a .body-islands .now)) (r .ensures .0) (r .ensures .1)
+    let s = c .before .before .before .before .before .before .before .before .before .before .before .before .before .before .before .before .before .before .before .before .before .before .before .before .before .before .before in
+    let a = s .args in
+    let j = c .before .before .before .before .before .before .before .before .before .join-frame in
+    let r = c .before .before .before .before .before .before .before .before .before .before .before .before .before .before .before .before .reset in
+    let ok = not-false _ (c .before .before .before .before .if1 .left) in
+    ready (frame s) (r .last .0) (r .last .1 .0) (j .last .1 .1 .1 .1 .0) (j .last .1 .1 .1 .1 .1 .0) (a .manifold-islands .now) (a .joint-islands .now) (length (a .parents .now)) (length (a .body-islands .now)) (r .ensures .0) (r .ensures .1)
     (record {
       few = s .pre .few;
       long-parents = j .kept .1 .1 .1 .1 .0 ∙ r .kept .0 ∙ s .pre .long-parents;
@@ -40,14 +40,13 @@ reset-requires c κs = search needs
 
 join-frame-requires : tie.Need-join-frame-requires
 join-frame-requires c κs =
-  let s = c .before .before .before .before .before .before .before .before .before .before .before .before .before .before .before .before .before in
-  let a = s .args in
-  let r = c .before .before .before .before .before .before .reset in
-  (
-    fresh-falls (frame s) (r .last .0) (r .last .1 .0) (r .last .0) (r .last .1 .0) (a .manifold-islands .now) (a .joint-islands .now) (length (a .parents .now)) (length (a .body-islands .now)) (r .ensures .0) (r .ensures .1),
-    r .kept .0 ∙ s .pre .long-parents,
-    r .kept .1 .0 ∙ s .pre .long-bodies,
-  )
+    let s = c .before .before .before .before .before .before .before .before .before .before .before .before .before .before .before .before .before in
+    let a = s .args in
+    let r = c .before .before .before .before .before .before .reset in (
+      fresh-falls (frame s) (r .last .0) (r .last .1 .0) (r .last .0) (r .last .1 .0) (a .manifold-islands .now) (a .joint-islands .now) (length (a .parents .now)) (length (a .body-islands .now)) (r .ensures .0) (r .ensures .1),
+      r .kept .0 ∙ s .pre .long-parents,
+      r .kept .1 .0 ∙ s .pre .long-bodies,
+    )
 
 reset-requires-2 : tie.Need-reset-requires-2
 reset-requires-2 c κs = search needs
@@ -72,22 +71,22 @@ same-length-4 c = search needs
 
 returns : tie.Need-returns
 returns c =
-  let s = c .before .before .before .before .before .before .before .before .before .before .before .before .before .before .before .before .before .before .before .before .before .before .before .before .before .before .before .before .before .before .before .before .before .before .before .before .before .before in
-  let j = c .before .before .before .before .before .before .before .before .before .before .before .before .before .before .before .before .before .before .before .before .join-frame in
-  let r = c .before .before .before .before .before .before .before .before .before .before .before .before .before .before .before .before .before .before .before .before .before .before .before .before .before .before .before .reset in
-  let q = c .before .before .before .before .before .before .before .before .before .before .before .before .reset2 in
-  let bad : allSound (frame s) ≡ false = sym (j .ensures .0) ∙ not-true _ (c .before .before .before .before .before .before .before .before .before .before .before .before .before .before .before .if1 .taken) in
-  record {
-    refusal = ap (λ (t : Bool). cond t 0 7) (sym bad);
-    accepted = λ e. clashes (allSound (frame s)) e bad;
-    refused = λ e. record {
-      count = refl;
-      alone = q .ensures .0 ∙ ap range (j .kept .1 .1 .1 .1 .0 ∙ r .kept .0 ∙ s .pre .long-parents);
-      body-labels = q .ensures .1 ∙ ap (λ (n : ℕ). replicate n none) (j .kept .1 .1 .1 .1 .1 .0 ∙ r .kept .1 .0 ∙ s .pre .long-bodies);
-      manifold-labels = c .before .before .before .before .before .before .fill-none .ensures ∙ ap (λ (n : ℕ). replicate n none) (s .pre .long-manifolds);
-      joint-labels = c .before .before .fill-none2 .ensures ∙ ap (λ (n : ℕ). replicate n none) (s .pre .long-joints);
-    };
-  }
+    let s = c .before .before .before .before .before .before .before .before .before .before .before .before .before .before .before .before .before .before .before .before .before .before .before .before .before .before .before .before .before .before .before .before .before .before .before .before .before .before in
+    let j = c .before .before .before .before .before .before .before .before .before .before .before .before .before .before .before .before .before .before .before .before .join-frame in
+    let r = c .before .before .before .before .before .before .before .before .before .before .before .before .before .before .before .before .before .before .before .before .before .before .before .before .before .before .before .reset in
+    let q = c .before .before .before .before .before .before .before .before .before .before .before .before .reset2 in
+    let bad : allSound (frame s) ≡ false = sym (j .ensures .0) ∙ not-true _ (c .before .before .before .before .before .before .before .before .before .before .before .before .before .before .before .if1 .taken) in
+    record {
+      refusal = ap (λ (t : Bool). cond t 0 7) (sym bad);
+      accepted = λ e. clashes (allSound (frame s)) e bad;
+      refused = λ e. record {
+        count = refl;
+        alone = q .ensures .0 ∙ ap range (j .kept .1 .1 .1 .1 .0 ∙ r .kept .0 ∙ s .pre .long-parents);
+        body-labels = q .ensures .1 ∙ ap (λ (n : ℕ). replicate n none) (j .kept .1 .1 .1 .1 .1 .0 ∙ r .kept .1 .0 ∙ s .pre .long-bodies);
+        manifold-labels = c .before .before .before .before .before .before .fill-none .ensures ∙ ap (λ (n : ℕ). replicate n none) (s .pre .long-manifolds);
+        joint-labels = c .before .before .fill-none2 .ensures ∙ ap (λ (n : ℕ). replicate n none) (s .pre .long-joints);
+      };
+    }
 
 label-frame-requires : tie.Need-label-frame-requires
 label-frame-requires c κs = joined c
@@ -106,16 +105,16 @@ same-length-8 c = search needs
 
 returns-2 : tie.Need-returns-2
 returns-2 c =
-  let d = c .before .before .before .before .before .before .before in
-  let s = d .before .before .before .before .before .before .before .before .before .before .before .before .before .before .before .before .before .before .before .before .before .before .before .before .before .before .before in
-  let a = s .args in
-  let j = d .before .before .before .before .before .before .before .before .before .join-frame in
-  let w = joined d in
-  record {
-    refusal = ap (λ (t : Bool). cond t 0 7) (sym (w .passed));
-    accepted = λ e. (parents-of (frame s) (j .last .1 .1 .1 .1 .0) (j .last .1 .1 .1 .1 .1 .0) (a .manifold-islands .now) (a .joint-islands .now) w, c .before .before .before .before .before .before .label-frame .ensures);
-    refused = λ e. clashes (allSound (frame s)) (w .passed) e;
-  }
+    let d = c .before .before .before .before .before .before .before in
+    let s = d .before .before .before .before .before .before .before .before .before .before .before .before .before .before .before .before .before .before .before .before .before .before .before .before .before .before .before in
+    let a = s .args in
+    let j = d .before .before .before .before .before .before .before .before .before .join-frame in
+    let w = joined d in
+    record {
+      refusal = ap (λ (t : Bool). cond t 0 7) (sym (w .passed));
+      accepted = λ e. (parents-of (frame s) (j .last .1 .1 .1 .1 .0) (j .last .1 .1 .1 .1 .1 .0) (a .manifold-islands .now) (a .joint-islands .now) w, c .before .before .before .before .before .before .label-frame .ensures);
+      refused = λ e. clashes (allSound (frame s)) (w .passed) e;
+    }
 
 pub lay-spec : {M : Type 1} → statement M
 lay-spec =

@@ -19,21 +19,20 @@ abbrev μ-loop : tie.MeasureT-loop
 
 loop-holds : tie.Need-loop-holds Inv-loop μ-loop
 loop-holds c =
-  let a = c .before .before .before .args in
-  numbering-starts (a .body-types .now) (a .parents .now) (a .body-islands .now)
+    let a = c .before .before .before .args in
+    numbering-starts (a .body-types .now) (a .parents .now) (a .body-islands .now)
 
 number-one-requires : tie.Need-number-one-requires Inv-loop μ-loop
 number-one-requires c κs =
-  let s = c .before .before .before .before .before .before in
-  let a = s .args in
-  let l = c .before .before .loop in
-  (
-    s .pre .0,
-    s .pre .1,
-    l .inv .long ∙ s .pre .2,
-    omega (arith, l .inv .long),
-    omega (arith, l .inv .islands, l .inv .inside, count-le (leadsBy (marked (a .body-types .now) (a .body-islands .now)) (rootOf (a .parents .now))) (l .body)),
-  )
+    let s = c .before .before .before .before .before .before in
+    let a = s .args in
+    let l = c .before .before .loop in (
+      s .pre .0,
+      s .pre .1,
+      l .inv .long ∙ s .pre .2,
+      omega (arith, l .inv .long),
+      omega (arith, l .inv .islands, l .inv .inside, count-le (leadsBy (marked (a .body-types .now) (a .body-islands .now)) (rootOf (a .parents .now))) (l .body)),
+    )
 
 add-body : tie.Need-add-body Inv-loop μ-loop
 add-body c = search needs
@@ -43,12 +42,12 @@ loop-less c = omega (arith, c .before .before .before .before .before .loop .inv
 
 loop-again : tie.Need-loop-again Inv-loop μ-loop
 loop-again c =
-  let s = c .before .before .before .before .before .before .before .before .before in
-  let a = s .args in
-  let l = c .before .before .before .before .before .loop in
-  let f = c .before .before .number-one in
-  let k : l .body < length (a .body-types .now) = omega (arith, l .inv .long) in
-  numbering-turns (a .body-types .now) (a .parents .now) (a .body-islands .now) (l .body-islands) (l .islands) (l .body) (l .inv) (s .pre .0) (s .pre .1) (s .pre .2) k (s .pre .4)
+    let s = c .before .before .before .before .before .before .before .before .before in
+    let a = s .args in
+    let l = c .before .before .before .before .before .loop in
+    let f = c .before .before .number-one in
+    let k : l .body < length (a .body-types .now) = omega (arith, l .inv .long) in
+    numbering-turns (a .body-types .now) (a .parents .now) (a .body-islands .now) (l .body-islands) (l .islands) (l .body) (l .inv) (s .pre .0) (s .pre .1) (s .pre .2) k (s .pre .4)
     (f .last .1 .1 .0) (f .result) (f .ensures .1) (f .ensures .0) (f .kept .1 .1 .0)
 
 same-length : tie.Need-same-length Inv-loop μ-loop
@@ -56,10 +55,10 @@ same-length c = c .before .loop .inv .long
 
 returns : tie.Need-returns Inv-loop μ-loop
 returns c =
-  let s = c .before .before .before .before .before in
-  let a = s .args in
-  let l = c .before .loop in
-  numbering-ends (a .body-types .now) (a .parents .now) (a .body-islands .now) (l .body-islands) (l .islands) (l .body) (l .inv) (s .pre .2) (c .loop-test .left)
+    let s = c .before .before .before .before .before in
+    let a = s .args in
+    let l = c .before .loop in
+    numbering-ends (a .body-types .now) (a .parents .now) (a .body-islands .now) (l .body-islands) (l .islands) (l .body) (l .inv) (s .pre .2) (c .loop-test .left)
 
 pub number-spec : {M : Type 1} → statement M
 number-spec =

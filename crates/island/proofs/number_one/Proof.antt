@@ -14,8 +14,8 @@ slice-read-if1 c = search needs
 
 returns : tie.Need-returns
 returns c =
-  let a = c .before .before .args in
-  number-off (a .body-types .now) (a .parents .now) (a .body-islands .now) (a .body) (a .count) (omega arith) (c .if1 .taken)
+    let a = c .before .before .args in
+    number-off (a .body-types .now) (a .parents .now) (a .body-islands .now) (a .body) (a .count) (omega arith) (c .if1 .taken)
 
 shared-slice-read-if2 : tie.Need-shared-slice-read-if2
 shared-slice-read-if2 c = search needs
@@ -31,8 +31,8 @@ same-length c = search needs
 
 returns-2 : tie.Need-returns-2
 returns-2 c =
-  let a = c .before .before .before .before .args in
-  number-still (a .body-types .now) (a .parents .now) (a .body-islands .now) (a .body) (a .count) (omega arith) (c .if2 .taken)
+    let a = c .before .before .before .before .args in
+    number-still (a .body-types .now) (a .parents .now) (a .body-islands .now) (a .body) (a .count) (omega arith) (c .if2 .taken)
 
 mul-parent : tie.Need-mul-parent
 mul-parent c = search needs
@@ -57,18 +57,18 @@ same-length-2 c = search needs
 
 returns-3 : tie.Need-returns-3
 returns-3 c =
-  let a = c .before .before .before .before .before .before .args in
-  number-new (a .body-types .now) (a .parents .now) (a .body-islands .now) (a .body) (a .count) (omega arith) (c .before .before .if2 .left) (c .before .before .before .before .if1 .left) (c .if3 .taken)
+    let a = c .before .before .before .before .before .before .args in
+    number-new (a .body-types .now) (a .parents .now) (a .body-islands .now) (a .body) (a .count) (omega arith) (c .before .before .if2 .left) (c .before .before .before .before .if1 .left) (c .if3 .taken)
 
 mul-body-islands-3 : tie.Need-mul-body-islands-3
 mul-body-islands-3 c =
-  let s = c .before .before .before .before .before .before in
-  omega (arith, read-le (s .args .parents .now) (s .pre .0) (s .args .body) (omega arith))
+    let s = c .before .before .before .before .before .before in
+    omega (arith, read-le (s .args .parents .now) (s .pre .0) (s .args .body) (omega arith))
 
 slice-read-body-islands : tie.Need-slice-read-body-islands
 slice-read-body-islands c =
-  let s = c .before .before .before .before .before .before .before in
-  omega (arith, read-le (s .args .parents .now) (s .pre .0) (s .args .body) (omega arith))
+    let s = c .before .before .before .before .before .before .before in
+    omega (arith, read-le (s .args .parents .now) (s .pre .0) (s .args .body) (omega arith))
 
 mul-body-islands-4 : tie.Need-mul-body-islands-4
 mul-body-islands-4 c = search needs
@@ -81,8 +81,8 @@ same-length-3 c = search needs
 
 returns-4 : tie.Need-returns-4
 returns-4 c =
-  let a = c .before .before .before .before .before .before .before .args in
-  number-old (a .body-types .now) (a .parents .now) (a .body-islands .now) (a .body) (a .count) (omega arith) (c .before .before .before .if2 .left) (c .before .before .before .before .before .if1 .left) (c .before .if3 .left)
+    let a = c .before .before .before .before .before .before .before .args in
+    number-old (a .body-types .now) (a .parents .now) (a .body-islands .now) (a .body) (a .count) (omega arith) (c .before .before .before .if2 .left) (c .before .before .before .before .before .if1 .left) (c .before .if3 .left)
 
 pub number-one-spec : {M : Type 1} → statement M
 number-one-spec =

@@ -28,21 +28,21 @@ shared-slice-read-parent c = search needs
 
 loop-less : tie.Need-loop-less Inv-loop μ-loop
 loop-less c =
-  let s = c .before .before .before in
-  let r = c .before .before .loop .root in
-  omega (arith, read-le (s .args .parents .now) (s .pre .0) r (omega arith), c .if1 .left)
+    let s = c .before .before .before in
+    let r = c .before .before .loop .root in
+    omega (arith, read-le (s .args .parents .now) (s .pre .0) r (omega arith), c .if1 .left)
 
 loop-again : tie.Need-loop-again Inv-loop μ-loop
 loop-again c =
-  let s = c .before .before .before in
-  let p = s .args .parents .now in
-  let l = c .before .before .loop in
-  (omega (arith, read-le p (s .pre .0) (l .root) (omega arith)), read-root p (s .pre .0) (l .root) (omega arith) ∙ l .inv .1)
+    let s = c .before .before .before in
+    let p = s .args .parents .now in
+    let l = c .before .before .loop in
+    (omega (arith, read-le p (s .pre .0) (l .root) (omega arith)), read-root p (s .pre .0) (l .root) (omega arith) ∙ l .inv .1)
 
 returns : tie.Need-returns Inv-loop μ-loop
 returns c =
-  let l = c .before .before .loop in
-  sym (read-here (c .before .before .before .args .parents .now) (l .root) (omega arith) (c .if1 .taken)) ∙ l .inv .1
+    let l = c .before .before .loop in
+    sym (read-here (c .before .before .before .args .parents .now) (l .root) (omega arith) (c .if1 .taken)) ∙ l .inv .1
 
 pub root-of-spec : {M : Type 1} → statement M
 root-of-spec =

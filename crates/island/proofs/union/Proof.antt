@@ -22,16 +22,16 @@ links c = c .before .before .find2 .last .0
 
 left-in : (c : Found) → c .before .before .before .before .before .before .find .result < length (links c)
 left-in c =
-  let f = c .before .before .before .before .before .before .find in
-  let s = start c in
-  omega (arith, f .ensures .0, root-le (s .args .parents .now) (s .pre .0) (s .args .left), f .kept .0, c .before .before .find2 .kept .0, s .pre .1)
+    let f = c .before .before .before .before .before .before .find in
+    let s = start c in
+    omega (arith, f .ensures .0, root-le (s .args .parents .now) (s .pre .0) (s .args .left), f .kept .0, c .before .before .find2 .kept .0, s .pre .1)
 
 right-in : (c : Found) → c .before .before .find2 .result < length (links c)
 right-in c =
-  let f = c .before .before .before .before .before .before .find in
-  let g = c .before .before .find2 in
-  let s = start c in
-  omega (arith, g .ensures .0, root-le (f .last .0) (f .ensures .1) (s .args .right), f .kept .0, g .kept .0, s .pre .2)
+    let f = c .before .before .before .before .before .before .find in
+    let g = c .before .before .find2 in
+    let s = start c in
+    omega (arith, g .ensures .0, root-le (f .last .0) (f .ensures .1) (s .args .right), f .kept .0, g .kept .0, s .pre .2)
 
 long : (c : Found) → length (links c) ≡ length (start c .args .parents .now)
 long c = c .before .before .find2 .kept .0 ∙ c .before .before .before .before .before .before .find .kept .0
@@ -65,20 +65,20 @@ same-length c = simp length-set (long (c .before))
 
 returns : tie.Need-returns
 returns c =
-  let f = c .before .before .before .before .before .before .before .find in
-  let g = c .before .before .before .find2 in
-  let s = start (c .before) in
-  united-right (s .args .parents .now) (f .last .0) (g .last .0) (s .args .left) (s .args .right) (f .result) (g .result) (s .pre .0) (g .ensures .1) (f .ensures .2) (g .ensures .2) (f .ensures .0) (g .ensures .0) (le-of-lt (c .if1 .taken)) (right-in (c .before))
+    let f = c .before .before .before .before .before .before .before .find in
+    let g = c .before .before .before .find2 in
+    let s = start (c .before) in
+    united-right (s .args .parents .now) (f .last .0) (g .last .0) (s .args .left) (s .args .right) (f .result) (g .result) (s .pre .0) (g .ensures .1) (f .ensures .2) (g .ensures .2) (f .ensures .0) (g .ensures .0) (le-of-lt (c .if1 .taken)) (right-in (c .before))
 
 same-length-2 : tie.Need-same-length-2
 same-length-2 c = simp length-set (long (c .before))
 
 returns-2 : tie.Need-returns-2
 returns-2 c =
-  let f = c .before .before .before .before .before .before .before .find in
-  let g = c .before .before .before .find2 in
-  let s = start (c .before) in
-  united-left (s .args .parents .now) (f .last .0) (g .last .0) (s .args .left) (s .args .right) (f .result) (g .result) (s .pre .0) (g .ensures .1) (f .ensures .2) (g .ensures .2) (f .ensures .0) (g .ensures .0) (c .if1 .left) (left-in (c .before))
+    let f = c .before .before .before .before .before .before .before .find in
+    let g = c .before .before .before .find2 in
+    let s = start (c .before) in
+    united-left (s .args .parents .now) (f .last .0) (g .last .0) (s .args .left) (s .args .right) (f .result) (g .result) (s .pre .0) (g .ensures .1) (f .ensures .2) (g .ensures .2) (f .ensures .0) (g .ensures .0) (c .if1 .left) (left-in (c .before))
 
 pub union-spec : {M : Type 1} → statement M
 union-spec =
