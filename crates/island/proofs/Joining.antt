@@ -1,6 +1,6 @@
 -- What constraints join and mark. A live pair of dynamic bodies has one edge, any other pair none; a live pair marks its two bodies.
 -- What is joined by one list and then by another is joined by both together: so a loop over the constraints joins them all.
-use Prim.Native.Nat.{ℕ, _+_, _≤_, _<_}
+use Prim.Native.Nat.{ℕ, _+_, _*_, _≤_, _<_}
 use native.Mathlib.Omega.{arith}
 use native.Mathlib.Decide.{ℕ-discrete}
 use mathlib.Core.Path.{_≡_, refl, sym, ap, _∙_, subst}
@@ -9,9 +9,9 @@ use mathlib.Core.List.{List, [], _∷_, _++_, append-assoc, append-nil}
 use lib.Dec.{eqb, ltb}
 use lib.ListN.{length, getD, set, drop, length-set}
 use lib.Seq.{getD-set-same, getD-set-other}
-use borrow.Author.Tests.{ltb-true, eq-eqb, ne-eqb}
+use borrow.Author.Tests.{ltb-true, eqb-true, eq-eqb, ne-eqb}
 use Rattle.lists.specs.Basics.{any, all}
-use Rattle.lists.proofs.Laws.{and-left, and-right}
+use Rattle.lists.proofs.Laws.{and-left, and-right, not-true-false}
 use Rattle.frame.specs.Frames.{Constraint, Frame, constraint, constraintsOf, dynamic, on, sound, none}
 use Rattle.frame.proofs.Pairs.{sound-live, pairs-step, pairs-end, scan-stop}
 use Rattle.island.specs.Islands.{Edge, star, edgesOf, edges, join, merge}
@@ -37,11 +37,16 @@ module _ (g : ℕ → ℕ) (ts : List ℕ) (a b : ℕ) where
   unfolding edgesOf dynamic
   joined = ap (join g) (pairs (eqb (getD ts a 0) 2) (eqb (getD ts b 0) 2) a b)
 
-  pub join-off : both ≡ false → g ≡ join g (edgesOf (bare ts) (constraint true a b))
-  join-off e = sym (joined ∙ rw e)
+  -- the code tests the two types, u and v, as one number
+  module _ (u v : ℕ) (eu : u ≡ getD ts a 0) (ev : v ≡ getD ts b 0) (small : v < 256) where
+    pub join-off : (u * 256 + v ≡ 514 → ⊥) → g ≡ join g (edgesOf (bare ts) (constraint true a b))
+    join-off n = sym (joined ∙ rw off)
+      where
+        off : both ≡ false
+        off = not-true-false both (λ e. n (omega (arith, eqb-true (getD ts a 0) 2 (and-left (eqb (getD ts a 0) 2) (eqb (getD ts b 0) 2) e), eqb-true (getD ts b 0) 2 (and-right (eqb (getD ts a 0) 2) (eqb (getD ts b 0) 2) e))))
 
-  pub join-on : both ≡ true → merge g a b ≡ join g (edgesOf (bare ts) (constraint true a b))
-  join-on e = sym (joined ∙ rw e)
+    pub join-on : u * 256 + v ≡ 514 → merge g a b ≡ join g (edgesOf (bare ts) (constraint true a b))
+    join-on e = sym (joined ∙ rw (eq-eqb (getD ts a 0) 2 (omega arith), eq-eqb (getD ts b 0) 2 (omega arith)))
 
 -- ---- what one pair marks
 mark-one : (l : List ℕ) (a x : ℕ) → a < length l → getD (set l a 0) x none ≡ cond (eqb x a) 0 (getD l x none)

@@ -11,6 +11,7 @@ use mathlib.Core.List.{List}
 use lib.Dec.{eqb}
 use lib.ListN.{length, getD, set, List·getD-eq-default}
 use lib.Seq.{getD-set-same, getD-set-other, set-getD}
+use mir.Val.{boolByte}
 use borrow.Author.Tests.{eq-eqb, ne-eqb}
 use Rattle.lists.specs.Basics.{one, count, range}
 use Rattle.lists.proofs.Laws.{getD-any, by-cases}
@@ -20,34 +21,31 @@ use Rattle.island.specs.Steps.{bare, Falls, marked, leadsBy, Together, n
 use Rattle.island.proofs.Counts.{count-next}
 use Rattle.island.proofs.Roots.{read-le, read-root, read-here, root-le}
 
--- ---- one body, by the branches of `number_one`
+-- ---- one body, in the terms of `number_one`
+byte-le : (t : Bool) → boolByte t ≤ 1
+byte-le true = omega arith
+byte-le false = omega arith
+
+byte-one : (t : Bool) → boolByte t ≡ one t
+byte-one true = refl
+byte-one false = refl
+
 module _ (ts p l : List ℕ) (b n : ℕ) (h : b < length l) where
-  unmarked : getD l b 0 ≡ none → marked ts l b ≡ false
-  unmarked e = ap (λ (v : ℕ). dynamic (bare ts) b && not (eqb v none)) (getD-any l b none 0 h ∙ e) ∙ off (dynamic (bare ts) b)
-    where
-      off : (t : Bool) → (t && false) ≡ false
-      off true = refl
-      off false = refl
+  abbrev test : Bool
+  test = eqb (getD ts b 0) 2 && not (eqb (getD l b 0) none)
 
-  still : (getD ts b 0 ≡ 2 → ⊥) → marked ts l b ≡ false
+  marked-here : test ≡ marked ts l b
   unfolding dynamic
-  still e = rw (ne-eqb (getD ts b 0) 2 e)
+  marked-here = ap (λ (v : ℕ). eqb (getD ts b 0) 2 && not (eqb v none)) (getD-any l b 0 none h)
 
-  is-marked : getD ts b 0 ≡ 2 → (getD l b 0 ≡ none → ⊥) → marked ts l b ≡ true
-  unfolding dynamic
-  is-marked t e = rw (eq-eqb (getD ts b 0) 2 t, getD-any l b none 0 h, ne-eqb (getD l b 0) none e)
+  pub at-most-one-more : n + boolByte (test && eqb (getD p b 0) b) ≤ n + 1
+  at-most-one-more = omega (arith, byte-le (test && eqb (getD p b 0) b))
 
-  pub number-off : getD l b 0 ≡ none → (n ≡ nextCount ts p l b n) × (l ≡ set l b (nextLabel ts p l b n))
-  number-off e = rw (unmarked e) (refl, sym (set-getD l b none) ∙ ap (set l b) (getD-any l b none 0 h ∙ e))
+  pub counted-here : n + boolByte (test && eqb (getD p b 0) b) ≡ nextCount ts p l b n
+  counted-here = ap (λ (m : ℕ). n + m) (byte-one (test && eqb (getD p b 0) b)) ∙ ap (λ (t : Bool). n + one (t && eqb (getD p b 0) b)) marked-here
 
-  pub number-still : (getD ts b 0 ≡ 2 → ⊥) → (n ≡ nextCount ts p l b n) × (set l b none ≡ set l b (nextLabel ts p l b n))
-  number-still e = rw (still e) (refl, refl)
-
-  pub number-new : getD ts b 0 ≡ 2 → (getD l b 0 ≡ none → ⊥) → getD p b 0 ≡ b → (n + 1 ≡ nextCount ts p l b n) × (set l b n ≡ set l b (nextLabel ts p l b n))
-  number-new t e q = rw (is-marked t e, eq-eqb (getD p b 0) b q) (refl, refl)
-
-  pub number-old : getD ts b 0 ≡ 2 → (getD l b 0 ≡ none → ⊥) → (getD p b 0 ≡ b → ⊥) → (n ≡ nextCount ts p l b n) × (set l b (getD l (getD p b 0) 0) ≡ set l b (nextLabel ts p l b n))
-  number-old t e q = rw (is-marked t e, ne-eqb (getD p b 0) b q) (refl, refl)
+  pub labelled-here : (i r : ℕ) → i ≡ cond (eqb (getD p b 0) b) n (getD l (getD p b 0) 0) → r ≡ cond test i none → set l b r ≡ set l b (nextLabel ts p l b n)
+  labelled-here i r e q = ap (set l b) (q ∙ ap (λ (t : Bool). cond t i none) marked-here ∙ ap (λ (m : ℕ). cond (marked ts l b) m none) e)
 
 -- ---- the loop, at body b: l₀ at the start, l as it is, with n islands so far
 
@@ -81,19 +79,13 @@ module _ (ts p l₀ l : List ℕ) (n b : ℕ) (w : Numbering ts p l₀ l n b) (h
       let r : rootOf p b ≡ b → ⊥ = λ q. omega (arith, read-le p h b in-p, e, q, read-root p h b in-p, root-le p h (getD p b 0)) in
       ne-eqb (getD p b 0) b e ∙ sym (ne-eqb (rootOf p b) b r)
 
-  both : (u v : Bool) → cond u (cond v (n + 1) n) n ≡ n + one (u && v)
-  both true true = refl
-  both true false = omega arith
-  both false v = omega arith
-
   next-count : nextCount ts p l b n ≡ upTo ts l₀ p (b + 1)
   next-count =
-      ap (λ (u : Bool). cond u (cond (eqb (getD p b 0) b) (n + 1) n) n) mark-b
-      ∙ ap (λ (u : Bool). cond (marked ts l₀ b) (cond u (n + 1) n) n) (fixed-b (ℕ-discrete (getD p b 0) b))
-      ∙ both (marked ts l₀ b) (eqb (rootOf p b) b)
-      ∙ ap (λ (m : ℕ). m + one (leadsBy (marked ts l₀) (rootOf p) b)) (w .islands)
-      ∙ sym (count-next (leadsBy (marked ts l₀) (rootOf p)) b)
-      ∙ ap (upTo ts l₀ p) (sym (add-one b))
+    ap (λ (u : Bool). n + one (u && eqb (getD p b 0) b)) mark-b
+    ∙ ap (λ (u : Bool). n + one (marked ts l₀ b && u)) (fixed-b (ℕ-discrete (getD p b 0) b))
+    ∙ ap (λ (m : ℕ). m + one (leadsBy (marked ts l₀) (rootOf p) b)) (w .islands)
+    ∙ sym (count-next (leadsBy (marked ts l₀) (rootOf p)) b)
+    ∙ ap (upTo ts l₀ p) (sym (add-one b))
 
   next-label : nextLabel ts p l b n ≡ numberOf ts l₀ p b
   unfolding Together

@@ -5,7 +5,7 @@ use mathlib.Core.Bool.{Bool, true, false, not, _&&_, cond}
 use mathlib.Core.List.{List, [], _∷_, map}
 use lib.Dec.{eqb}
 use lib.ListN.{length, getD, replicate}
-use Rattle.lists.specs.Basics.{any, count, range}
+use Rattle.lists.specs.Basics.{one, any, count, range}
 use Rattle.frame.specs.Frames.{Constraint, Frame, frameOf, constraints, bodies, dynamic, on, allSound, none}
 use Rattle.frame.specs.Questions.{Question, question, fewEach, even, pairCount, typesKnown, bits}
 use Rattle.island.specs.Islands.{join, edges, lowest, islandCount, bodyLabel, label}
@@ -44,7 +44,7 @@ abbrev pub nextLabel : List ℕ → List ℕ → List ℕ → ℕ → ℕ → �
 nextLabel ts p l b n = cond (marked ts l b) (cond (eqb (getD p b 0) b) n (getD l (getD p b 0) 0)) none
 
 abbrev pub nextCount : List ℕ → List ℕ → List ℕ → ℕ → ℕ → ℕ
-nextCount ts p l b n = cond (marked ts l b) (cond (eqb (getD p b 0) b) (n + 1) n) n
+nextCount ts p l b n = n + one (marked ts l b && eqb (getD p b 0) b)
 
 -- the marked bodies of l₀ have the number of marked lowest bodies below their own, any other has none
 pub record Numbered (m : ℕ → Bool) (low : ℕ → ℕ) (size islands : ℕ) (l : List ℕ) : Type 0 where

@@ -1,7 +1,7 @@
 // Islands: the sets of dynamic bodies that live constraints connect, and the labels of bodies, manifolds and joints.
 // Every table is lent by the caller; a call that is refused says so by the number of the first question that got a "no".
 ghost use mathlib.Core.Path.{_≡_};
-ghost use mathlib.Core.Bool.{true, _&&_};
+ghost use mathlib.Core.Bool.{true, _&&_, cond};
 ghost use mathlib.Core.List.{map, _∷_, []};
 ghost use Prim.Native.Nat.{_/_, _%_, _<_, _≤_};
 ghost use lib.Dec.{eqb, leb};
@@ -16,6 +16,9 @@ ghost use Rattle.island.specs.Steps.{bare, Falls, Joined, Sized, Ready, 
 
 // The label of what has no island.
 const NONE: u16 = 65535;
+
+// The types of two dynamic bodies, 2 and 2, as the two bytes of one number.
+const BOTH_DYNAMIC: u16 = 514;
 
 // How many islands there are, or the number of the first question that got a "no".
 pub enum Answer {
@@ -99,13 +102,19 @@ fn fill_self(parents: &mut [u16])
     }
 }
 
-// Two bodies are joined if both are dynamic.
+fn wide(x: u8) -> u16
+    ensures { λ r. ⌜ (r ≡ x) × (r < 256) ⌝ }
+{
+    x as u16
+}
+
+// Two bodies are joined if both are dynamic. Their types are tested as one number: one branch to guess, not two.
 fn join_dynamic(body_types: &[u8], parents: &mut [u16], a: u16, b: u16)
     requires { ⌜ Falls (now parents) × (length (now parents) ≡ length (now «body_types»)) × (a < length (now «body_types»)) × (b < length (now «body_types»)) ⌝ }
     ensures { λ _. ⌜ Falls (now (parents .exit)) × (rootOf (now (parents .exit)) ≡ join (rootOf (now (parents .entry))) (edgesOf (bare (now («body_types» .entry))) (constraint true a b))) ⌝ }
 {
-    let both = (body_types[a as usize] == 2) & (body_types[b as usize] == 2);
-    if !both {
+    let types = wide(body_types[a as usize]) * 256 + wide(body_types[b as usize]);
+    if types != BOTH_DYNAMIC {
         return;
     }
     union(parents, a, b);
@@ -192,8 +201,17 @@ fn join_frame(
     join_all(body_types, joints, enabled, parents, body_islands)
 }
 
+fn pick(test: bool, yes: u16, no: u16) -> u16
+    ensures { λ r. ⌜ r ≡ cond test yes no ⌝ }
+{
+    if test {
+        return yes;
+    }
+    no
+}
+
 // A marked dynamic body gets the next number if it is its own parent, and its parent's number if not; any other body none.
-// Answers how many islands there are so far.
+// Answers how many islands there are so far. There is no branch to guess wrong.
 fn number_one(
     body_types: &[u8],
     parents: &[u16],
@@ -204,20 +222,12 @@ fn number_one(
     requires { ⌜ Falls (now parents) × (length (now parents) ≡ length (now «body_types»)) × (length (now «body_islands») ≡ length (now «body_types»)) × (body < length (now «body_types»)) × (count ≤ 4096) ⌝ }
     ensures { λ r. ⌜ (r ≡ nextCount (now («body_types» .entry)) (now (parents .entry)) (now («body_islands» .entry)) body count) × (now («body_islands» .exit) ≡ set (now («body_islands» .entry)) body (nextLabel (now («body_types» .entry)) (now (parents .entry)) (now («body_islands» .entry)) body count)) ⌝ }
 {
-    if body_islands[body] == NONE {
-        return count;
-    }
-    if body_types[body] != 2 {
-        body_islands[body] = NONE;
-        return count;
-    }
+    let marked = (body_types[body] == 2) & (body_islands[body] != NONE);
     let parent = parents[body] as usize;
-    if parent == body {
-        body_islands[body] = count;
-        return count + 1;
-    }
-    body_islands[body] = body_islands[parent];
-    count
+    let leads = parent == body;
+    let island = pick(leads, count, body_islands[parent]);
+    body_islands[body] = pick(marked, island, NONE);
+    count + (marked & leads) as u16
 }
 
 // The marked dynamic bodies get their island's number, in rising order: a parent is lower, so it has its number already.
@@ -227,10 +237,10 @@ fn number(body_types: &[u8], parents: &[u16], body_islands: &mut [u16]) -> u16
     ensures { λ r. ⌜ Numbered (marked (now («body_types» .entry)) (now («body_islands» .entry))) (rootOf (now (parents .entry))) (length (now («body_types» .entry))) r (now («body_islands» .exit)) ⌝ }
 {
     let mut islands: u16 = 0;
-    let mut body = 0;
-    while body < body_islands.len() {
-        islands = number_one(body_types, parents, body_islands, body, islands);
-        body += 1;
+    let mut next = 0;
+    while next < body_islands.len() {
+        islands = number_one(body_types, parents, body_islands, next, islands);
+        next += 1;
     }
     islands
 }
