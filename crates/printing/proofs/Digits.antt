@@ -1,8 +1,7 @@
 -- Decimal digits of a machine number: the last digit stands behind the digits of the rest, and there are at most 20.
 -- `digits d n` is the same for each d that is enough, that is, n < 10 ^ d.
 use Prim.Native.Nat.{ℕ, zero, suc, _+_, _*_, _^_, _/_, _%_, _≤_, _<_}
-use mathlib.Core.Path.{_≡_, refl, sym, ap, _∙_}
-use mathlib.Core.Bool.{true, false, cond}
+use mathlib.Core.Path.{_≡_, sym, ap, _∙_}
 use mathlib.Core.List.{List, [], _∷_, _++_}
 use native.Mathlib.Omega.{arith}
 use lib.Dec.{ltb}

@@ -31,11 +31,11 @@ put-put at a b old h =
     let f : take (at + length a) (take at old ++ (a ++ d)) ≡ take at old ++ a = ap (take (at + length a)) s ∙ take-at (take at old ++ a) d (at + length a) q in
     let j : at + length a + length b ≡ at + length (a ++ b) = (let e = length-append a b in omega arith) in
     let g : drop (at + length a + length b) (take at old ++ (a ++ d)) ≡ drop (at + length (a ++ b)) old =
-          ap (drop (at + length a + length b)) s
-          ∙ ap (λ (n : ℕ). drop (n + length b) ((take at old ++ a) ++ d)) (sym q)
-          ∙ drop-append-add (take at old ++ a) d (length b)
-          ∙ drop-drop (length b) (at + length a) old
-          ∙ ap (λ (n : ℕ). drop n old) j in
+    ap (drop (at + length a + length b)) s
+    ∙ ap (λ (n : ℕ). drop (n + length b) ((take at old ++ a) ++ d)) (sym q)
+    ∙ drop-append-add (take at old ++ a) d (length b)
+    ∙ drop-drop (length b) (at + length a) old
+    ∙ ap (λ (n : ℕ). drop n old) j in
     ap (λ (l : List ℕ). l ++ (b ++ drop (at + length a + length b) (take at old ++ (a ++ d)))) f
     ∙ ap (λ (l : List ℕ). (take at old ++ a) ++ (b ++ l)) g
     ∙ append-assoc (take at old) a (b ++ drop (at + length (a ++ b)) old)
@@ -59,6 +59,9 @@ put-before i v text old h =
     ∙ ap (λ (l : List ℕ). take i old ++ v ∷ l) (drop-at (take (suc i) old) rest (suc i) p)
     ∙ ap (λ (k : ℕ). take i old ++ v ∷ (text ++ drop k old)) e
 
+pub put-nothing : (old : List ℕ) (at : ℕ) → Put [] old at old at
+put-nothing old at = record { buffer = sym (put-none at old); next = omega arith }
+
 -- the end of a copy
 pub paste-put : (old : List ℕ) (at : ℕ) (text : List ℕ) (n : ℕ) → n ≡ length text → paste old at text n ≡ put at text old
 unfolding put
@@ -67,13 +70,23 @@ paste-put old at text n e =
     ∙ ap (λ (l : List ℕ). take at old ++ l ++ drop (at + length text) old) (take-length text)
     ∙ append-assoc (take at old) text (drop (at + length text) old)
 
--- two texts, one behind the other
-pub put-then : (a b old mid new : List ℕ) (at m r : ℕ) → Put a old at mid m → Put b mid m new r → at + length a + length b ≤ length old → Put (a ++ b) old at new r
-put-then a b old mid new at m r p q h = record {
-  buffer = q .buffer ∙ ap (λ (n : ℕ). put n b mid) (p .next) ∙ ap (put (at + length a) b) (p .buffer) ∙ put-put at a b old h;
-  next = let e = length-append a b in omega (arith, p .next, q .next);
-}
+-- a text that was put, and k bytes of room after it
+pub record Wrote (text old : List ℕ) (at : ℕ) (new : List ℕ) (r k : ℕ) : Type 0 where
+  pub put : Put text old at new r
+  pub kept : length new ≡ length old
+  pub left : r + k ≤ length old
 
--- what is left of the room
-pub put-length : (text old : List ℕ) (at : ℕ) (new : List ℕ) (r : ℕ) → Put text old at new r → at + length text ≤ length old → length new ≡ length old
-put-length text old at new r p h = ap length (p .buffer) ∙ length-put at text old h
+pub wrote-none : (old : List ℕ) (at k : ℕ) → at + k ≤ length old → Wrote [] old at old at k
+wrote-none old at k h = record { put = put-nothing old at; kept = refl; left = h }
+
+-- one text more
+pub wrote-then : (a b old mid new : List ℕ) (at m r n k : ℕ) → Wrote a old at mid m (n + k) → Put b mid m new r → length b ≤ n → Wrote (a ++ b) old at new r k
+wrote-then a b old mid new at m r n k w q h = record {
+  put = record {
+    buffer =
+        q .buffer ∙ ap (λ (i : ℕ). put i b mid) (w .put .next) ∙ ap (put (at + length a) b) (w .put .buffer) ∙ put-put at a b old (omega (arith, w .put .next, w .left));
+    next = let e = length-append a b in omega (arith, w .put .next, q .next);
+  };
+  kept = ap length (q .buffer) ∙ length-put m b mid (omega (arith, w .left, w .kept)) ∙ w .kept;
+  left = omega (arith, w .left, q .next);
+}

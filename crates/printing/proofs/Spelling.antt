@@ -1,7 +1,7 @@
 -- A number is spelled from its last digit to its first: the digits of the rest and those that stand in the buffer make up the whole,
 -- and the rest's digits are to fill the places from `at` to i.
 use Prim.Native.Nat.{ℕ, suc, _+_, _-_, _^_, _/_, _%_, _≤_, _<_}
-use mathlib.Core.Path.{_≡_, refl, sym, ap, _∙_}
+use mathlib.Core.Path.{_≡_, sym, ap, _∙_}
 use mathlib.Core.List.{List, [], _∷_, _++_, append-assoc, append-nil}
 use native.Mathlib.Omega.{arith}
 use lib.ListN.{length, set, length-append}
@@ -41,11 +41,11 @@ module _ (old : List ℕ) (at n : ℕ) (out : List ℕ) (i rest : ℕ) (room : a
       record {
         done = (48 + rest % 10) ∷ s .done;
         text =
-          sym (append-assoc (decimal (rest / 10)) ((48 + rest % 10) ∷ []) (s .done)) ∙ ap (λ (t : List ℕ). t ++ s .done) (sym e) ∙ s .text;
+            sym (append-assoc (decimal (rest / 10)) ((48 + rest % 10) ∷ []) (s .done)) ∙ ap (λ (t : List ℕ). t ++ s .done) (sym e) ∙ s .text;
         here = omega (arith, s .here);
         buffer =
-          ap (λ (b : List ℕ). set b (i - 1) (48 + rest % 10)) (s .buffer ∙ ap (λ (m : ℕ). put m (s .done) old) j)
-          ∙ put-before (i - 1) (48 + rest % 10) (s .done) old (omega (arith, spell-size));
+            ap (λ (b : List ℕ). set b (i - 1) (48 + rest % 10)) (s .buffer ∙ ap (λ (m : ℕ). put m (s .done) old) j)
+            ∙ put-before (i - 1) (48 + rest % 10) (s .done) old (omega (arith, spell-size));
         small = omega (arith, s .small);
       }
 
@@ -56,8 +56,8 @@ module _ (old : List ℕ) (at n : ℕ) (out : List ℕ) (i rest : ℕ) (room : a
       let j : i ≡ suc at = omega (arith, s .here, ap length e) in
       record {
         buffer =
-          ap (λ (b : List ℕ). set b at (48 + rest)) (s .buffer ∙ ap (λ (m : ℕ). put m (s .done) old) j)
-          ∙ put-before at (48 + rest) (s .done) old (omega (arith, spell-size))
-          ∙ ap (λ (t : List ℕ). put at t old) (ap (λ (t : List ℕ). t ++ s .done) (sym e) ∙ s .text);
+            ap (λ (b : List ℕ). set b at (48 + rest)) (s .buffer ∙ ap (λ (m : ℕ). put m (s .done) old) j)
+            ∙ put-before at (48 + rest) (s .done) old (omega (arith, spell-size))
+            ∙ ap (λ (t : List ℕ). put at t old) (ap (λ (t : List ℕ). t ++ s .done) (sym e) ∙ s .text);
         next = w;
       }

@@ -87,3 +87,65 @@ fn put_field(out: &mut [u8], at: usize, word: &[u8], n: usize, end: u8) -> usize
     let parted = put_byte(out, named, b' ');
     put_number(out, parted, n, end)
 }
+
+// Are MAX_LINE bytes left from a place on?
+fn roomy(size: usize, at: usize) -> bool
+    ensures { λ r. ⌜ r ≡ leb (at + longest) size ⌝ }
+{
+    if size < MAX_LINE {
+        return false;
+    }
+    at <= size - MAX_LINE
+}
+
+// The head: the four carried numbers, each after its word.
+pub fn put_head(
+    out: &mut [u8],
+    at: usize,
+    islands: usize,
+    turns: usize,
+    takes: usize,
+    degree: usize,
+) -> usize
+    ensures { λ r. ⌜ Put (ifRoom (length (now (out .entry))) at (headOf islands turns takes degree)) (now (out .entry)) at (now (out .exit)) r ⌝ }
+{
+    if !roomy(out.len(), at) {
+        return at;
+    }
+    let with_islands = put_field(out, at, b"islands", islands, b' ');
+    let with_turns = put_field(out, with_islands, b"turns", turns, b' ');
+    let with_takes = put_field(out, with_turns, b"takes", takes, b' ');
+    put_field(out, with_takes, b"degree", degree, b'\n')
+}
+
+// The line of a turn: island, group, constraint and its endpoints a, b.
+pub fn put_turn_line(
+    out: &mut [u8],
+    at: usize,
+    island: usize,
+    group: usize,
+    constraint: usize,
+    a: usize,
+    b: usize,
+) -> usize
+    ensures { λ r. ⌜ Put (ifRoom (length (now (out .entry))) at (turnLine island group constraint (a ∷ b ∷ []))) (now (out .entry)) at (now (out .exit)) r ⌝ }
+{
+    if !roomy(out.len(), at) {
+        return at;
+    }
+    let with_island = put_number(out, at, island, b' ');
+    let with_group = put_number(out, with_island, group, b' ');
+    let with_constraint = put_number(out, with_group, constraint, b' ');
+    let with_a = put_number(out, with_constraint, a, b' ');
+    put_number(out, with_a, b, b'\n')
+}
+
+// A refusal, by its number.
+pub fn put_refusal(out: &mut [u8], at: usize, number: usize) -> usize
+    ensures { λ r. ⌜ Put (ifRoom (length (now (out .entry))) at (refusalLine number)) (now (out .entry)) at (now (out .exit)) r ⌝ }
+{
+    if !roomy(out.len(), at) {
+        return at;
+    }
+    put_field(out, at, b"refused", number, b'\n')
+}

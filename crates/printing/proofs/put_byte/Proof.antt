@@ -1,6 +1,5 @@
 use mathlib.Core.Path.{refl}
 use Rattle.printing.proofs.Puts.{set-put}
-use native.Mathlib.Omega.{arith}
 use borrow.Author.Needs.{needs}
 use Rattle.printing.proofs.put_byte.Statement.{statement}
 use Rattle.printing.proofs.put_byte.Tie as tie

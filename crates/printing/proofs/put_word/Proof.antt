@@ -43,12 +43,11 @@ loop-less c = search needs
 loop-again : tie.Need-loop-again Inv-loop μ-loop
 loop-again c =
     let a = c .before .before .before .args in
-    let l = c .before .before .loop in
-    (
+    let l = c .before .before .loop in (
       omega arith,
       ap (λ (o : List ℕ). set o (a .at + l .i) (getD (a .word .now) (l .i) 0)) (l .inv .1)
-      ∙ paste-suc (a .out .now) (a .at) (a .word .now) (l .i) 0 (omega (arith, c .before .before .before .pre)) (c .before .loop-test .taken)
-      ∙ ap (λ (k : ℕ). paste (a .out .now) (a .at) (a .word .now) k) (sym (add-one (l .i))),
+          ∙ paste-suc (a .out .now) (a .at) (a .word .now) (l .i) 0 (omega (arith, c .before .before .before .pre)) (c .before .loop-test .taken)
+          ∙ ap (λ (k : ℕ). paste (a .out .now) (a .at) (a .word .now) k) (sym (add-one (l .i))),
     )
 
 add-result : tie.Need-add-result Inv-loop μ-loop
