@@ -2,3 +2,4 @@ pub mod Puts
 pub mod Digits
 pub mod Spelling
 pub mod Lines
+pub mod Turns

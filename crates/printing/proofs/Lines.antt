@@ -32,6 +32,11 @@ pub turn-fields : (i k n a b : ℕ) → number i 32 ++ number k 32 ++ number n 3
 unfolding turnLine spaced
 turn-fields i k n a b = simp append-assoc
 
+pub turn-short : (i k n a b : ℕ) → length (turnLine i k n (a ∷ b ∷ [])) ≤ longest
+turn-short i k n a b =
+    subst (λ (l : List ℕ). length l ≤ longest) (turn-fields i k n a b)
+    (simp length-append (omega (arith, decimal-few i, decimal-few k, decimal-few n, decimal-few a, decimal-few b)))
+
 pub refusal-field : (n : ℕ) → field refusedWord n 10 ≡ refusalLine n
 unfolding refusalLine spaced
 refusal-field n = simp append-assoc

@@ -8,9 +8,16 @@ ghost use lib.Dec.{leb};
 ghost use lib.ListN.{length};
 ghost use Rattle.frame_run.specs.Print.{decimal, headOf, turnLine, refusalLine};
 ghost use Rattle.printing.specs.Puts.{Put, longest, ifRoom};
+ghost use Rattle.printing.specs.Turns.{ifReady, Lines};
 
 // No line is longer.
 pub const MAX_LINE: usize = 111;
+
+// How far the lines of a turn table were gathered: the place after them, and the first turn that is left.
+pub struct Gathered {
+    pub at: usize,
+    pub turn: usize,
+}
 
 fn digit(d: usize) -> u8
     requires { ⌜ d < 10 ⌝ }
@@ -148,4 +155,53 @@ pub fn put_refusal(out: &mut [u8], at: usize, number: usize) -> usize
         return at;
     }
     put_field(out, at, b"refused", number, b'\n')
+}
+
+fn wide(x: u16) -> usize
+    ensures { λ r. ⌜ r ≡ x ⌝ }
+{
+    x as usize
+}
+
+// The line of a turn, with its constraint's endpoints out of the pair entries; nothing where the constraint has no pair.
+fn put_turn(
+    out: &mut [u8],
+    at: usize,
+    island: usize,
+    group: usize,
+    constraint: usize,
+    pairs: &[u16],
+) -> usize
+    ensures { λ r. ⌜ Put (ifReady (now (pairs .entry)) (length (now (out .entry))) at island group constraint) (now (out .entry)) at (now (out .exit)) r ⌝ }
+{
+    if pairs.len() / 2 <= constraint {
+        return at;
+    }
+    let pair = 2 * constraint;
+    let a = wide(pairs[pair]);
+    let b = wide(pairs[pair + 1]);
+    put_turn_line(out, at, island, group, constraint, a, b)
+}
+
+// The lines of a turn table from turn `first` on, as far as there is room; the endpoints stand in the pair entries.
+pub fn put_turns(out: &mut [u8], at: usize, turns: &[u16], first: usize, pairs: &[u16]) -> Gathered
+    ensures { λ r. ⌜ Lines (now (pairs .entry)) (now (turns .entry)) first (now (out .entry)) at (now (out .exit)) r ⌝ }
+{
+    let mut place = at;
+    let mut turn = first;
+    while turn < turns.len() / 3 {
+        let island = wide(turns[3 * turn]);
+        let group = wide(turns[3 * turn + 1]);
+        let constraint = wide(turns[3 * turn + 2]);
+        let next = put_turn(out, place, island, group, constraint, pairs);
+        if next == place {
+            break;
+        }
+        place = next;
+        turn += 1;
+    }
+    Gathered {
+        at: place,
+        turn: turn,
+    }
 }

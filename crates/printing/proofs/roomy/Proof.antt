@@ -1,3 +1,4 @@
+-- `printing::roomy` meets its contract: the two tests are the one of the definition.
 use Prim.Native.Nat.{_+_, _-_}
 use mathlib.Core.Path.{sym}
 use borrow.Author.Tests.{lt-leb, le-leb, leb-true}
@@ -7,14 +8,10 @@ use Rattle.printing.specs.Puts.{longest}
 use native.Mathlib.Omega.{arith}
 use Rattle.printing.proofs.roomy.Statement.{statement}
 use Rattle.printing.proofs.roomy.Tie as tie
-use Rattle.printing.proofs.roomy.Reads as reads
-use Rattle.printing.proofs.roomy.Lts as lts
 
--- src/lib.rt:96:9
 returns : tie.Need-returns
 returns c = sym (lt-leb (c .before .args .at + longest) (c .before .args .size) (omega arith))
 
--- src/lib.rt:92:1
 returns-2 : tie.Need-returns-2
 returns-2 c =
     let a = c .before .args in

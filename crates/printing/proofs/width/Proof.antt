@@ -1,3 +1,4 @@
+-- `printing::width` meets its contract. The digits counted and those of the rest are one more than those of the number.
 use Prim.Native.Nat.{_+_, _≤_}
 use mathlib.Core.Path.{_≡_, refl, ap}
 use lib.ListN.{length, length-append}
@@ -7,8 +8,6 @@ use borrow.Author.Needs.{needs}
 use native.Mathlib.Omega.{arith}
 use Rattle.printing.proofs.width.Statement.{statement}
 use Rattle.printing.proofs.width.Tie as tie
-use Rattle.printing.proofs.width.Reads as reads
-use Rattle.printing.proofs.width.Lts as lts
 
 abbrev Inv-loop : tie.InvT-loop
 Inv-loop n digits₀ rest₀ digits rest = (digits + length (decimal rest) ≡ 1 + length (decimal n)) × (rest ≤ n)
@@ -16,19 +15,15 @@ Inv-loop n digits₀ rest₀ digits rest = (digits + length (decimal rest) ≡ 1
 abbrev μ-loop : tie.MeasureT-loop
 μ-loop n digits₀ rest₀ digits rest = rest
 
--- src/lib.rt:28:5
 loop-holds : tie.Need-loop-holds Inv-loop μ-loop
 loop-holds c = (refl, omega arith)
 
--- src/lib.rt:30:9
 add-digits : tie.Need-add-digits Inv-loop μ-loop
 add-digits c = omega (arith, decimal-few (c .before .before .args .n), c .before .loop .inv .0)
 
--- src/lib.rt:28:5
 loop-less : tie.Need-loop-less Inv-loop μ-loop
 loop-less c = search needs
 
--- src/lib.rt:28:5
 loop-again : tie.Need-loop-again Inv-loop μ-loop
 loop-again c =
     let a = c .before .before in
@@ -36,7 +31,6 @@ loop-again c =
     let e = decimal-last rest (omega (arith, a .fits .n .fits)) (c .loop-test .taken) in
     (omega (arith, simp length-append at (ap length e)), omega arith)
 
--- src/lib.rt:23:1
 returns : tie.Need-returns Inv-loop μ-loop
 returns c = omega (arith, ap length (decimal-one (c .before .loop .rest) (c .loop-test .left)))
 
