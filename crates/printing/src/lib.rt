@@ -6,9 +6,10 @@ ghost use mathlib.Core.List.{_∷_, [], _++_};
 ghost use Prim.Native.Nat.{_+_, _*_, _≤_, _<_};
 ghost use lib.Dec.{leb};
 ghost use lib.ListN.{length};
+ghost use Rattle.frame.specs.Files.{byte, half};
 ghost use Rattle.frame_run.specs.Print.{decimal, headOf, turnLine, refusalLine};
 ghost use Rattle.printing.specs.Puts.{Put, longest, ifRoom};
-ghost use Rattle.printing.specs.Turns.{ifReady, Lines};
+ghost use Rattle.printing.specs.Turns.{endsAt, ifReady, Lines};
 
 // No line is longer.
 pub const MAX_LINE: usize = 111;
@@ -157,35 +158,66 @@ pub fn put_refusal(out: &mut [u8], at: usize, number: usize) -> usize
     put_field(out, at, b"refused", number, b'\n')
 }
 
-fn wide(x: u16) -> usize
-    ensures { λ r. ⌜ r ≡ x ⌝ }
+// The byte at a place of a file, and 0 past its end.
+fn byte_at(frame: &[u8], i: usize) -> usize
+    ensures { λ r. ⌜ (r ≡ byte (now (frame .entry)) i) × (r < 256) ⌝ }
 {
-    x as usize
+    if i < frame.len() {
+        return frame[i] as usize;
+    }
+    0
 }
 
-// The line of a turn, with its constraint's endpoints out of the pair entries; nothing where the constraint has no pair.
+// The 16-bit number at a place of a file, big-endian.
+fn half_at(frame: &[u8], i: usize) -> usize
+    requires { ⌜ i < 1048576 ⌝ }
+    ensures { λ r. ⌜ (r ≡ half (now (frame .entry)) i) × (r < 65536) ⌝ }
+{
+    byte_at(frame, i) * 256 + byte_at(frame, i + 1)
+}
+
+// Where a file has the endpoints of a constraint: manifolds first, then joints.
+fn ends_at(frame: &[u8], constraint: usize) -> usize
+    requires { ⌜ constraint < 131072 ⌝ }
+    ensures { λ r. ⌜ (r ≡ endsAt (now (frame .entry)) constraint) × (r + 2 < 1048576) ⌝ }
+{
+    let manifolds = half_at(frame, 7);
+    let pairs = 11 + half_at(frame, 5);
+    if constraint < manifolds {
+        return pairs + 4 * constraint;
+    }
+    pairs + 4 * manifolds + 5 * (constraint - manifolds)
+}
+
+// The line of a turn, with its constraint's endpoints out of the file; nothing where there is no such constraint.
 fn put_turn(
     out: &mut [u8],
     at: usize,
     island: usize,
     group: usize,
     constraint: usize,
-    pairs: &[u16],
+    frame: &[u8],
 ) -> usize
-    ensures { λ r. ⌜ Put (ifReady (now (pairs .entry)) (length (now (out .entry))) at island group constraint) (now (out .entry)) at (now (out .exit)) r ⌝ }
+    ensures { λ r. ⌜ Put (ifReady (now (frame .entry)) (length (now (out .entry))) at island group constraint) (now (out .entry)) at (now (out .exit)) r ⌝ }
 {
-    if pairs.len() / 2 <= constraint {
+    if half_at(frame, 7) + half_at(frame, 9) <= constraint {
         return at;
     }
-    let pair = 2 * constraint;
-    let a = wide(pairs[pair]);
-    let b = wide(pairs[pair + 1]);
+    let ends = ends_at(frame, constraint);
+    let a = half_at(frame, ends);
+    let b = half_at(frame, ends + 2);
     put_turn_line(out, at, island, group, constraint, a, b)
 }
 
-// The lines of a turn table from turn `first` on, as far as there is room; the endpoints stand in the pair entries.
-pub fn put_turns(out: &mut [u8], at: usize, turns: &[u16], first: usize, pairs: &[u16]) -> Gathered
-    ensures { λ r. ⌜ Lines (now (pairs .entry)) (now (turns .entry)) first (now (out .entry)) at (now (out .exit)) r ⌝ }
+fn wide(x: u16) -> usize
+    ensures { λ r. ⌜ r ≡ x ⌝ }
+{
+    x as usize
+}
+
+// The lines of a file's turn table from turn `first` on, as far as there is room.
+pub fn put_turns(out: &mut [u8], at: usize, turns: &[u16], first: usize, frame: &[u8]) -> Gathered
+    ensures { λ r. ⌜ Lines (now (frame .entry)) (now (turns .entry)) first (now (out .entry)) at (now (out .exit)) r ⌝ }
 {
     let mut place = at;
     let mut turn = first;
@@ -193,7 +225,7 @@ pub fn put_turns(out: &mut [u8], at: usize, turns: &[u16], first: usize, pairs: 
         let island = wide(turns[3 * turn]);
         let group = wide(turns[3 * turn + 1]);
         let constraint = wide(turns[3 * turn + 2]);
-        let next = put_turn(out, place, island, group, constraint, pairs);
+        let next = put_turn(out, place, island, group, constraint, frame);
         if next == place {
             break;
         }

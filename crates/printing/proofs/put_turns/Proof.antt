@@ -8,15 +8,15 @@ use Rattle.printing.proofs.put_turns.Statement.{statement}
 use Rattle.printing.proofs.put_turns.Tie as tie
 
 abbrev Inv-loop : tie.InvT-loop
-Inv-loop out₀ at turns first pairs place₀ turn₀ out place turn = Gathering pairs turns first out₀ at out place turn
+Inv-loop out₀ at turns first frame place₀ turn₀ out place turn = Gathering frame turns first out₀ at out place turn
 
 abbrev μ-loop : tie.MeasureT-loop
-μ-loop out₀ at turns first pairs place₀ turn₀ out place turn = length turns / 3 - turn
+μ-loop out₀ at turns first frame place₀ turn₀ out place turn = length turns / 3 - turn
 
 loop-holds : tie.Need-loop-holds Inv-loop μ-loop
 loop-holds c =
     let a = c .before .before .before .args in
-    gather-first (a .pairs .now) (a .turns .now) (a .first) (a .out .now) (a .at)
+    gather-first (a .frame .now) (a .turns .now) (a .first) (a .out .now) (a .at)
 
 mul-wide : tie.Need-mul-wide Inv-loop μ-loop
 mul-wide c = search needs
@@ -74,7 +74,7 @@ loop-again c =
     let a = c .before .before .before .before .before .before .before .before .before .before .before .before .before .before .before .before .args in
     let l = c .before .before .before .before .before .before .before .before .before .before .before .before .loop in
     let p = c .before .before .before .put-turn in
-    gather-turn (a .pairs .now) (a .turns .now) (a .first) (a .out .now) (a .at) (l .out) (l .place) (l .turn) (l .inv) (c .before .before .before .before .before .before .before .before .before .before .before .loop-test .taken)
+    gather-turn (a .frame .now) (a .turns .now) (a .first) (a .out .now) (a .at) (l .out) (l .place) (l .turn) (l .inv) (c .before .before .before .before .before .before .before .before .before .before .before .loop-test .taken)
     (c .before .before .before .before .before .before .before .before .before .wide .result) (c .before .before .before .before .before .before .before .wide2 .result) (c .before .before .before .before .before .wide3 .result) (c .before .before .before .before .before .before .before .before .before .wide .ensures) (c .before .before .before .before .before .before .before .wide2 .ensures) (c .before .before .before .before .before .wide3 .ensures) (p .last .0) (p .result) (p .ensures) (c .if1 .left)
 
 same-length : tie.Need-same-length Inv-loop μ-loop
@@ -84,7 +84,7 @@ returns : tie.Need-returns Inv-loop μ-loop
 returns c =
     let a = c .before .before .before .before .before .args in
     let l = c .before .loop in
-    gather-all (a .pairs .now) (a .turns .now) (a .first) (a .out .now) (a .at) (l .out) (l .place) (l .turn) (l .inv) (c .loop-test .left)
+    gather-all (a .frame .now) (a .turns .now) (a .first) (a .out .now) (a .at) (l .out) (l .place) (l .turn) (l .inv) (c .loop-test .left)
 
 same-length-2 : tie.Need-same-length-2 Inv-loop μ-loop
 same-length-2 c = c .before .before .before .put-turn .kept .0 ∙ c .before .before .before .before .before .before .before .before .before .before .before .before .loop .inv .kept
@@ -94,7 +94,7 @@ returns-2 c =
     let a = c .before .before .before .before .before .before .before .before .before .before .before .before .before .before .before .before .args in
     let l = c .before .before .before .before .before .before .before .before .before .before .before .before .loop in
     let p = c .before .before .before .put-turn in
-    gather-stop (a .pairs .now) (a .turns .now) (a .first) (a .out .now) (a .at) (l .out) (l .place) (l .turn) (l .inv) (c .before .before .before .before .before .before .before .before .before .before .before .loop-test .taken)
+    gather-stop (a .frame .now) (a .turns .now) (a .first) (a .out .now) (a .at) (l .out) (l .place) (l .turn) (l .inv) (c .before .before .before .before .before .before .before .before .before .before .before .loop-test .taken)
     (c .before .before .before .before .before .before .before .before .before .wide .result) (c .before .before .before .before .before .before .before .wide2 .result) (c .before .before .before .before .before .wide3 .result) (c .before .before .before .before .before .before .before .before .before .wide .ensures) (c .before .before .before .before .before .before .before .wide2 .ensures) (c .before .before .before .before .before .wide3 .ensures) (p .last .0) (p .result) (p .ensures) (c .if1 .taken)
 
 pub put-turns-spec : {M : Type 1} → statement M
