@@ -8,7 +8,7 @@ use lib.Dec.{ltb}
 use lib.ListN.{length, length-append}
 use borrow.Author.Tests.{lt-ltb, le-ltb}
 use Rattle.lists.proofs.Laws.{by-cases}
-use Rattle.frame_run.specs.Print.{digits, decimal}
+use Rattle.schedules.specs.Print.{digits, decimal}
 
 -- the numbers below it have at most d digits
 abbrev enough : ℕ → ℕ

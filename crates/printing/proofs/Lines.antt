@@ -6,7 +6,7 @@ use mathlib.Core.List.{List, [], _∷_, _++_, append-assoc}
 use native.Mathlib.Omega.{arith}
 use lib.Dec.{leb}
 use lib.ListN.{length, length-append}
-use Rattle.frame_run.specs.Print.{decimal, spaced, headOf, turnLine, refusalLine, islandsWord, turnsWord, takesWord, degreeWord, refusedWord}
+use Rattle.schedules.specs.Print.{decimal, spaced, headOf, turnLine, refusalLine, islandsWord, turnsWord, takesWord, degreeWord, refusedWord}
 use Rattle.printing.specs.Puts.{Put, longest, ifRoom}
 use Rattle.printing.proofs.Puts.{put-nothing}
 use Rattle.printing.proofs.Digits.{decimal-few}

@@ -5,7 +5,7 @@ use mathlib.Core.Path.{_≡_, sym, ap, _∙_}
 use mathlib.Core.List.{List, [], _∷_, _++_, append-assoc, append-nil}
 use native.Mathlib.Omega.{arith}
 use lib.ListN.{length, set, length-append}
-use Rattle.frame_run.specs.Print.{decimal}
+use Rattle.schedules.specs.Print.{decimal}
 use Rattle.printing.specs.Puts.{put, Put}
 use Rattle.printing.proofs.Puts.{put-none, length-put, put-before}
 use Rattle.printing.proofs.Digits.{decimal-last, decimal-one, decimal-some}

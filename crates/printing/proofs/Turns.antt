@@ -13,7 +13,7 @@ use borrow.Author.Tests.{lt-ltb, le-ltb, ltb-true, ltb-false, leb-true}
 use Rattle.lists.proofs.Laws.{by-cases, and-left, and-right}
 use Rattle.frame.specs.Frames.{Constraint, Frame, nothing, constraintsOf, constraintAt}
 use Rattle.frame.specs.Files.{half, countB, countM, countJ, pairsAt, jointsAt, pairsFrom, manifoldsIn, jointsIn, enabledIn, decode}
-use Rattle.frame_run.specs.Print.{decimal, spaced, turnLine, turnLines}
+use Rattle.schedules.specs.Print.{decimal, spaced, turnLine, turnLines}
 use Rattle.printing.specs.Puts.{put, Put, longest, ifRoom}
 use Rattle.printing.specs.Turns.{endsAt, lineOf, ready, ifReady, gathered, turnsFrom, linesOf, Lines}
 use Rattle.printing.proofs.Puts.{put-none, put-nothing, wrote-then}

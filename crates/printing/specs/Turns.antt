@@ -7,7 +7,7 @@ use lib.Dec.{leb, ltb}
 use lib.ListN.{length, take, drop}
 use Rattle.frame.specs.Frames.{constraintAt}
 use Rattle.frame.specs.Files.{countM, countJ, pairsAt, jointsAt, decode}
-use Rattle.frame_run.specs.Print.{turnLine, turnLines}
+use Rattle.schedules.specs.Print.{turnLine, turnLines}
 use Rattle.printing.specs.Puts.{Put, longest}
 use Rattle.printing.specs.declared.Gathered.{Gathered}
 

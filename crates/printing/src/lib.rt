@@ -7,7 +7,7 @@ ghost use Prim.Native.Nat.{_+_, _*_, _≤_, _<_};
 ghost use lib.Dec.{leb};
 ghost use lib.ListN.{length};
 ghost use Rattle.frame.specs.Files.{byte, half};
-ghost use Rattle.frame_run.specs.Print.{decimal, headOf, turnLine, refusalLine};
+ghost use Rattle.schedules.specs.Print.{decimal, headOf, turnLine, refusalLine};
 ghost use Rattle.printing.specs.Puts.{Put, longest, ifRoom};
 ghost use Rattle.printing.specs.Turns.{endsAt, ifReady, Lines};
 

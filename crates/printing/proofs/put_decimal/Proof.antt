@@ -4,7 +4,7 @@ use mathlib.Core.Path.{_≡_, sym, subst, _∙_}
 use native.Mathlib.Omega.{arith}
 use borrow.Author.Needs.{needs}
 use lib.ListN.{length, set, length-set}
-use Rattle.frame_run.specs.Print.{decimal}
+use Rattle.schedules.specs.Print.{decimal}
 use Rattle.printing.specs.Puts.{Put}
 use Rattle.printing.proofs.Digits.{decimal-few}
 use Rattle.printing.proofs.Spelling.{Spelling, spell-first, spell-length, spell-place, spell-turn, spell-last}

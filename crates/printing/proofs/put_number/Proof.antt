@@ -2,7 +2,7 @@
 use mathlib.Core.List.{[], _∷_}
 use native.Mathlib.Omega.{arith}
 use borrow.Author.Needs.{needs}
-use Rattle.frame_run.specs.Print.{decimal}
+use Rattle.schedules.specs.Print.{decimal}
 use Rattle.printing.proofs.Puts.{Wrote, wrote-none, wrote-then}
 use Rattle.printing.proofs.Digits.{decimal-few}
 use Rattle.printing.proofs.put_number.Statement.{statement}

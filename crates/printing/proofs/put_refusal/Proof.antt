@@ -7,7 +7,7 @@ use borrow.Author.Needs.{needs}
 use borrow.Author.Tests.{not-true, not-false, leb-true}
 use lib.Dec.{leb}
 use lib.ListN.{length}
-use Rattle.frame_run.specs.Print.{refusalLine, refusedWord}
+use Rattle.schedules.specs.Print.{refusalLine, refusedWord}
 use Rattle.printing.specs.Puts.{longest}
 use Rattle.printing.proofs.Lines.{field, no-room, with-room, refusal-field}
 use Rattle.printing.proofs.put_refusal.Statement.{statement}

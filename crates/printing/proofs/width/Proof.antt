@@ -2,7 +2,7 @@
 use Prim.Native.Nat.{_+_, _≤_}
 use mathlib.Core.Path.{_≡_, refl, ap}
 use lib.ListN.{length, length-append}
-use Rattle.frame_run.specs.Print.{decimal}
+use Rattle.schedules.specs.Print.{decimal}
 use Rattle.printing.proofs.Digits.{decimal-last, decimal-one, decimal-few}
 use borrow.Author.Needs.{needs}
 use native.Mathlib.Omega.{arith}
