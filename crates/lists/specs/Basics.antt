@@ -1,7 +1,7 @@
 -- Tests, sums, ranges and places of lists, as the definitions use them.
 use Prim.Native.Nat.{ℕ, zero, suc, _+_, max}
 use mathlib.Core.Bool.{Bool, true, false, not, _&&_, _||_, cond}
-use mathlib.Core.List.{List, [], _∷_, _++_, map}
+use mathlib.Core.List.{List, [], _∷_, _++_}
 use lib.Dec.{leb, ltb, eqb}
 use lib.ListN.{length, drop}
 
