@@ -12,6 +12,7 @@ use lib.Seq.{getD-set-same, getD-set-other}
 use borrow.Author.Tests.{ltb-true, eqb-true, eq-eqb, ne-eqb}
 use Rattle.lists.specs.Basics.{any, all}
 use Rattle.lists.proofs.Laws.{and-left, and-right, and-both, clashes, not-true-false}
+use Rattle.lists.proofs.Ranges.{joinMap-append}
 use Rattle.frame.specs.Frames.{Constraint, Frame, constraint, constraintsOf, dynamic, on, sound, none}
 use Rattle.frame.proofs.Pairs.{sound-live, pairs-step, pairs-end, scan-stop}
 use Rattle.island.specs.Islands.{Edge, star, edgesOf, edges, join, merge}
@@ -116,8 +117,7 @@ module _ {A : Type 0} (q : A → Bool) where
 
 edges-append : (f : Frame) (cs ds : List Constraint) → edges f (cs ++ ds) ≡ edges f cs ++ edges f ds
 unfolding edges
-edges-append f [] ds = refl
-edges-append f (c ∷ cs) ds = ap (λ (l : List Edge). edgesOf f c ++ l) (edges-append f cs ds) ∙ sym (append-assoc (edgesOf f c) (edges f cs) (edges f ds))
+edges-append f cs ds = joinMap-append (edgesOf f) cs ds
 
 marked-both : (s t : Bool) (n : ℕ) → cond t 0 (cond s 0 n) ≡ cond (s || t) 0 n
 marked-both true true n = refl

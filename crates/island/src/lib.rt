@@ -79,17 +79,6 @@ fn union(parents: &mut [u16], left: u16, right: u16)
     }
 }
 
-// Every place none.
-fn fill_none(labels: &mut [u16])
-    ensures { λ _. ⌜ now (labels .exit) ≡ replicate (length (now (labels .entry))) none ⌝ }
-{
-    let mut i = 0;
-    while i < labels.len() {
-        labels[i] = NONE;
-        i += 1;
-    }
-}
-
 // Every body its own parent.
 fn fill_self(parents: &mut [u16])
     requires { ⌜ length (now parents) ≤ 4096 ⌝ }
@@ -297,7 +286,7 @@ fn reset(parents: &mut [u16], body_islands: &mut [u16])
     ensures { λ _. ⌜ (now (parents .exit) ≡ range (length (now (parents .entry)))) × (now («body_islands» .exit) ≡ replicate (length (now («body_islands» .entry))) none) ⌝ }
 {
     fill_self(parents);
-    fill_none(body_islands);
+    tables::fill(body_islands, NONE);
 }
 
 // The labels of a frame whose constraints are joined and marked. Answers how many islands there are.
@@ -349,8 +338,8 @@ fn lay(
         body_islands,
     ) {
         reset(parents, body_islands);
-        fill_none(manifold_islands);
-        fill_none(joint_islands);
+        tables::fill(manifold_islands, NONE);
+        tables::fill(joint_islands, NONE);
         return Answer::Refused(7);
     }
     Answer::Islands(label_frame(

@@ -56,11 +56,11 @@ join-frame-requires c κs =
 reset-requires-2 : tie.Need-reset-requires-2
 reset-requires-2 c κs = search needs
 
-fill-none-requires : tie.Need-fill-none-requires
-fill-none-requires c κs = search needs
+fill-requires : tie.Need-fill-requires
+fill-requires c κs = search needs
 
-fill-none-requires-2 : tie.Need-fill-none-requires-2
-fill-none-requires-2 c κs = search needs
+fill-requires-2 : tie.Need-fill-requires-2
+fill-requires-2 c κs = search needs
 
 same-length : tie.Need-same-length
 same-length c = search needs
@@ -90,8 +90,8 @@ returns c =
         count = refl;
         alone = q .ensures .0 ∙ ap range (j .kept .1 .1 .1 .1 .0 ∙ r .kept .0 ∙ s .pre .long-parents);
         body-labels = q .ensures .1 ∙ ap (λ (n : ℕ). replicate n none) (j .kept .1 .1 .1 .1 .1 .0 ∙ r .kept .1 .0 ∙ s .pre .long-bodies);
-        manifold-labels = c .before .before .before .before .before .before .fill-none .ensures ∙ ap (λ (n : ℕ). replicate n none) (s .pre .long-manifolds);
-        joint-labels = c .before .before .fill-none2 .ensures ∙ ap (λ (n : ℕ). replicate n none) (s .pre .long-joints);
+        manifold-labels = c .before .before .before .before .before .before .fill .ensures ∙ ap (λ (n : ℕ). replicate n none) (s .pre .long-manifolds);
+        joint-labels = c .before .before .fill2 .ensures ∙ ap (λ (n : ℕ). replicate n none) (s .pre .long-joints);
       };
     }
 
@@ -129,8 +129,8 @@ lay-spec =
     reset-requires
     join-frame-requires
     reset-requires-2
-    fill-none-requires
-    fill-none-requires-2
+    fill-requires
+    fill-requires-2
     same-length
     same-length-2
     same-length-3
