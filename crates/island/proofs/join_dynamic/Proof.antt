@@ -26,11 +26,11 @@ add-types c = search needs
 
 returns : tie.Need-returns
 returns c =
-  let s = c .before .before .before .before .before .before .before in
-  let a = s .args in
-  let u = c .before .before .before .wide in
-  let v = c .before .wide2 in
-  (s .pre .0, join-off (rootOf (a .parents .now)) (a .body-types .now) (a .a) (a .b) (u .result) (v .result) (u .ensures .0) (v .ensures .0) (v .ensures .1) (c .if1 .taken))
+    let s = c .before .before .before .before .before .before .before in
+    let a = s .args in
+    let u = c .before .before .before .wide in
+    let v = c .before .wide2 in
+    (s .pre .0, join-off (rootOf (a .parents .now)) (a .body-types .now) (a .a) (a .b) (u .result) (v .result) (u .ensures .0) (v .ensures .0) (v .ensures .1) (c .if1 .taken))
 
 union-requires : tie.Need-union-requires
 union-requires c κs = search needs
@@ -40,11 +40,11 @@ same-length c = search needs
 
 returns-2 : tie.Need-returns-2
 returns-2 c =
-  let a = c .before .before .before .before .before .before .before .before .before .before .before .args in
-  let u = c .before .before .before .before .before .before .before .wide in
-  let v = c .before .before .before .before .before .wide2 in
-  let f = c .before .before .union in
-  (f .ensures .0, f .ensures .1 ∙ join-on (rootOf (a .parents .now)) (a .body-types .now) (a .a) (a .b) (u .result) (v .result) (u .ensures .0) (v .ensures .0) (v .ensures .1) (c .before .before .before .before .if1 .left))
+    let a = c .before .before .before .before .before .before .before .before .before .before .before .args in
+    let u = c .before .before .before .before .before .before .before .wide in
+    let v = c .before .before .before .before .before .wide2 in
+    let f = c .before .before .union in
+    (f .ensures .0, f .ensures .1 ∙ join-on (rootOf (a .parents .now)) (a .body-types .now) (a .a) (a .b) (u .result) (v .result) (u .ensures .0) (v .ensures .0) (v .ensures .1) (c .before .before .before .before .if1 .left))
 
 pub join-dynamic-spec : {M : Type 1} → statement M
 join-dynamic-spec =

@@ -27,9 +27,7 @@ number-one-requires c κs =
     let s = c .before .before .before .before .before .before in
     let a = s .args in
     let l = c .before .before .loop in (
-      s .pre .0,
-      s .pre .1,
-      l .inv .long ∙ s .pre .2,
+      record { falls = s .pre .0 .falls; long-parents = s .pre .0 .long-parents; long-bodies = l .inv .long ∙ s .pre .0 .long-bodies },
       omega (arith, l .inv .long),
       omega (arith, l .inv .islands, l .inv .inside, count-le (leadsBy (marked (a .body-types .now) (a .body-islands .now)) (rootOf (a .parents .now))) (l .next)),
     )
@@ -47,8 +45,8 @@ loop-again c =
     let l = c .before .before .before .before .before .loop in
     let f = c .before .before .number-one in
     let k : l .next < length (a .body-types .now) = omega (arith, l .inv .long) in
-    numbering-turns (a .body-types .now) (a .parents .now) (a .body-islands .now) (l .body-islands) (l .islands) (l .next) (l .inv) (s .pre .0) (s .pre .1) (s .pre .2) k (s .pre .4)
-    (f .last .1 .1 .0) (f .result) (f .ensures .1) (f .ensures .0) (f .kept .1 .1 .0)
+    numbering-turns (a .body-types .now) (a .parents .now) (a .body-islands .now) (l .body-islands) (l .islands) (l .next) (l .inv) (s .pre .0) k (s .pre .2)
+    (f .last .1 .1 .0) (f .result) (f .ensures) (f .kept .1 .1 .0)
 
 same-length : tie.Need-same-length Inv-loop μ-loop
 same-length c = c .before .loop .inv .long
@@ -58,7 +56,7 @@ returns c =
     let s = c .before .before .before .before .before in
     let a = s .args in
     let l = c .before .loop in
-    numbering-ends (a .body-types .now) (a .parents .now) (a .body-islands .now) (l .body-islands) (l .islands) (l .next) (l .inv) (s .pre .2) (c .loop-test .left)
+    numbering-ends (a .body-types .now) (a .parents .now) (a .body-islands .now) (l .body-islands) (l .islands) (l .next) (l .inv) (s .pre .0 .long-bodies) (c .loop-test .left)
 
 pub number-spec : {M : Type 1} → statement M
 number-spec =

@@ -4,7 +4,7 @@ use native.Mathlib.Omega.{arith}
 use Prim.Native.Nat.{_<_}
 use lib.ListN.{length}
 use Rattle.island.proofs.Roots.{read-le}
-use Rattle.island.proofs.Numbering.{at-most-one-more, counted-here, labelled-here}
+use Rattle.island.proofs.Numbering.{stepped}
 use Rattle.island.proofs.number_one.Statement.{statement}
 use Rattle.island.proofs.number_one.Tie as tie
 
@@ -27,10 +27,10 @@ cast-parent : tie.Need-cast-parent
 cast-parent c = omega (arith, c .shared-slice-known4 .given (c .before .before .before .before .before .before .args .body))
 
 mul-pick : tie.Need-mul-pick
-mul-pick c = let s = c .before .before .before .before .before .before in omega (arith, read-le (s .args .parents .now) (s .pre .0) (s .args .body) (omega arith))
+mul-pick c = let s = c .before .before .before .before .before .before in omega (arith, read-le (s .args .parents .now) (s .pre .0 .falls) (s .args .body) (omega arith))
 
 slice-read-pick : tie.Need-slice-read-pick
-slice-read-pick c = let s = c .before .before .before .before .before .before .before in omega (arith, read-le (s .args .parents .now) (s .pre .0) (s .args .body) (omega arith))
+slice-read-pick c = let s = c .before .before .before .before .before .before .before in omega (arith, read-le (s .args .parents .now) (s .pre .0 .falls) (s .args .body) (omega arith))
 
 pick-requires : tie.Need-pick-requires
 pick-requires c κs = search needs
@@ -44,26 +44,22 @@ mul-body-islands c = search needs
 slice-write-body-islands : tie.Need-slice-write-body-islands
 slice-write-body-islands c = search needs
 
-cast-result : tie.Need-cast-result
-cast-result c = search needs
+bit-requires : tie.Need-bit-requires
+bit-requires c κs = search needs
 
 add-result : tie.Need-add-result
-add-result c =
-  let a = c .before .before .before .before .before .before .before .before .before .args in
-  let h : a .body < length (a .body-islands .now) = omega arith in
-  omega (arith, at-most-one-more (a .body-types .now) (a .parents .now) (a .body-islands .now) (a .body) (a .count) h)
+add-result c = search needs
 
 same-length : tie.Need-same-length
 same-length c = search needs
 
 returns : tie.Need-returns
 returns c =
-  let a = c .before .before .before .before .before .before .before .before .before .args in
-  let h : a .body < length (a .body-islands .now) = omega arith in
-  (
-    counted-here (a .body-types .now) (a .parents .now) (a .body-islands .now) (a .body) (a .count) h,
-    labelled-here (a .body-types .now) (a .parents .now) (a .body-islands .now) (a .body) (a .count) h (c .before .pick .result) (c .pick2 .result) (c .before .pick .ensures) (c .pick2 .ensures),
-  )
+    let a = c .before .before .before .before .before .before .before .before .before .before .args in
+    let h : a .body < length (a .body-islands .now) = omega arith in
+    let island = c .before .before .pick in
+    let label = c .before .pick2 in
+    stepped (a .body-types .now) (a .parents .now) (a .body-islands .now) (a .body) (a .count) h (island .result) (label .result) (c .bit .result) (island .ensures) (label .ensures) (c .bit .ensures .0)
 
 pub number-one-spec : {M : Type 1} → statement M
 number-one-spec =
@@ -81,7 +77,7 @@ number-one-spec =
     pick-requires-2
     mul-body-islands
     slice-write-body-islands
-    cast-result
+    bit-requires
     add-result
     same-length
     returns)
