@@ -103,14 +103,13 @@ fn size_refusal(bytes: &[u8]) -> u8
 pub fn at_most(s: &[u8], limit: u8) -> bool
     ensures { λ r. ⌜ r ≡ all (λ x. leb x limit) (now (s .entry)) ⌝ }
 {
+    let mut known = true;
     let mut i = 0;
     while i < s.len() {
-        if limit < s[i] {
-            return false;
-        }
+        known = known & (s[i] <= limit);
         i += 1;
     }
-    true
+    known
 }
 
 // Question 5 of the enabled bytes of the `joints` joints that start at `from`.

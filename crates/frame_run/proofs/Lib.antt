@@ -1,5 +1,1 @@
-pub mod Accepted
-pub mod Plans
-pub mod Groups
-pub mod Condition3
 pub mod Samples

@@ -23,20 +23,16 @@ flags f = map flagOf (f .types)
 unfoldable pub pairsFor : Frame → ℕ → List ℕ
 pairsFor f i = joinMap (λ n. constraintAt f n .ends) (ofIsland f i)
 
--- an update for each island, on a fresh plan
+-- the definition's plan of island i: what an update of a fresh plan leaves in the used places
 unfoldable pub planAt : Frame → ℕ → Plan
 planAt f i = planFor (remembered fresh (flags f) (pairsFor f i) true)
 
--- a group's members and bodies, as the lookups hand them back
-unfoldable pub membersAt : Frame → ℕ → ℕ → List ℕ
-membersAt f i k = groupPart (planAt f i .groups) (planAt f i .color-offsets) (planAt f i .colored-constraints) k
+-- a group's members and bodies, as the lookups hand them back from a plan's tables
+unfoldable pub membersIn : Plan → ℕ → List ℕ
+membersIn p k = groupPart (p .groups) (p .color-offsets) (p .colored-constraints) k
 
-unfoldable pub bodiesAt : Frame → ℕ → ℕ → List ℕ
-bodiesAt f i k = groupPart (planAt f i .groups) (planAt f i .color-body-offsets) (planAt f i .color-bodies) k
-
--- a bind for each group
-unfoldable pub boundAt : Frame → ℕ → ℕ → BodyBinding
-boundAt f i k = bindOf (f .types) (bodiesAt f i k)
+unfoldable pub bodiesIn : Plan → ℕ → List ℕ
+bodiesIn p k = groupPart (p .groups) (p .color-body-offsets) (p .color-bodies) k
 
 -- a take asks for its constraint's positions, by its rank r in the island, and takes them
 unfoldable pub takeRank : Plan → BodyBinding → ℕ → Taking
@@ -52,21 +48,27 @@ pub record Call : Type 0 where
   pub refusal : ℕ
   pub handed : List Handed
 
--- the takes of one group, by rank: each gets the binding as the take before left it, refused or not
-unfoldable pub callsFrom : Frame → ℕ → ℕ → BodyBinding → List ℕ → List Call
-callsFrom f i k b [] = []
-callsFrom f i k b (r ∷ rs) =
-    let t = takeRank (planAt f i) b r in
-    record { island = i; group = k; constraint = getD (ofIsland f i) r 0; refusal = t .refusal; handed = t .handed }
-    ∷ callsFrom f i k (t .after) rs
+-- the takes of one group, by rank: each gets the binding as the take before left it, refused or not; `ns` numbers the ranks
+unfoldable pub callsFrom : Plan → List ℕ → ℕ → ℕ → BodyBinding → List ℕ → List Call
+callsFrom p ns i k b [] = []
+callsFrom p ns i k b (r ∷ rs) =
+    let t = takeRank p b r in
+    record { island = i; group = k; constraint = getD ns r 0; refusal = t .refusal; handed = t .handed }
+    ∷ callsFrom p ns i k (t .after) rs
 
--- an order of takes for each island and group
+-- a plan for each island, and an order of takes for each island and group
+abbrev pub Plans : Type 0
+Plans = ℕ → Plan
+
 abbrev pub Orders : Type 0
 Orders = ℕ → ℕ → List ℕ
 
--- the whole schedule: islands in number order, their groups in order, the takes of each group as listed
-unfoldable pub schedule : Frame → Orders → List Call
-schedule f o = joinMap (λ i. joinMap (λ k. callsFrom f i k (boundAt f i k) (o i k)) (range (planAt f i .groups))) (range (islandCount f))
+-- the whole schedule: islands in number order, their groups in order, a bind for each, and its takes as listed
+unfoldable pub groupCalls : Frame → Plans → Orders → ℕ → ℕ → List Call
+groupCalls f p o i k = callsFrom (p i) (ofIsland f i) i k (bindOf (f .types) (bodiesIn (p i) k)) (o i k)
+
+unfoldable pub schedule : Frame → Plans → Orders → List Call
+schedule f p o = joinMap (λ i. joinMap (groupCalls f p o i) (range (p i .groups))) (range (islandCount f))
 
 -- ---- what is carried
 
@@ -105,13 +107,17 @@ reportOf f cs = record {
 abbrev pub refused : ℕ → Report
 refused n = record { refusal = n; islands = 0; turns = 0; takes = 0; degree = 0; table = [] }
 
--- the run: the schedule with every group's members rising, as the plan lists them
-unfoldable pub rising : Frame → Orders
-rising f = membersAt f
+-- the orders of the run: every group's members rising, as the plan lists them
+unfoldable pub rising : Plans → Orders
+rising p i k = membersIn (p i) k
+
+-- the run's calls
+abbrev pub runCalls : Frame → List Call
+runCalls f = schedule f (planAt f) (rising (planAt f))
 
 -- the run of a file, where `room` answers question 6
 unfoldable pub runRefusal : List ℕ → Bool → ℕ
 runRefusal bs room = asked (fileQuestions bs ++ question 6 room ∷ question 7 (allSound (decode bs)) ∷ [])
 
 unfoldable pub runOf : List ℕ → Bool → Report
-runOf bs room = cond (eqb (runRefusal bs room) 0) (reportOf (decode bs) (schedule (decode bs) (rising (decode bs)))) (refused (runRefusal bs room))
+runOf bs room = cond (eqb (runRefusal bs room) 0) (reportOf (decode bs) (runCalls (decode bs))) (refused (runRefusal bs room))

@@ -1,7 +1,8 @@
 -- The takes of one group, in any order: two members share no dynamic body, since their colors are equal, so every take finds its bodies there.
+use mathlib.Core.Bool.{cond, Bool, true, false, not, _||_}
+use Rattle.schedules.specs.Runs.{takeRank, Call, flags, membersIn, bodiesIn, callsFrom}
 use Prim.Native.Nat.{ℕ, _≤_, _<_}
 use mathlib.Core.Path.{_≡_, refl, sym, ap, _∙_, subst}
-use mathlib.Core.Bool.{Bool, true, false, not, _||_}
 use mathlib.Core.List.{List, [], _∷_, map}
 use native.Mathlib.Omega.{arith}
 use lib.Dec.{ltb, eqb}
@@ -11,14 +12,13 @@ use Rattle.lists.specs.Basics.{any, all, range, mem, place, distinct, rises}
 use Rattle.lists.proofs.Laws.{and-left, and-right, or-right, clashes, by-cases, not-true-false, any-in, mem-self, in-range, range-high, length-range, all-intro, all-in, filter-mem, mem-filter, getD-mem, rises-filter, rises-distinct, filter-length-le, distinct-count, count-distinct, mem-count, count-any}
 use Rattle.frame.specs.Frames.{Frame, dynamic}
 use Rattle.island.specs.Islands.{islandCount, ofIsland}
-use Rattle.groups.specs.Groups.{members, groupBodies, positions}
+use Rattle.groups.specs.Groups.{Plan, members, groupBodies, positions}
 use Rattle.groups.proofs.Colors.{proper}
 use Rattle.colored_bodies.specs.Bindings.{lastBelow, bindRefusal, bindOf, Handed, takeOf}
 use Rattle.colored_bodies.proofs.Takes.{typed, leftOf, left-first, take-left}
-use Rattle.frame_run.specs.Runs.{Call, flags, planAt, membersAt, boundAt, callsFrom}
-use Rattle.frame_run.specs.Condition.{SameNumbers, due}
-use Rattle.frame_run.proofs.Accepted.{Accepted, Live, flag-dynamic}
-use Rattle.frame_run.proofs.Plans.{endsAt, pairsAt, colorsAt, of-island, touch-live, length-pairs, length-colors, members-are, bodies-are, ends-are, takes-rank}
+use Rattle.schedules.specs.Condition.{SameNumbers, due}
+use Rattle.schedules.proofs.Accepted.{Accepted, Live, flag-dynamic}
+use Rattle.schedules.proofs.Plans.{endsAt, pairsAt, colorsAt, of-island, touch-live, length-pairs, length-colors, ends-are, Stands}
 
 -- a member of a group is a rank of its color
 member : (cs : List ℕ) (k r : ℕ) → mem r (members cs k) ≡ true → (r < length cs) × (k ≡ getD cs r 0)
@@ -34,7 +34,7 @@ last-inside n [] h = refl
 last-inside n (x ∷ []) h = and-left (ltb x n) true h
 last-inside n (x ∷ y ∷ ys) h = last-inside n (y ∷ ys) (and-right (ltb x n) (all (λ b. ltb b n) (y ∷ ys)) h)
 
-module _ (f : Frame) (ok : Accepted f) (i : ℕ) (l : i < islandCount f) (k : ℕ) (inside-k : k < planAt f i .groups) where
+module _ (f : Frame) (ok : Accepted f) (i : ℕ) (l : i < islandCount f) (p : Plan) (st : Stands f ok i l p) (k : ℕ) (inside-k : k < p .groups) where
   abbrev nb : ℕ
   nb = length (f .types)
 
@@ -61,9 +61,9 @@ module _ (f : Frame) (ok : Accepted f) (i : ℕ) (l : i < islandCount f) (k : �
   bodies-inside = all-intro (λ b. ltb b nb) bs (λ b m. lt-ltb b nb (omega (arith, range-high b 0 nb (filter-mem (λ x. any (λ r. mem x (getD (pairsAt f i) r [])) (members colors k)) b (range nb) m .0))))
 
   -- the bind is accepted, and nothing is gone at first
-  bound-first : boundAt f i k ≡ leftOf (f .types) (λ b. false) bs
-  unfolding boundAt bindOf bindRefusal bs
-  bound-first = rw (bodies-are f ok i l k inside-k, le-leb nb 4096 (ok .few-bodies), ok .types-known, bodies-rise, last-inside nb bs bodies-inside) (left-first (f .types) bs)
+  bound-first : bindOf (f .types) (bodiesIn p k) ≡ leftOf (f .types) (λ b. false) bs
+  unfolding bindOf bindRefusal bs
+  bound-first = rw (st .bodies k inside-k, le-leb nb 4096 (ok .few-bodies), ok .types-known, bodies-rise, last-inside nb bs bodies-inside) (left-first (f .types) bs)
 
   -- what is known of a member of the group
   record Member (r : ℕ) : Type 0 where
@@ -107,7 +107,7 @@ module _ (f : Frame) (ok : Accepted f) (i : ℕ) (l : i < islandCount f) (k : �
 
   calls-right : (rs : List ℕ) (gone : ℕ → Bool) → ((r : ℕ) → mem r rs ≡ true → mem r (members colors k) ≡ true) → distinct rs ≡ true
       → ((r b : ℕ) → mem r rs ≡ true → mem b (endsAt f (at r)) ≡ true → typed (f .types) b ≡ true → gone b ≡ false)
-      → Right (callsFrom f i k (leftOf (f .types) gone bs) rs)
+      → Right (callsFrom p (ofIsland f i) i k (leftOf (f .types) gone bs) rs)
   unfolding callsFrom
   calls-right [] gone all-members d fresh = (refl, refl)
   calls-right (r ∷ rs) gone all-members d fresh =
@@ -115,7 +115,9 @@ module _ (f : Frame) (ok : Accepted f) (i : ℕ) (l : i < islandCount f) (k : �
       let m = all-members r (mem-self r rs) in
       let q = know r m in
       let not-in : mem r rs ≡ false = not-true (mem r rs) (and-left (not (mem r rs)) (distinct rs) d) in
-      let taken = takes-rank f ok i l (leftOf (f .types) gone bs) r (q .ranked) ∙ ap (takeOf (leftOf (f .types) gone bs)) (positions-are r m)
+      let b₀ = leftOf (f .types) gone bs in
+      let asked : takeRank p b₀ r ≡ takeOf b₀ (positions nb (pairsAt f i) colors r) = st .takes b₀ r ∙ ap (λ (t : Bool). cond t (takeOf b₀ (positions nb (pairsAt f i) colors r)) (record { refusal = 12; handed = []; after = b₀ })) (lt-ltb r (length (ofIsland f i)) (q .ranked)) in
+      let taken = asked ∙ ap (takeOf (leftOf (f .types) gone bs)) (positions-are r m)
       ∙ take-left (f .types) gone bs (endsAt f n) (within r m) (rises-distinct bs bodies-rise) (q .is-live .apart) bodies-few (λ b h t. fresh r b (mem-self r rs) h t) in
       let rest = calls-right rs (λ b. mem b (endsAt f n) || gone b)
       (λ s h. all-members s (or-right (eqb s r) (mem s rs) h))
@@ -127,9 +129,9 @@ module _ (f : Frame) (ok : Accepted f) (i : ℕ) (l : i < islandCount f) (k : �
       (rw taken (ap (λ (xs : List ℕ). 0 ∷ xs) (rest .0)), rw taken (ap (λ (xs : List (List Handed)). due f n ∷ xs) (rest .1)))
 
   -- the takes of a group, as the schedule makes them
-  pub group-right : (rs : List ℕ) → SameNumbers rs (membersAt f i k) → Right (callsFrom f i k (boundAt f i k) rs)
+  pub group-right : (rs : List ℕ) → SameNumbers rs (membersIn p k) → Right (callsFrom p (ofIsland f i) i k (bindOf (f .types) (bodiesIn p k)) rs)
   group-right rs same =
-      let same′ : SameNumbers rs (members colors k) = subst (SameNumbers rs) (members-are f ok i l k inside-k) same in
+      let same′ : SameNumbers rs (members colors k) = subst (SameNumbers rs) (st .members k inside-k) same in
       rw bound-first (calls-right rs (λ b. false)
       (λ r m. count-any (eqb r) (members colors k) (omega (arith, mem-count r rs m, same′ r)))
       (count-distinct rs (λ n. omega (arith, same′ n, distinct-count n (members colors k) (members-distinct colors k))))

@@ -15,7 +15,7 @@ use Rattle.frame.specs.Files.{countB, countM, countJ, pairsAt, jointsAt, typesI
 use Rattle.frame.proofs.Questions.{passed, asked-append}
 use Rattle.frame.proofs.Files.{sized}
 use Rattle.groups.specs.Groups.{flagged}
-use Rattle.frame_run.specs.Runs.{flags}
+use Rattle.schedules.specs.Runs.{flags}
 
 -- what the questions that a frame passed tell
 pub record Accepted (f : Frame) : Type 0 where

@@ -1,0 +1,4 @@
+pub mod Accepted
+pub mod Plans
+pub mod Groups
+pub mod Condition3
