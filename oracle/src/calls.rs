@@ -121,6 +121,13 @@ impl Table<'_> {
         }
     }
 
+    pub fn clear(&mut self) {
+        match self {
+            Table::Bytes(t) => t.fill(0),
+            Table::Numbers(t) => t.fill(0),
+        }
+    }
+
     /// As many places as wanted, filled with a pattern that differs from table to table.
     pub fn fill(&mut self, n: usize, seed: u32) {
         let at = |i: usize| seed.wrapping_add(i as u32).wrapping_mul(2654435761) >> 16;

@@ -3,6 +3,7 @@
 //! document 01 itself (`scope`), and the proved code through its C boundary (`ours`). `frames` makes what is asked,
 //! `agree` compares two sides.
 pub mod agree;
+pub mod bench;
 pub mod calls;
 pub mod collision;
 pub mod compare;
