@@ -144,7 +144,14 @@ fn put_binding(binding: BodyBinding, out: &mut [u8], at: usize) -> usize {
     put_places(&bodies, &marks, last + 1, out, counted)
 }
 
-fn take_all(bound: BodyBinding, takes: usize, question: &[u8], from: usize, out: &mut [u8], at: usize) -> usize {
+fn take_all(
+    bound: BodyBinding,
+    takes: usize,
+    question: &[u8],
+    from: usize,
+    out: &mut [u8],
+    at: usize,
+) -> usize {
     let mut binding = bound;
     let mut place = from;
     let mut next = at;
@@ -175,7 +182,14 @@ fn answer_takes(question: &[u8], out: &mut [u8]) -> usize {
     let binding = bound.binding;
     let refused = put(out, 0, bound.refusal);
     let shown = put_binding(binding, out, refused);
-    take_all(binding, number_at(question, 2), question, after(question, listed, n), out, shown)
+    take_all(
+        binding,
+        number_at(question, 2),
+        question,
+        after(question, listed, n),
+        out,
+        shown,
+    )
 }
 
 // ---- the list

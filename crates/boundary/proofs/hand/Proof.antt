@@ -1,7 +1,7 @@
 -- Where the marks are taken, the positions are places by the `requires`; each arm is a clause of `handedNumbers`.
 use native.Mathlib.Omega.{arith}
 use Prim.Native.Nat.{ℕ}
-use mathlib.Core.Path.{_≡_, refl, sym, ap, _∙_}
+use mathlib.Core.Path.{_≡_, refl}
 use mathlib.Core.Bool.{Bool, true, false}
 use mathlib.Core.List.{List, [], _∷_}
 use mir.Val.{boolByte}
