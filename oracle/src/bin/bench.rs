@@ -59,14 +59,32 @@ fn main() {
         },
     );
     println!("islands: ours {a:.1} us, the Rust {b:.1} us, ratio {:.2}", a / b);
-    let [_, b] = medians(times, |_| (), |i| {
-        black_box(islands.plan(&rust[i]));
-    });
-    println!("plan: the Rust {b:.1} us");
+    let flags: Vec<Vec<u8>> = lifts.iter().map(|f| f.flags()).collect();
+    let mut plan_tables = PlanTables::default();
+    for (mut table, n) in plan_tables.tables().into_iter().zip(plan_lengths(4096, 4096)) {
+        table.fill(n, 0);
+    }
+    let [a, b] = medians(
+        times,
+        |i| {
+            clear(&mut tables);
+            clear(&mut plan_tables);
+            black_box(ours::islands(&lifts[i], &mut tables));
+            black_box(ours::update(&mut [0; 4], &flags[i], &lifts[i].manifolds, &mut plan_tables));
+        },
+        |i| {
+            black_box(islands.plan(&rust[i]));
+        },
+    );
+    println!("plan: ours {a:.1} us, the Rust {b:.1} us, ratio {:.2}", a / b);
     let files: Vec<Vec<u8>> = lifts.iter().map(scope::write).collect();
     let mut turns = vec![0; 3 * 4096];
-    let [_, b] = medians(times, |_| (), |i| {
-        black_box(islands.run(&files[i], &mut turns));
-    });
+    let [_, b] = medians(
+        times,
+        |_| (),
+        |i| {
+            black_box(islands.run(&files[i], &mut turns));
+        },
+    );
     println!("run: the Rust {b:.1} us");
 }
