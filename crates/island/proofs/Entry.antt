@@ -9,14 +9,13 @@ use lib.Dec.{leb, eqb}
 use lib.ListN.{length, take, drop, replicate, length-map, length-replicate}
 use lib.Seq.{length-take-le, take-at, drop-at}
 use borrow.Author.Tests.{leb-true, eqb-false, ne-eqb}
-use Rattle.lists.specs.Basics.{over, range}
-use Rattle.lists.proofs.Laws.{and-left, and-right, by-cases, length-range}
+use Rattle.lists.specs.Basics.{over}
+use Rattle.lists.proofs.Laws.{and-left, and-right, length-range}
 use Rattle.frame.specs.Frames.{Frame, frameOf, constraintsOf, bodies, allSound, none}
-use Rattle.frame.specs.Questions.{asked, fewEach, pairCount}
 use Rattle.island.specs.Islands.{islandCount, bodyLabel, label}
 use Rattle.island.specs.Calls.{Rooms, islandRefusal, Parents, labelsAfter, Built}
-use Rattle.island.specs.Steps.{Sized, Labelled, Blank, Laid, earlyQuestions}
-use Rattle.island.proofs.Refusals.{q3, q6, early, early-few, early-room, early-below, refused-early, refused-late}
+use Rattle.island.specs.Steps.{Sized, Laid}
+use Rattle.island.proofs.Refusals.{early, early-few, early-room, early-below, refused-early, refused-late}
 
 pairs-bounds : (l es : List ℕ) → (length (constraintsOf l es) + length (constraintsOf l es) ≤ length l) × (length l ≤ length (constraintsOf l es) + length (constraintsOf l es) + 1)
 pairs-bounds [] es = omega arith

@@ -1,6 +1,6 @@
 -- What constraints join and mark. A live pair of dynamic bodies has one edge, any other pair none; a live pair marks its two bodies.
 -- What is joined by one list and then by another is joined by both together: so a loop over the constraints joins them all.
-use Prim.Native.Nat.{ℕ, _+_, _≤_, _<_}
+use Prim.Native.Nat.{ℕ, _+_, _*_, _≤_, _<_}
 use native.Mathlib.Omega.{arith}
 use native.Mathlib.Decide.{ℕ-discrete}
 use mathlib.Core.Path.{_≡_, refl, sym, ap, _∙_, subst}
@@ -9,14 +9,15 @@ use mathlib.Core.List.{List, [], _∷_, _++_, append-assoc, append-nil}
 use lib.Dec.{eqb, ltb}
 use lib.ListN.{length, getD, set, drop, length-set}
 use lib.Seq.{getD-set-same, getD-set-other}
-use borrow.Author.Tests.{ltb-true, eq-eqb, ne-eqb}
+use borrow.Author.Tests.{ltb-true, eqb-true, eq-eqb, ne-eqb}
 use Rattle.lists.specs.Basics.{any, all}
-use Rattle.lists.proofs.Laws.{and-left, and-right}
+use Rattle.lists.proofs.Laws.{and-left, and-right, and-both, clashes, not-true-false}
+use Rattle.lists.proofs.Ranges.{joinMap-append}
 use Rattle.frame.specs.Frames.{Constraint, Frame, constraint, constraintsOf, dynamic, on, sound, none}
 use Rattle.frame.proofs.Pairs.{sound-live, pairs-step, pairs-end, scan-stop}
 use Rattle.island.specs.Islands.{Edge, star, edgesOf, edges, join, merge}
 use Rattle.island.specs.Calls.{rootOf}
-use Rattle.island.specs.Steps.{bare, Falls, Joined}
+use Rattle.island.specs.Steps.{bare, Falls, Joined, Tried}
 use Rattle.island.proofs.Joins.{join-append}
 
 -- ---- what one pair joins
@@ -37,11 +38,16 @@ module _ (g : ℕ → ℕ) (ts : List ℕ) (a b : ℕ) where
   unfolding edgesOf dynamic
   joined = ap (join g) (pairs (eqb (getD ts a 0) 2) (eqb (getD ts b 0) 2) a b)
 
-  pub join-off : both ≡ false → g ≡ join g (edgesOf (bare ts) (constraint true a b))
-  join-off e = sym (joined ∙ rw e)
+  -- the code tests the two types, u and v, as one number
+  module _ (u v : ℕ) (eu : u ≡ getD ts a 0) (ev : v ≡ getD ts b 0) (small : v < 256) where
+    pub join-off : (u * 256 + v ≡ 514 → ⊥) → g ≡ join g (edgesOf (bare ts) (constraint true a b))
+    join-off n = sym (joined ∙ rw off)
+      where
+        off : both ≡ false
+        off = not-true-false both (λ e. n (omega (arith, eqb-true (getD ts a 0) 2 (and-left (eqb (getD ts a 0) 2) (eqb (getD ts b 0) 2) e), eqb-true (getD ts b 0) 2 (and-right (eqb (getD ts a 0) 2) (eqb (getD ts b 0) 2) e))))
 
-  pub join-on : both ≡ true → merge g a b ≡ join g (edgesOf (bare ts) (constraint true a b))
-  join-on e = sym (joined ∙ rw e)
+    pub join-on : u * 256 + v ≡ 514 → merge g a b ≡ join g (edgesOf (bare ts) (constraint true a b))
+    join-on e = sym (joined ∙ rw (eq-eqb (getD ts a 0) 2 (omega arith), eq-eqb (getD ts b 0) 2 (omega arith)))
 
 -- ---- what one pair marks
 mark-one : (l : List ℕ) (a x : ℕ) → a < length l → getD (set l a 0) x none ≡ cond (eqb x a) 0 (getD l x none)
@@ -65,6 +71,9 @@ mark-two l a b x h k =
     ∙ either (eqb x a) (eqb x b) (getD l x none)
 
 -- ---- one constraint
+pub only : (s : Bool) → s ≡ (s && true)
+only true = refl
+only false = refl
 
 -- a live constraint that passes question 7 has both its bodies below n
 pub sound-in : (t : Bool) (a b n : ℕ) → t ≡ true → sound n (constraint t a b) ≡ true → (a < n) × (b < n)
@@ -108,8 +117,7 @@ module _ {A : Type 0} (q : A → Bool) where
 
 edges-append : (f : Frame) (cs ds : List Constraint) → edges f (cs ++ ds) ≡ edges f cs ++ edges f ds
 unfolding edges
-edges-append f [] ds = refl
-edges-append f (c ∷ cs) ds = ap (λ (l : List Edge). edgesOf f c ++ l) (edges-append f cs ds) ∙ sym (append-assoc (edgesOf f c) (edges f cs) (edges f ds))
+edges-append f cs ds = joinMap-append (edgesOf f) cs ds
 
 marked-both : (s t : Bool) (n : ℕ) → cond t 0 (cond s 0 n) ≡ cond (s || t) 0 n
 marked-both true true n = refl
@@ -135,6 +143,20 @@ joined-append ts cs ds p₀ l₀ p₁ l₁ p₂ l₂ u v = record {
       ∙ ap (λ (t : Bool). cond t 0 (getD l₀ x none)) (sym (any-append (on x) cs ds));
 }
 
+-- the first list has a constraint that does not pass; or all pass, and the second list is tried
+module _ (ts : List ℕ) (cs ds : List Constraint) (p₀ l₀ p₁ l₁ : List ℕ) (r : Bool) (u : Tried ts cs p₀ l₀ p₁ l₁ r) where
+  abbrev passes : Constraint → Bool
+  passes = sound (length ts)
+
+  both-lists : (t : Bool) → r ≡ t → all passes (cs ++ ds) ≡ (t && all passes ds)
+  both-lists t e = all-append passes cs ds ∙ ap (λ (x : Bool). x && all passes ds) (sym (u .answer) ∙ e)
+
+  pub tried-first : r ≡ false → Tried ts (cs ++ ds) p₀ l₀ p₁ l₁ false
+  tried-first e = record { answer = sym (both-lists false e); joined = λ t. clashes false t refl }
+
+  pub tried-both : r ≡ true → (p₂ l₂ : List ℕ) (r₂ : Bool) → Tried ts ds p₁ l₁ p₂ l₂ r₂ → Tried ts (cs ++ ds) p₀ l₀ p₂ l₂ r₂
+  tried-both e p₂ l₂ r₂ v = record { answer = v .answer ∙ sym (both-lists true e); joined = λ t. joined-append ts cs ds p₀ l₀ p₁ l₁ p₂ l₂ (u .joined e) (v .joined t) }
+
 -- ---- the loop over the pairs, at entry k of ps and constraint i: the constraints before are done, and passed question 7
 pub record Joining (ts ps es p₀ l₀ p l : List ℕ) (k i : ℕ) : Type 0 where
   pub near : i ≤ k
@@ -156,10 +178,10 @@ module _ (ts ps es p₀ l₀ p l : List ℕ) (k i : ℕ) (w : Joining ts ps es p
   asked-both : all (sound (length ts)) (constraintsOf ps es) ≡ all (sound (length ts)) (constraintsOf (drop k ps) (drop i es))
   asked-both = ap (all (sound (length ts))) (sym (w .whole)) ∙ all-append (sound (length ts)) (w .done) (constraintsOf (drop k ps) (drop i es)) ∙ rw (w .passed)
 
-  pub joining-stops : (t : Bool) → k + 1 < length ps → t ≡ eqb (getD es i 1) 1 → sound (length ts) (here t) ≡ false → all (sound (length ts)) (constraintsOf ps es) ≡ false
-  joining-stops t h e s = asked-both ∙ scan-stop (sound (length ts)) ps es k i t (sound (length ts) (here t)) h e refl s
+  pub joining-stops : (t : Bool) → k + 1 < length ps → t ≡ eqb (getD es i 1) 1 → all (sound (length ts)) (here t ∷ []) ≡ false → all (sound (length ts)) (constraintsOf ps es) ≡ false
+  joining-stops t h e s = asked-both ∙ scan-stop (sound (length ts)) ps es k i t (sound (length ts) (here t)) h e refl (only (sound (length ts) (here t)) ∙ s)
 
-  pub joining-turns : (p′ l′ : List ℕ) (t : Bool) → k + 1 < length ps → t ≡ eqb (getD es i 1) 1 → sound (length ts) (here t) ≡ true
+  pub joining-turns : (p′ l′ : List ℕ) (t : Bool) → k + 1 < length ps → t ≡ eqb (getD es i 1) 1 → all (sound (length ts)) (here t ∷ []) ≡ true
       → length p′ ≡ length p → length l′ ≡ length l → Joined ts (here t ∷ []) p l p′ l′ → Joining ts ps es p₀ l₀ p′ l′ (k + 2) (i + 1)
   joining-turns p′ l′ t h e s ep el j = record {
     near = omega (arith, w .near);
@@ -172,7 +194,7 @@ module _ (ts ps es p₀ l₀ p l : List ℕ) (k i : ℕ) (w : Joining ts ps es p
         ∙ ap (λ (u : Bool). w .done ++ (here u ∷ constraintsOf (drop (k + 2) ps) (drop (i + 1) es))) e
         ∙ ap (λ (cs : List Constraint). w .done ++ cs) (sym (pairs-step ps es k i h))
         ∙ w .whole;
-    passed = all-append (sound (length ts)) (w .done) (here t ∷ []) ∙ rw (w .passed, s);
+    passed = all-append (sound (length ts)) (w .done) (here t ∷ []) ∙ and-both (all (sound (length ts)) (w .done)) (all (sound (length ts)) (here t ∷ [])) (w .passed) s;
     joined = joined-append ts (w .done) (here t ∷ []) p₀ l₀ p l p′ l′ (w .joined) j;
   }
 

@@ -2,19 +2,18 @@
 -- so the least of their labels is the constraint's.
 use Prim.Native.Nat.{ℕ, _+_, _≤_, _<_, min}
 use native.Mathlib.Omega.{arith}
-use mathlib.Core.Path.{_≡_, refl, sym, ap, _∙_, subst}
+use mathlib.Core.Path.{_≡_, refl, sym, ap, _∙_}
 use mathlib.Core.Bool.{Bool, true, false, _&&_, cond}
 use mathlib.Core.List.{List, [], _∷_, _++_, map, List·Memᴰ, List·Memᴰ·head, List·Memᴰ·tail}
 use lib.Dec.{eqb}
 use lib.ListN.{length, getD, set, take, drop, length-append, length-take, length-map}
 use Rattle.lists.specs.Basics.{any, all, mem, filter}
-use Rattle.lists.proofs.Laws.{and-left, and-right, and-both, or-left, or-right, by-cases, getD-any, mem-self}
+use Rattle.lists.proofs.Laws.{and-left, and-right, and-both, or-right, by-cases, getD-any, mem-self}
 use Rattle.lists.proofs.Fills.{fill-turn, fill-end}
 use Rattle.frame.specs.Frames.{Constraint, Frame, constraint, constraints, constraintsOf, dynamic, on, touches, sound, none}
 use Rattle.frame.proofs.Pairs.{pairs-step, pairs-end}
-use Rattle.island.specs.Islands.{inIsland, islandCount, bodyLabel, label}
+use Rattle.island.specs.Islands.{inIsland, bodyLabel, label}
 use Rattle.island.specs.Steps.{least, labelBy}
-use Rattle.island.proofs.Joining.{sound-in}
 use Rattle.island.proofs.Theorem.{label-each, label-below, islands-few}
 
 -- ---- one constraint, by the branches of `label_one`

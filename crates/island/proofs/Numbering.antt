@@ -1,6 +1,6 @@
 -- The numbering of the islands. Bodies come in rising order, and a body's parent is lower unless it is itself the lowest of its set:
 -- so a marked body that is its own parent starts the next island, and any other finds its island's number at its parent.
-use Prim.Native.Nat.{ℕ, suc, _+_, _≤_, _<_}
+use Prim.Native.Nat.{ℕ, _+_, _≤_, _<_}
 use native.Mathlib.Omega.{arith}
 use native.Mathlib.Decide.{ℕ-discrete, decLt}
 use native.Mathlib.Nat.{le-refl}
@@ -10,44 +10,31 @@ use mathlib.Core.Bool.{Bool, true, false, not, _&&_, cond}
 use mathlib.Core.List.{List}
 use lib.Dec.{eqb}
 use lib.ListN.{length, getD, set, List·getD-eq-default}
-use lib.Seq.{getD-set-same, getD-set-other, set-getD}
+use lib.Seq.{getD-set-same, getD-set-other}
 use borrow.Author.Tests.{eq-eqb, ne-eqb}
 use Rattle.lists.specs.Basics.{one, count, range}
 use Rattle.lists.proofs.Laws.{getD-any, by-cases}
 use Rattle.frame.specs.Frames.{dynamic, none}
 use Rattle.island.specs.Calls.{rootOf}
-use Rattle.island.specs.Steps.{bare, Falls, marked, leadsBy, Together, nextLabel, nextCount, Numbered}
+use Rattle.island.specs.Steps.{bare, Fit, marked, leadsBy, Together, nextLabel, nextCount, Stepped, Numbered}
 use Rattle.island.proofs.Counts.{count-next}
 use Rattle.island.proofs.Roots.{read-le, read-root, read-here, root-le}
 
--- ---- one body, by the branches of `number_one`
+-- ---- one body, in the terms of `number_one`
 module _ (ts p l : List ℕ) (b n : ℕ) (h : b < length l) where
-  unmarked : getD l b 0 ≡ none → marked ts l b ≡ false
-  unmarked e = ap (λ (v : ℕ). dynamic (bare ts) b && not (eqb v none)) (getD-any l b none 0 h ∙ e) ∙ off (dynamic (bare ts) b)
-    where
-      off : (t : Bool) → (t && false) ≡ false
-      off true = refl
-      off false = refl
+  abbrev test : Bool
+  test = eqb (getD ts b 0) 2 && not (eqb (getD l b 0) none)
 
-  still : (getD ts b 0 ≡ 2 → ⊥) → marked ts l b ≡ false
+  marked-here : test ≡ marked ts l b
   unfolding dynamic
-  still e = rw (ne-eqb (getD ts b 0) 2 e)
+  marked-here = ap (λ (v : ℕ). eqb (getD ts b 0) 2 && not (eqb v none)) (getD-any l b 0 none h)
 
-  is-marked : getD ts b 0 ≡ 2 → (getD l b 0 ≡ none → ⊥) → marked ts l b ≡ true
-  unfolding dynamic
-  is-marked t e = rw (eq-eqb (getD ts b 0) 2 t, getD-any l b none 0 h, ne-eqb (getD l b 0) none e)
-
-  pub number-off : getD l b 0 ≡ none → (n ≡ nextCount ts p l b n) × (l ≡ set l b (nextLabel ts p l b n))
-  number-off e = rw (unmarked e) (refl, sym (set-getD l b none) ∙ ap (set l b) (getD-any l b none 0 h ∙ e))
-
-  pub number-still : (getD ts b 0 ≡ 2 → ⊥) → (n ≡ nextCount ts p l b n) × (set l b none ≡ set l b (nextLabel ts p l b n))
-  number-still e = rw (still e) (refl, refl)
-
-  pub number-new : getD ts b 0 ≡ 2 → (getD l b 0 ≡ none → ⊥) → getD p b 0 ≡ b → (n + 1 ≡ nextCount ts p l b n) × (set l b n ≡ set l b (nextLabel ts p l b n))
-  number-new t e q = rw (is-marked t e, eq-eqb (getD p b 0) b q) (refl, refl)
-
-  pub number-old : getD ts b 0 ≡ 2 → (getD l b 0 ≡ none → ⊥) → (getD p b 0 ≡ b → ⊥) → (n ≡ nextCount ts p l b n) × (set l b (getD l (getD p b 0) 0) ≡ set l b (nextLabel ts p l b n))
-  number-old t e q = rw (is-marked t e, ne-eqb (getD p b 0) b q) (refl, refl)
+  -- i is the island picked, r the label, k what the count grows by
+  pub stepped : (i r k : ℕ) → i ≡ cond (eqb (getD p b 0) b) n (getD l (getD p b 0) 0) → r ≡ cond test i none → k ≡ one (test && eqb (getD p b 0) b) → Stepped ts p l b n (set l b r) (n + k)
+  stepped i r k ei er ek = record {
+    count = ap (λ (m : ℕ). n + m) ek ∙ ap (λ (t : Bool). n + one (t && eqb (getD p b 0) b)) marked-here;
+    labels = ap (set l b) (er ∙ ap (λ (t : Bool). cond t i none) marked-here ∙ ap (λ (m : ℕ). cond (marked ts l b) m none) ei);
+  }
 
 -- ---- the loop, at body b: l₀ at the start, l as it is, with n islands so far
 
@@ -68,7 +55,7 @@ pub record Numbering (ts p l₀ l : List ℕ) (n b : ℕ) : Type 0 where
 pub numbering-starts : (ts p l : List ℕ) → Numbering ts p l l 0 0
 numbering-starts ts p l = record { inside = omega arith; long = refl; islands = refl; done = λ x h. absurd (omega (arith, h)); todo = λ x h. refl }
 
-module _ (ts p l₀ l : List ℕ) (n b : ℕ) (w : Numbering ts p l₀ l n b) (h : Falls p) (ep : length p ≡ length ts) (el : length l₀ ≡ length ts) (k : b < length ts) (same : Together (marked ts l₀) (rootOf p)) where
+module _ (ts p l₀ l : List ℕ) (n b : ℕ) (w : Numbering ts p l₀ l n b) (fit : Fit ts p l₀) (k : b < length ts) (same : Together (marked ts l₀) (rootOf p)) where
   in-p : b < length p
   in-p = omega arith
 
@@ -78,19 +65,13 @@ module _ (ts p l₀ l : List ℕ) (n b : ℕ) (w : Numbering ts p l₀ l n b) (h
   fixed-b : Dec (getD p b 0 ≡ b) → eqb (getD p b 0) b ≡ eqb (rootOf p b) b
   fixed-b (yes e) = eq-eqb (getD p b 0) b e ∙ sym (eq-eqb (rootOf p b) b (read-here p b in-p e))
   fixed-b (no e) =
-      let r : rootOf p b ≡ b → ⊥ = λ q. omega (arith, read-le p h b in-p, e, q, read-root p h b in-p, root-le p h (getD p b 0)) in
+      let r : rootOf p b ≡ b → ⊥ = λ q. omega (arith, read-le p (fit .falls) b in-p, e, q, read-root p (fit .falls) b in-p, root-le p (fit .falls) (getD p b 0)) in
       ne-eqb (getD p b 0) b e ∙ sym (ne-eqb (rootOf p b) b r)
-
-  both : (u v : Bool) → cond u (cond v (n + 1) n) n ≡ n + one (u && v)
-  both true true = refl
-  both true false = omega arith
-  both false v = omega arith
 
   next-count : nextCount ts p l b n ≡ upTo ts l₀ p (b + 1)
   next-count =
-      ap (λ (u : Bool). cond u (cond (eqb (getD p b 0) b) (n + 1) n) n) mark-b
-      ∙ ap (λ (u : Bool). cond (marked ts l₀ b) (cond u (n + 1) n) n) (fixed-b (ℕ-discrete (getD p b 0) b))
-      ∙ both (marked ts l₀ b) (eqb (rootOf p b) b)
+      ap (λ (u : Bool). n + one (u && eqb (getD p b 0) b)) mark-b
+      ∙ ap (λ (u : Bool). n + one (marked ts l₀ b && u)) (fixed-b (ℕ-discrete (getD p b 0) b))
       ∙ ap (λ (m : ℕ). m + one (leadsBy (marked ts l₀) (rootOf p) b)) (w .islands)
       ∙ sym (count-next (leadsBy (marked ts l₀) (rootOf p)) b)
       ∙ ap (upTo ts l₀ p) (sym (add-one b))
@@ -104,21 +85,21 @@ module _ (ts p l₀ l : List ℕ) (n b : ℕ) (w : Numbering ts p l₀ l n b) (h
       go : marked ts l₀ b ≡ true → Dec (getD p b 0 ≡ b) → cond (eqb (getD p b 0) b) n (getD l (getD p b 0) 0) ≡ upTo ts l₀ p (rootOf p b)
       go m (yes e) = rw (eq-eqb (getD p b 0) b e) (w .islands ∙ ap (upTo ts l₀ p) (sym (read-here p b in-p e)))
       go m (no e) =
-          let lt : getD p b 0 < b = omega (arith, read-le p h b in-p, e) in
+          let lt : getD p b 0 < b = omega (arith, read-le p (fit .falls) b in-p, e) in
           let at : getD p b 0 < length l = omega (arith, w .long) in
           rw (ne-eqb (getD p b 0) b e)
           (getD-any l (getD p b 0) 0 none at
           ∙ w .done (getD p b 0) lt
-          ∙ ap (λ (u : Bool). cond u (upTo ts l₀ p (rootOf p (getD p b 0))) none) (same (getD p b 0) b (read-root p h b in-p) ∙ m)
-          ∙ ap (upTo ts l₀ p) (read-root p h b in-p))
+          ∙ ap (λ (u : Bool). cond u (upTo ts l₀ p (rootOf p (getD p b 0))) none) (same (getD p b 0) b (read-root p (fit .falls) b in-p) ∙ m)
+          ∙ ap (upTo ts l₀ p) (read-root p (fit .falls) b in-p))
 
-  pub numbering-turns : (l′ : List ℕ) (n′ : ℕ) → l′ ≡ set l b (nextLabel ts p l b n) → n′ ≡ nextCount ts p l b n → length l′ ≡ length l → Numbering ts p l₀ l′ n′ (b + 1)
-  numbering-turns l′ n′ e en el′ = record {
+  pub numbering-turns : (l′ : List ℕ) (n′ : ℕ) → Stepped ts p l b n l′ n′ → length l′ ≡ length l → Numbering ts p l₀ l′ n′ (b + 1)
+  numbering-turns l′ n′ z el = record {
     inside = omega arith;
-    long = el′ ∙ w .long;
-    islands = en ∙ next-count;
-    done = λ x j. ap (λ (m : List ℕ). getD m x none) e ∙ at x j (ℕ-discrete x b);
-    todo = λ x j. ap (λ (m : List ℕ). getD m x none) e ∙ getD-set-other l b x (nextLabel ts p l b n) none (λ q. omega (arith, q, j)) ∙ w .todo x (omega (arith, j));
+    long = el ∙ w .long;
+    islands = z .count ∙ next-count;
+    done = λ x j. ap (λ (m : List ℕ). getD m x none) (z .labels) ∙ at x j (ℕ-discrete x b);
+    todo = λ x j. ap (λ (m : List ℕ). getD m x none) (z .labels) ∙ getD-set-other l b x (nextLabel ts p l b n) none (λ q. omega (arith, q, j)) ∙ w .todo x (omega (arith, j));
   }
     where
       at : (x : ℕ) → x < b + 1 → Dec (x ≡ b) → getD (set l b (nextLabel ts p l b n)) x none ≡ numberOf ts l₀ p x

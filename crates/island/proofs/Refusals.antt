@@ -1,5 +1,5 @@
 -- The questions of a call in order: the first "no" of questions 3 to 6 refuses; where there is none, question 7 decides.
-use Prim.Native.Nat.{ℕ, _≤_, _/_}
+use Prim.Native.Nat.{ℕ, _≤_}
 use native.Mathlib.Omega.{arith}
 use mathlib.Core.Path.{_≡_, refl, sym, ap, _∙_}
 use mathlib.Core.Bool.{Bool, true, false, _&&_, cond}
@@ -7,7 +7,7 @@ use mathlib.Core.List.{List, [], _∷_}
 use lib.Dec.{leb, eqb}
 use lib.ListN.{length}
 use borrow.Author.Tests.{leb-true, eq-eqb, ne-eqb}
-use Rattle.lists.proofs.Laws.{and-left, and-right}
+use Rattle.lists.proofs.Laws.{and-left}
 use Rattle.frame.specs.Frames.{frameOf, allSound}
 use Rattle.frame.specs.Questions.{question, asked, fewEach, even, pairCount, typesKnown, bits}
 use Rattle.frame.proofs.Questions.{passed, asked-append}

@@ -1,6 +1,6 @@
 -- Laws of links that do not rise. A root is the one function that keeps its value over every link and fixes where links end;
 -- so a link set to the root changes no root, and a link from the higher of two roots to the lower makes their two sets one.
-use Prim.Native.Nat.{ℕ, zero, suc, _+_, _≤_, _<_, min, max}
+use Prim.Native.Nat.{ℕ, zero, suc, _≤_, _<_, min, max}
 use native.Mathlib.Omega.{arith}
 use native.Mathlib.Decide.{ℕ-discrete, le-ind}
 use native.Mathlib.Nat.{le-refl}

@@ -1,15 +1,14 @@
 -- A whole frame. Once all constraints are joined and marked, a dynamic body is marked exactly if it is in an island, and its root is the lowest body of its set;
 -- so the numbers that `number` gives are the definition's, and with them the labels of the constraints.
-use Prim.Native.Nat.{ℕ, _≤_, _<_}
-use native.Mathlib.Omega.{arith}
+use Prim.Native.Nat.{ℕ}
 use mathlib.Core.Path.{_≡_, refl, sym, ap, _∙_, subst, fun-ext}
 use mathlib.Core.Bool.{Bool, true, false, not, _&&_, cond}
-use mathlib.Core.List.{List, [], _∷_, _++_, map, Memᴰ·append-left, Memᴰ·append-right}
+use mathlib.Core.List.{List, map, Memᴰ·append-left, Memᴰ·append-right}
 use lib.Dec.{eqb}
 use lib.ListN.{length, getD, replicate}
 use Rattle.lists.specs.Basics.{any, all, count, range}
 use Rattle.lists.proofs.Laws.{and-left, and-right}
-use Rattle.frame.specs.Frames.{Constraint, Frame, constraints, dynamic, on, sound, allSound, none}
+use Rattle.frame.specs.Frames.{Frame, constraints, dynamic, on, sound, allSound, none}
 use Rattle.island.specs.Islands.{edgesOf, edges, join, lowest, inIsland, leads, islandCount, bodyLabel}
 use Rattle.island.specs.Calls.{rootOf, Parents}
 use Rattle.island.specs.Steps.{bare, Falls, Joined, marked, leadsBy, Together, Numbered, labelBy, Sized, Ready, Labelled}
@@ -19,10 +18,10 @@ use Rattle.island.proofs.Joining.{all-append}
 use Rattle.island.proofs.Labelling.{labels-are}
 
 -- ---- fresh tables p₁ and b₁, all constraints joined and marked
-module _ (f : Frame) (p₁ b₁ p b m j : List ℕ) (n k : ℕ) (ep : p₁ ≡ range n) (eb : b₁ ≡ replicate k none) where
-  pub fresh-falls : Falls p₁
-  fresh-falls = subst Falls (sym ep) (falls-self n)
+pub fresh-falls : (p : List ℕ) (n : ℕ) → p ≡ range n → Falls p
+fresh-falls p n e = subst Falls (sym e) (falls-self n)
 
+module _ (f : Frame) (p₁ b₁ p b m j : List ℕ) (n k : ℕ) (ep : p₁ ≡ range n) (eb : b₁ ≡ replicate k none) where
   edges-bare : edges (bare (f .types)) (constraints f) ≡ edges f (constraints f)
   unfolding edges edgesOf dynamic
   edges-bare = refl

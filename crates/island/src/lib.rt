@@ -1,21 +1,24 @@
 // Islands: the sets of dynamic bodies that live constraints connect, and the labels of bodies, manifolds and joints.
 // Every table is lent by the caller; a call that is refused says so by the number of the first question that got a "no".
 ghost use mathlib.Core.Path.{_≡_};
-ghost use mathlib.Core.Bool.{true, _&&_};
+ghost use mathlib.Core.Bool.{true, _&&_, cond};
 ghost use mathlib.Core.List.{map, _∷_, []};
 ghost use Prim.Native.Nat.{_/_, _%_, _<_, _≤_};
-ghost use lib.Dec.{eqb, leb};
+ghost use lib.Dec.{eqb};
 ghost use lib.ListN.{length, set, replicate};
-ghost use Rattle.lists.specs.Basics.{all, range};
-ghost use Rattle.frame.specs.Frames.{constraint, constraints, constraintsOf, frameOf, sound, allSound, none};
+ghost use Rattle.lists.specs.Basics.{one, all, range};
+ghost use Rattle.frame.specs.Frames.{constraint, constraints, constraintsOf, frameOf, sound, none};
 ghost use Rattle.frame.specs.Questions.{asked};
 ghost use Rattle.island.specs.Islands.{merge, join, edgesOf};
 ghost use Rattle.island.specs.Calls.{rootOf, islandRefusal, Built};
 ghost use Rattle.island.specs.Answers.{answerNumber, answerIslands};
-ghost use Rattle.island.specs.Steps.{bare, Falls, Joined, Sized, Ready, marked, Together, nextLabel, nextCount, Numbered, labelBy, Labelled, Laid, earlyQuestions};
+ghost use Rattle.island.specs.Steps.{bare, Falls, Fit, Tried, Sized, Ready, marked, Together, Stepped, Numbered, labelBy, Labelled, Laid, earlyQuestions};
 
 // The label of what has no island.
 const NONE: u16 = 65535;
+
+// The types of two dynamic bodies, 2 and 2, as the two bytes of one number.
+const BOTH_DYNAMIC: u16 = 514;
 
 // How many islands there are, or the number of the first question that got a "no".
 pub enum Answer {
@@ -76,17 +79,6 @@ fn union(parents: &mut [u16], left: u16, right: u16)
     }
 }
 
-// Every place none.
-fn fill_none(labels: &mut [u16])
-    ensures { λ _. ⌜ now (labels .exit) ≡ replicate (length (now (labels .entry))) none ⌝ }
-{
-    let mut i = 0;
-    while i < labels.len() {
-        labels[i] = NONE;
-        i += 1;
-    }
-}
-
 // Every body its own parent.
 fn fill_self(parents: &mut [u16])
     requires { ⌜ length (now parents) ≤ 4096 ⌝ }
@@ -99,13 +91,19 @@ fn fill_self(parents: &mut [u16])
     }
 }
 
-// Two bodies are joined if both are dynamic.
+fn wide(x: u8) -> u16
+    ensures { λ r. ⌜ (r ≡ x) × (r < 256) ⌝ }
+{
+    x as u16
+}
+
+// Two bodies are joined if both are dynamic. Their types are tested as one number: one branch to guess, not two.
 fn join_dynamic(body_types: &[u8], parents: &mut [u16], a: u16, b: u16)
     requires { ⌜ Falls (now parents) × (length (now parents) ≡ length (now «body_types»)) × (a < length (now «body_types»)) × (b < length (now «body_types»)) ⌝ }
     ensures { λ _. ⌜ Falls (now (parents .exit)) × (rootOf (now (parents .exit)) ≡ join (rootOf (now (parents .entry))) (edgesOf (bare (now («body_types» .entry))) (constraint true a b))) ⌝ }
 {
-    let both = (body_types[a as usize] == 2) & (body_types[b as usize] == 2);
-    if !both {
+    let types = wide(body_types[a as usize]) * 256 + wide(body_types[b as usize]);
+    if types != BOTH_DYNAMIC {
         return;
     }
     union(parents, a, b);
@@ -129,8 +127,8 @@ fn join_one(
     a: u16,
     b: u16,
 ) -> bool
-    requires { ⌜ Falls (now parents) × (length (now parents) ≡ length (now «body_types»)) × (length (now «body_islands») ≡ length (now «body_types»)) ⌝ }
-    ensures { λ r. ⌜ (r ≡ sound (length (now («body_types» .entry))) (constraint live a b)) × (r ≡ true → Joined (now («body_types» .entry)) (constraint live a b ∷ []) (now (parents .entry)) (now («body_islands» .entry)) (now (parents .exit)) (now («body_islands» .exit))) ⌝ }
+    requires { ⌜ Fit (now «body_types») (now parents) (now «body_islands») ⌝ }
+    ensures { λ r. ⌜ Tried (now («body_types» .entry)) (constraint live a b ∷ []) (now (parents .entry)) (now («body_islands» .entry)) (now (parents .exit)) (now («body_islands» .exit)) r ⌝ }
 {
     if !frame::sound_one(body_types.len(), live, a, b) {
         return false;
@@ -151,8 +149,9 @@ fn join_all(
     parents: &mut [u16],
     body_islands: &mut [u16],
 ) -> bool
-    requires { ⌜ Falls (now parents) × (length (now parents) ≡ length (now «body_types»)) × (length (now «body_islands») ≡ length (now «body_types»)) ⌝ }
-    ensures { λ r. ⌜ (r ≡ all (sound (length (now («body_types» .entry)))) (constraintsOf (now (pairs .entry)) (now (enabled .entry)))) × (r ≡ true → Joined (now («body_types» .entry)) (constraintsOf (now (pairs .entry)) (now (enabled .entry))) (now (parents .entry)) (now («body_islands» .entry)) (now (parents .exit)) (now («body_islands» .exit))) ⌝ }
+    requires { ⌜ Fit (now «body_types») (now parents) (now «body_islands») ⌝ }
+    ensures { λ r. ⌜ Tried (now («body_types» .entry)) (constraintsOf (now (pairs .entry)) (now (enabled .entry)))
+        (now (parents .entry)) (now («body_islands» .entry)) (now (parents .exit)) (now («body_islands» .exit)) r ⌝ }
 {
     let mut k: usize = 0;
     let mut i: usize = 0;
@@ -183,8 +182,9 @@ fn join_frame(
     parents: &mut [u16],
     body_islands: &mut [u16],
 ) -> bool
-    requires { ⌜ Falls (now parents) × (length (now parents) ≡ length (now «body_types»)) × (length (now «body_islands») ≡ length (now «body_types»)) ⌝ }
-    ensures { λ r. ⌜ (r ≡ allSound (frameOf (now («body_types» .entry)) (now (manifolds .entry)) (now (joints .entry)) (now (enabled .entry)))) × (r ≡ true → Joined (now («body_types» .entry)) (constraints (frameOf (now («body_types» .entry)) (now (manifolds .entry)) (now (joints .entry)) (now (enabled .entry)))) (now (parents .entry)) (now («body_islands» .entry)) (now (parents .exit)) (now («body_islands» .exit))) ⌝ }
+    requires { ⌜ Fit (now «body_types») (now parents) (now «body_islands») ⌝ }
+    ensures { λ r. ⌜ Tried (now («body_types» .entry)) (constraints (frameOf (now («body_types» .entry)) (now (manifolds .entry)) (now (joints .entry)) (now (enabled .entry))))
+        (now (parents .entry)) (now («body_islands» .entry)) (now (parents .exit)) (now («body_islands» .exit)) r ⌝ }
 {
     if !join_all(body_types, manifolds, &enabled[..0], parents, body_islands) {
         return false;
@@ -192,8 +192,26 @@ fn join_frame(
     join_all(body_types, joints, enabled, parents, body_islands)
 }
 
+fn pick(test: bool, yes: u16, no: u16) -> u16
+    ensures { λ r. ⌜ r ≡ cond test yes no ⌝ }
+{
+    if test {
+        return yes;
+    }
+    no
+}
+
+fn bit(test: bool) -> u16
+    ensures { λ r. ⌜ (r ≡ one test) × (r ≤ 1) ⌝ }
+{
+    if test {
+        return 1;
+    }
+    0
+}
+
 // A marked dynamic body gets the next number if it is its own parent, and its parent's number if not; any other body none.
-// Answers how many islands there are so far.
+// Answers how many islands there are so far. There is no branch to guess wrong.
 fn number_one(
     body_types: &[u8],
     parents: &[u16],
@@ -201,36 +219,30 @@ fn number_one(
     body: usize,
     count: u16,
 ) -> u16
-    requires { ⌜ Falls (now parents) × (length (now parents) ≡ length (now «body_types»)) × (length (now «body_islands») ≡ length (now «body_types»)) × (body < length (now «body_types»)) × (count ≤ 4096) ⌝ }
-    ensures { λ r. ⌜ (r ≡ nextCount (now («body_types» .entry)) (now (parents .entry)) (now («body_islands» .entry)) body count) × (now («body_islands» .exit) ≡ set (now («body_islands» .entry)) body (nextLabel (now («body_types» .entry)) (now (parents .entry)) (now («body_islands» .entry)) body count)) ⌝ }
+    requires { ⌜ Fit (now «body_types») (now parents) (now «body_islands») × (body < length (now «body_types»)) × (count ≤ 4096) ⌝ }
+    ensures { λ r. ⌜ Stepped (now («body_types» .entry)) (now (parents .entry)) (now («body_islands» .entry)) body count (now («body_islands» .exit)) r ⌝ }
 {
-    if body_islands[body] == NONE {
-        return count;
-    }
-    if body_types[body] != 2 {
-        body_islands[body] = NONE;
-        return count;
-    }
+    let marked = (body_types[body] == 2) & (body_islands[body] != NONE);
     let parent = parents[body] as usize;
-    if parent == body {
-        body_islands[body] = count;
-        return count + 1;
-    }
-    body_islands[body] = body_islands[parent];
-    count
+    let leads = parent == body;
+    let island = pick(leads, count, body_islands[parent]);
+    body_islands[body] = pick(marked, island, NONE);
+    count + bit(marked & leads)
 }
 
 // The marked dynamic bodies get their island's number, in rising order: a parent is lower, so it has its number already.
 // Answers how many islands there are.
 fn number(body_types: &[u8], parents: &[u16], body_islands: &mut [u16]) -> u16
-    requires { ⌜ Falls (now parents) × (length (now parents) ≡ length (now «body_types»)) × (length (now «body_islands») ≡ length (now «body_types»)) × (length (now «body_types») ≤ 4096) × Together (marked (now «body_types») (now «body_islands»)) (rootOf (now parents)) ⌝ }
-    ensures { λ r. ⌜ Numbered (marked (now («body_types» .entry)) (now («body_islands» .entry))) (rootOf (now (parents .entry))) (length (now («body_types» .entry))) r (now («body_islands» .exit)) ⌝ }
+    requires { ⌜ Fit (now «body_types») (now parents) (now «body_islands») × (length (now «body_types») ≤ 4096)
+        × Together (marked (now «body_types») (now «body_islands»)) (rootOf (now parents)) ⌝ }
+    ensures { λ r. ⌜ Numbered (marked (now («body_types» .entry)) (now («body_islands» .entry))) (rootOf (now (parents .entry)))
+        (length (now («body_types» .entry))) r (now («body_islands» .exit)) ⌝ }
 {
     let mut islands: u16 = 0;
-    let mut body = 0;
-    while body < body_islands.len() {
-        islands = number_one(body_types, parents, body_islands, body, islands);
-        body += 1;
+    let mut next = 0;
+    while next < body_islands.len() {
+        islands = number_one(body_types, parents, body_islands, next, islands);
+        next += 1;
     }
     islands
 }
@@ -254,7 +266,8 @@ fn label_one(body_islands: &[u16], live: bool, a: u16, b: u16) -> u16
 
 // The label of each constraint of a list.
 fn label_all(pairs: &[u16], enabled: &[u8], body_islands: &[u16], labels: &mut [u16])
-    requires { ⌜ (length (now labels) ≡ length (constraintsOf (now pairs) (now enabled))) × (all (sound (length (now «body_islands»))) (constraintsOf (now pairs) (now enabled)) ≡ true) ⌝ }
+    requires { ⌜ (length (now labels) ≡ length (constraintsOf (now pairs) (now enabled)))
+        × (all (sound (length (now «body_islands»))) (constraintsOf (now pairs) (now enabled)) ≡ true) ⌝ }
     ensures { λ _. ⌜ now (labels .exit) ≡ map (labelBy (now («body_islands» .entry))) (constraintsOf (now (pairs .entry)) (now (enabled .entry))) ⌝ }
 {
     let mut k: usize = 0;
@@ -273,7 +286,7 @@ fn reset(parents: &mut [u16], body_islands: &mut [u16])
     ensures { λ _. ⌜ (now (parents .exit) ≡ range (length (now (parents .entry)))) × (now («body_islands» .exit) ≡ replicate (length (now («body_islands» .entry))) none) ⌝ }
 {
     fill_self(parents);
-    fill_none(body_islands);
+    tables::fill(body_islands, NONE);
 }
 
 // The labels of a frame whose constraints are joined and marked. Answers how many islands there are.
@@ -287,8 +300,10 @@ fn label_frame(
     manifold_islands: &mut [u16],
     joint_islands: &mut [u16],
 ) -> u16
-    requires { ⌜ Ready (frameOf (now «body_types») (now manifolds) (now joints) (now enabled)) (now parents) (now «body_islands») (now «manifold_islands») (now «joint_islands») ⌝ }
-    ensures { λ r. ⌜ Labelled (frameOf (now («body_types» .entry)) (now (manifolds .entry)) (now (joints .entry)) (now (enabled .entry))) (now («body_islands» .exit)) (now («manifold_islands» .exit)) (now («joint_islands» .exit)) r ⌝ }
+    requires { ⌜ Ready (frameOf (now «body_types») (now manifolds) (now joints) (now enabled))
+        (now parents) (now «body_islands») (now «manifold_islands») (now «joint_islands») ⌝ }
+    ensures { λ r. ⌜ Labelled (frameOf (now («body_types» .entry)) (now (manifolds .entry)) (now (joints .entry)) (now (enabled .entry)))
+        (now («body_islands» .exit)) (now («manifold_islands» .exit)) (now («joint_islands» .exit)) r ⌝ }
 {
     let islands = number(body_types, parents, body_islands);
     label_all(manifolds, &enabled[..0], body_islands, manifold_islands);
@@ -307,8 +322,11 @@ fn lay(
     manifold_islands: &mut [u16],
     joint_islands: &mut [u16],
 ) -> Answer
-    requires { ⌜ Sized (frameOf (now «body_types») (now manifolds) (now joints) (now enabled)) (now parents) (now «body_islands») (now «manifold_islands») (now «joint_islands») ⌝ }
-    ensures { λ r. ⌜ Laid (frameOf (now («body_types» .entry)) (now (manifolds .entry)) (now (joints .entry)) (now (enabled .entry))) (now (parents .exit)) (now («body_islands» .exit)) (now («manifold_islands» .exit)) (now («joint_islands» .exit)) (answerNumber r) (answerIslands r) ⌝ }
+    requires { ⌜ Sized (frameOf (now «body_types») (now manifolds) (now joints) (now enabled))
+        (now parents) (now «body_islands») (now «manifold_islands») (now «joint_islands») ⌝ }
+    ensures { λ r. ⌜ Laid (frameOf (now («body_types» .entry)) (now (manifolds .entry)) (now (joints .entry)) (now (enabled .entry)))
+        (now (parents .exit)) (now («body_islands» .exit)) (now («manifold_islands» .exit)) (now («joint_islands» .exit))
+        (answerNumber r) (answerIslands r) ⌝ }
 {
     reset(parents, body_islands);
     if !join_frame(
@@ -320,8 +338,8 @@ fn lay(
         body_islands,
     ) {
         reset(parents, body_islands);
-        fill_none(manifold_islands);
-        fill_none(joint_islands);
+        tables::fill(manifold_islands, NONE);
+        tables::fill(joint_islands, NONE);
         return Answer::Refused(7);
     }
     Answer::Islands(label_frame(
@@ -354,12 +372,13 @@ fn early_refusal(
     manifold_islands: usize,
     joint_islands: usize,
 ) -> u8
-    ensures { λ r. ⌜ r ≡ asked (earlyQuestions (now («body_types» .entry)) (now (manifolds .entry)) (now (joints .entry)) (now (enabled .entry)) (record { parents = parents; bodies = «body_islands»; manifolds = «manifold_islands»; joints = «joint_islands» })) ⌝ }
+    ensures { λ r. ⌜ r ≡ asked (earlyQuestions (now («body_types» .entry)) (now (manifolds .entry)) (now (joints .entry)) (now (enabled .entry))
+        (record { parents = parents; bodies = «body_islands»; manifolds = «manifold_islands»; joints = «joint_islands» })) ⌝ }
 {
     let bodies = body_types.len();
-    let pairs = manifolds.len() / 2;
-    let joined = joints.len() / 2;
-    if !frame::few_each(bodies, pairs, joined) {
+    let manifold_count = manifolds.len() / 2;
+    let joint_count = joints.len() / 2;
+    if !frame::few_each(bodies, manifold_count, joint_count) {
         return 3;
     }
     if !lengths_agree(manifolds.len(), joints.len(), enabled.len()) {
@@ -371,8 +390,8 @@ fn early_refusal(
     }
     let room = (bodies <= parents)
         & (bodies <= body_islands)
-        & (pairs <= manifold_islands)
-        & (joined <= joint_islands);
+        & (manifold_count <= manifold_islands)
+        & (joint_count <= joint_islands);
     if !room {
         return 6;
     }
@@ -391,7 +410,8 @@ pub fn build_with_joints(
     joint_islands: &mut [u16],
 ) -> Answer
     ensures { λ r. ⌜ Built (frameOf (now («body_types» .entry)) (now (manifolds .entry)) (now (joints .entry)) (now (enabled .entry)))
-        (islandRefusal (now («body_types» .entry)) (now (manifolds .entry)) (now (joints .entry)) (now (enabled .entry)) (record { parents = length (now (parents .entry)); bodies = length (now («body_islands» .entry)); manifolds = length (now («manifold_islands» .entry)); joints = length (now («joint_islands» .entry)) }))
+        (islandRefusal (now («body_types» .entry)) (now (manifolds .entry)) (now (joints .entry)) (now (enabled .entry))
+        (record { parents = length (now (parents .entry)); bodies = length (now («body_islands» .entry)); manifolds = length (now («manifold_islands» .entry)); joints = length (now («joint_islands» .entry)) }))
         (now (parents .entry)) (now («body_islands» .entry)) (now («manifold_islands» .entry)) (now («joint_islands» .entry))
         (now (parents .exit)) (now («body_islands» .exit)) (now («manifold_islands» .exit)) (now («joint_islands» .exit))
         (answerNumber r) (answerIslands r) ⌝ }
@@ -431,7 +451,8 @@ pub fn build(
     manifold_islands: &mut [u16],
 ) -> Answer
     ensures { λ r. ⌜ Built (frameOf (now («body_types» .entry)) (now (manifolds .entry)) [] [])
-        (islandRefusal (now («body_types» .entry)) (now (manifolds .entry)) [] [] (record { parents = length (now (parents .entry)); bodies = length (now («body_islands» .entry)); manifolds = length (now («manifold_islands» .entry)); joints = 0 }))
+        (islandRefusal (now («body_types» .entry)) (now (manifolds .entry)) [] []
+        (record { parents = length (now (parents .entry)); bodies = length (now («body_islands» .entry)); manifolds = length (now («manifold_islands» .entry)); joints = 0 }))
         (now (parents .entry)) (now («body_islands» .entry)) (now («manifold_islands» .entry)) []
         (now (parents .exit)) (now («body_islands» .exit)) (now («manifold_islands» .exit)) []
         (answerNumber r) (answerIslands r) ⌝ }

@@ -1,8 +1,8 @@
 -- `island::build_with_joints` meets its contract: a "no" to one of the questions 3 to 6 writes nothing; after four "yes" the frame is laid on the first places of the tables.
 use borrow.Author.Needs.{needs}
-use Prim.Native.Nat.{ℕ, _/_}
-use mathlib.Core.Path.{_≡_, sym, _∙_}
-use lib.ListN.{length, take}
+use Prim.Native.Nat.{_/_}
+use mathlib.Core.Path.{sym, _∙_}
+use lib.ListN.{length}
 use lib.Seq.{length-take-le, length-front}
 use Rattle.island.proofs.Entry.{Room, room, sized, kept-built, laid-built}
 use Rattle.island.proofs.build_with_joints.Statement.{statement}

@@ -4,7 +4,7 @@ use native.Mathlib.Omega.{arith}
 use Prim.Native.Nat.{ℕ, _≤_, _<_}
 use mathlib.Core.Path.{_≡_, refl, sym, ap, _∙_}
 use mathlib.Core.List.{List}
-use lib.ListN.{length, getD, set, length-set}
+use lib.ListN.{length, getD, length-set}
 use Rattle.island.specs.Calls.{rootOf}
 use Rattle.island.specs.Steps.{Falls}
 use Rattle.island.proofs.Roots.{read-le, read-root, read-here, root-le, falls-set, shortened}

@@ -1,7 +1,7 @@
 -- `island::early_refusal` meets its contract: each return is the first "no" of the questions so far.
 use borrow.Author.Needs.{needs}
 use mathlib.Core.Path.{_≡_, sym, ap₂, _∙_}
-use mathlib.Core.Bool.{Bool, true, false, _&&_}
+use mathlib.Core.Bool.{true, _&&_}
 use borrow.Author.Tests.{not-true, not-false}
 use Rattle.island.specs.Calls.{Rooms}
 use Rattle.island.proofs.Refusals.{q3, q4, q5, no-3, no-4, no-5, no-6, no-none}

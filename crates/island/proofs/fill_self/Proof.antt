@@ -3,8 +3,8 @@ use borrow.Author.Needs.{needs}
 use native.Mathlib.Omega.{arith}
 use Prim.Native.Nat.{ℕ, _+_, _-_, _≤_, _<_}
 use mathlib.Core.Path.{_≡_, refl, sym, ap, _∙_}
-use mathlib.Core.List.{List, [], _++_}
-use lib.ListN.{length, take, set, replicate, length-set}
+use mathlib.Core.List.{List, _++_}
+use lib.ListN.{length, take, length-set}
 use Rattle.lists.specs.Basics.{rangeFrom, range}
 use Rattle.lists.proofs.Fills.{fill-turn, fill-end}
 use Rattle.island.proofs.Tables.{self-next}

@@ -1,8 +1,7 @@
 -- `island::join_all` meets its contract. At each turn the constraints before are joined and passed question 7; the first that does not pass decides the answer.
 use borrow.Author.Needs.{needs}
-use native.Mathlib.Omega.{arith}
 use Prim.Native.Nat.{_-_}
-use mathlib.Core.Path.{_≡_, refl, sym, _∙_}
+use mathlib.Core.Path.{refl, sym, _∙_}
 use mathlib.Core.Bool.{false}
 use lib.ListN.{length}
 use borrow.Author.Tests.{not-true, not-false}
@@ -21,7 +20,7 @@ loop-holds : tie.Need-loop-holds Inv-loop μ-loop
 loop-holds c =
     let s = c .before .before .before .before .before in
     let a = s .args in
-    joining-starts (a .body-types .now) (a .pairs .now) (a .enabled .now) (a .parents .now) (a .body-islands .now) (s .pre .0)
+    joining-starts (a .body-types .now) (a .pairs .now) (a .enabled .now) (a .parents .now) (a .body-islands .now) (s .pre .falls)
 
 add-loop : tie.Need-add-loop Inv-loop μ-loop
 add-loop c = search needs
@@ -48,7 +47,7 @@ join-one-requires : tie.Need-join-one-requires Inv-loop μ-loop
 join-one-requires c κs =
     let w = c .before .before .before .before .before .before .loop .inv in
     let s = c .before .before .before .before .before .before .before .before .before .before .before .before in
-    (w .joined .falls, w .long-p ∙ s .pre .1, w .long-l ∙ s .pre .2)
+    record { falls = w .joined .falls; long-parents = w .long-p ∙ s .pre .long-parents; long-bodies = w .long-l ∙ s .pre .long-bodies }
 
 same-length : tie.Need-same-length Inv-loop μ-loop
 same-length c = c .before .before .before .before .before .join-one .kept .1 .0 ∙ c .before .before .before .before .before .before .before .before .before .before .before .before .loop .inv .long-p
@@ -58,13 +57,14 @@ same-length-2 c = c .before .before .before .before .before .join-one .kept .1 .
 
 returns : tie.Need-returns Inv-loop μ-loop
 returns c =
-    let l = c .before .before .before .before .before .before .before .before .before .before .before .before .loop in
-    let a = c .before .before .before .before .before .before .before .before .before .before .before .before .before .before .before .before .before .before .args in
-    let v = c .before .before .before .before .before .before .before .before .before .before .live-at in (
-      sym (joining-stops (a .body-types .now) (a .pairs .now) (a .enabled .now) (a .parents .now) (a .body-islands .now) (l .parents) (l .body-islands) (l .k) (l .i) (l .inv) (v .result)
-          (c .before .before .before .before .before .before .before .before .before .before .before .loop-test .taken) (v .ensures) (sym (c .before .before .before .before .before .join-one .ensures .0) ∙ not-true _ (c .if1 .taken))),
-      λ e. clashes false e refl,
-    )
+    let d = c .before .before .before .before .before .before .before .before .before .before in
+    let l = d .before .before .loop in
+    let a = d .before .before .before .before .before .before .before .before .args in
+    record {
+      answer = sym (joining-stops (a .body-types .now) (a .pairs .now) (a .enabled .now) (a .parents .now) (a .body-islands .now) (l .parents) (l .body-islands) (l .k) (l .i) (l .inv) (d .live-at .result)
+          (d .before .loop-test .taken) (d .live-at .ensures) (sym (c .before .before .before .before .before .join-one .ensures .answer) ∙ not-true _ (c .if1 .taken)));
+      joined = λ e. clashes false e refl;
+    }
 
 add-k : tie.Need-add-k Inv-loop μ-loop
 add-k c = search needs
@@ -77,12 +77,13 @@ loop-less c = search needs
 
 loop-again : tie.Need-loop-again Inv-loop μ-loop
 loop-again c =
+    let d = c .before .before .before .before .before .before .before .before .before .before in
+    let l = d .before .before .loop in
+    let a = d .before .before .before .before .before .before .before .before .args in
     let j = c .before .before .before .before .before .join-one in
-    let l = c .before .before .before .before .before .before .before .before .before .before .before .before .loop in
-    let a = c .before .before .before .before .before .before .before .before .before .before .before .before .before .before .before .before .before .before .args in
-    let v = c .before .before .before .before .before .before .before .before .before .before .live-at in
-    joining-turns (a .body-types .now) (a .pairs .now) (a .enabled .now) (a .parents .now) (a .body-islands .now) (l .parents) (l .body-islands) (l .k) (l .i) (l .inv) (j .last .1 .0) (j .last .1 .1 .0) (v .result)
-    (c .before .before .before .before .before .before .before .before .before .before .before .loop-test .taken) (v .ensures) (sym (j .ensures .0) ∙ not-false _ (c .if1 .left)) (j .kept .1 .0) (j .kept .1 .1 .0) (j .ensures .1 (not-false _ (c .if1 .left)))
+    let ok = not-false _ (c .if1 .left) in
+    joining-turns (a .body-types .now) (a .pairs .now) (a .enabled .now) (a .parents .now) (a .body-islands .now) (l .parents) (l .body-islands) (l .k) (l .i) (l .inv) (j .last .1 .0) (j .last .1 .1 .0) (d .live-at .result)
+    (d .before .loop-test .taken) (d .live-at .ensures) (sym (j .ensures .answer) ∙ ok) (j .kept .1 .0) (j .kept .1 .1 .0) (j .ensures .joined ok)
 
 same-length-3 : tie.Need-same-length-3 Inv-loop μ-loop
 same-length-3 c = c .before .loop .inv .long-p
@@ -93,10 +94,11 @@ same-length-4 c = c .before .loop .inv .long-l
 returns-2 : tie.Need-returns-2 Inv-loop μ-loop
 returns-2 c =
     let l = c .before .loop in
-    let a = c .before .before .before .before .before .before .before .args in (
-      sym (joining-passes (a .body-types .now) (a .pairs .now) (a .enabled .now) (a .parents .now) (a .body-islands .now) (l .parents) (l .body-islands) (l .k) (l .i) (l .inv) (c .loop-test .left)),
-      λ e. joining-ends (a .body-types .now) (a .pairs .now) (a .enabled .now) (a .parents .now) (a .body-islands .now) (l .parents) (l .body-islands) (l .k) (l .i) (l .inv) (c .loop-test .left),
-    )
+    let a = c .before .before .before .before .before .before .before .args in
+    record {
+      answer = sym (joining-passes (a .body-types .now) (a .pairs .now) (a .enabled .now) (a .parents .now) (a .body-islands .now) (l .parents) (l .body-islands) (l .k) (l .i) (l .inv) (c .loop-test .left));
+      joined = λ e. joining-ends (a .body-types .now) (a .pairs .now) (a .enabled .now) (a .parents .now) (a .body-islands .now) (l .parents) (l .body-islands) (l .k) (l .i) (l .inv) (c .loop-test .left);
+    }
 
 pub join-all-spec : {M : Type 1} → statement M
 join-all-spec =

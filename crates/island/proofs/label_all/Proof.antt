@@ -2,7 +2,7 @@
 use borrow.Author.Needs.{needs}
 use native.Mathlib.Omega.{arith}
 use Prim.Native.Nat.{_-_, _<_}
-use mathlib.Core.Path.{refl, _∙_}
+use mathlib.Core.Path.{refl}
 use lib.ListN.{length, length-set}
 use Rattle.island.proofs.Labelling.{Labelling, labelling-sound, labelling-room, labelling-turns, labelling-ends}
 use Rattle.island.proofs.label_all.Statement.{statement}

@@ -3,13 +3,12 @@ use borrow.Author.Needs.{needs}
 use Prim.Native.Nat.{ℕ}
 use mathlib.Core.Path.{_≡_, refl, sym, ap, _∙_}
 use mathlib.Core.Bool.{Bool, true, false, cond}
-use mathlib.Core.List.{List}
 use lib.ListN.{length, replicate}
 use borrow.Author.Tests.{not-true, not-false}
 use Rattle.lists.specs.Basics.{range}
 use Rattle.lists.proofs.Laws.{clashes}
 use Rattle.frame.specs.Frames.{Frame, frameOf, allSound, none}
-use Rattle.island.specs.Steps.{Sized, Ready, Labelled, Blank, Laid}
+use Rattle.island.specs.Steps.{Ready}
 use Rattle.island.proofs.Whole.{fresh-falls, ready, parents-of}
 use Rattle.island.proofs.lay.Statement.{statement}
 use Rattle.island.proofs.lay.Tie as tie
@@ -17,14 +16,20 @@ use Rattle.island.proofs.lay.Tie as tie
 abbrev frame : tie.Start → Frame
 frame s = frameOf (s .args .body-types .now) (s .args .manifolds .now) (s .args .joints .now) (s .args .enabled .now)
 
--- once the constraints are joined
-joined : (c : tie.After-label-frame-arg4) → Ready (frame (c .before .before .before .before .before .before .before .before .before .before .before .before .before .before .before .before .before .before .before .before .before .before .before .before .before .before .before)) (c .before .before .before .before .before .before .before .before .before .join-frame .last .1 .1 .1 .1 .0) (c .before .before .before .before .before .before .before .before .before .join-frame .last .1 .1 .1 .1 .1 .0) (c .before .before .before .before .before .before .before .before .before .before .before .before .before .before .before .before .before .before .before .before .before .before .before .before .before .before .before .args .manifold-islands .now) (c .before .before .before .before .before .before .before .before .before .before .before .before .before .before .before .before .before .before .before .before .before .before .before .before .before .before .before .args .joint-islands .now)
+-- at the two branches: the start, the fresh tables, and the joining
+abbrev start : tie.Else1 → tie.Start
+start c = c .before .before .before .before .before .before .before .before .before .before .before .before .before .before .before .before .before .before .before .before .before .before .before
+
+passes : (c : tie.Else1) → allSound (frame (start c)) ≡ true
+unfolding allSound
+passes c = sym (c .before .before .before .before .before .join-frame .ensures .answer) ∙ not-false _ (c .if1 .left)
+
+joined : (c : tie.Else1) → Ready (frame (start c)) (c .before .before .before .before .before .join-frame .last .1 .1 .1 .1 .0) (c .before .before .before .before .before .join-frame .last .1 .1 .1 .1 .1 .0) (start c .args .manifold-islands .now) (start c .args .joint-islands .now)
 joined c =
-    let s = c .before .before .before .before .before .before .before .before .before .before .before .before .before .before .before .before .before .before .before .before .before .before .before .before .before .before .before in
+    let s = start c in
     let a = s .args in
-    let j = c .before .before .before .before .before .before .before .before .before .join-frame in
-    let r = c .before .before .before .before .before .before .before .before .before .before .before .before .before .before .before .before .reset in
-    let ok = not-false _ (c .before .before .before .before .if1 .left) in
+    let j = c .before .before .before .before .before .join-frame in
+    let r = c .before .before .before .before .before .before .before .before .before .before .before .before .reset in
     ready (frame s) (r .last .0) (r .last .1 .0) (j .last .1 .1 .1 .1 .0) (j .last .1 .1 .1 .1 .1 .0) (a .manifold-islands .now) (a .joint-islands .now) (length (a .parents .now)) (length (a .body-islands .now)) (r .ensures .0) (r .ensures .1)
     (record {
       few = s .pre .few;
@@ -33,7 +38,7 @@ joined c =
       long-manifolds = s .pre .long-manifolds;
       long-joints = s .pre .long-joints;
     })
-    (sym (j .ensures .0) ∙ ok) (j .ensures .1 ok)
+    (passes c) (j .ensures .joined (not-false _ (c .if1 .left)))
 
 reset-requires : tie.Need-reset-requires
 reset-requires c κs = search needs
@@ -41,21 +46,21 @@ reset-requires c κs = search needs
 join-frame-requires : tie.Need-join-frame-requires
 join-frame-requires c κs =
     let s = c .before .before .before .before .before .before .before .before .before .before .before .before .before .before .before .before .before in
-    let a = s .args in
-    let r = c .before .before .before .before .before .before .reset in (
-      fresh-falls (frame s) (r .last .0) (r .last .1 .0) (r .last .0) (r .last .1 .0) (a .manifold-islands .now) (a .joint-islands .now) (length (a .parents .now)) (length (a .body-islands .now)) (r .ensures .0) (r .ensures .1),
-      r .kept .0 ∙ s .pre .long-parents,
-      r .kept .1 .0 ∙ s .pre .long-bodies,
-    )
+    let r = c .before .before .before .before .before .before .reset in
+    record {
+      falls = fresh-falls (r .last .0) (length (s .args .parents .now)) (r .ensures .0);
+      long-parents = r .kept .0 ∙ s .pre .long-parents;
+      long-bodies = r .kept .1 .0 ∙ s .pre .long-bodies;
+    }
 
 reset-requires-2 : tie.Need-reset-requires-2
 reset-requires-2 c κs = search needs
 
-fill-none-requires : tie.Need-fill-none-requires
-fill-none-requires c κs = search needs
+fill-requires : tie.Need-fill-requires
+fill-requires c κs = search needs
 
-fill-none-requires-2 : tie.Need-fill-none-requires-2
-fill-none-requires-2 c κs = search needs
+fill-requires-2 : tie.Need-fill-requires-2
+fill-requires-2 c κs = search needs
 
 same-length : tie.Need-same-length
 same-length c = search needs
@@ -70,12 +75,14 @@ same-length-4 : tie.Need-same-length-4
 same-length-4 c = search needs
 
 returns : tie.Need-returns
+unfolding allSound
 returns c =
-    let s = c .before .before .before .before .before .before .before .before .before .before .before .before .before .before .before .before .before .before .before .before .before .before .before .before .before .before .before .before .before .before .before .before .before .before .before .before .before .before in
-    let j = c .before .before .before .before .before .before .before .before .before .before .before .before .before .before .before .before .before .before .before .before .join-frame in
-    let r = c .before .before .before .before .before .before .before .before .before .before .before .before .before .before .before .before .before .before .before .before .before .before .before .before .before .before .before .reset in
+    let d = c .before .before .before .before .before .before .before .before .before .before .before .before .before .before .before in
+    let s = d .before .before .before .before .before .before .before .before .before .before .before .before .before .before .before .before .before .before .before .before .before .before .before in
+    let j = d .before .before .before .before .before .join-frame in
+    let r = d .before .before .before .before .before .before .before .before .before .before .before .before .reset in
     let q = c .before .before .before .before .before .before .before .before .before .before .before .before .reset2 in
-    let bad : allSound (frame s) ≡ false = sym (j .ensures .0) ∙ not-true _ (c .before .before .before .before .before .before .before .before .before .before .before .before .before .before .before .if1 .taken) in
+    let bad : allSound (frame s) ≡ false = sym (j .ensures .answer) ∙ not-true _ (d .if1 .taken) in
     record {
       refusal = ap (λ (t : Bool). cond t 0 7) (sym bad);
       accepted = λ e. clashes (allSound (frame s)) e bad;
@@ -83,13 +90,13 @@ returns c =
         count = refl;
         alone = q .ensures .0 ∙ ap range (j .kept .1 .1 .1 .1 .0 ∙ r .kept .0 ∙ s .pre .long-parents);
         body-labels = q .ensures .1 ∙ ap (λ (n : ℕ). replicate n none) (j .kept .1 .1 .1 .1 .1 .0 ∙ r .kept .1 .0 ∙ s .pre .long-bodies);
-        manifold-labels = c .before .before .before .before .before .before .fill-none .ensures ∙ ap (λ (n : ℕ). replicate n none) (s .pre .long-manifolds);
-        joint-labels = c .before .before .fill-none2 .ensures ∙ ap (λ (n : ℕ). replicate n none) (s .pre .long-joints);
+        manifold-labels = c .before .before .before .before .before .before .fill .ensures ∙ ap (λ (n : ℕ). replicate n none) (s .pre .long-manifolds);
+        joint-labels = c .before .before .fill2 .ensures ∙ ap (λ (n : ℕ). replicate n none) (s .pre .long-joints);
       };
     }
 
 label-frame-requires : tie.Need-label-frame-requires
-label-frame-requires c κs = joined c
+label-frame-requires c κs = joined (c .before .before .before .before)
 
 same-length-5 : tie.Need-same-length-5
 same-length-5 c = search needs
@@ -105,15 +112,14 @@ same-length-8 c = search needs
 
 returns-2 : tie.Need-returns-2
 returns-2 c =
-    let d = c .before .before .before .before .before .before .before in
-    let s = d .before .before .before .before .before .before .before .before .before .before .before .before .before .before .before .before .before .before .before .before .before .before .before .before .before .before .before in
-    let a = s .args in
-    let j = d .before .before .before .before .before .before .before .before .before .join-frame in
+    let d = c .before .before .before .before .before .before .before .before .before .before .before in
+    let a = start d .args in
+    let j = d .before .before .before .before .before .join-frame in
     let w = joined d in
     record {
       refusal = ap (λ (t : Bool). cond t 0 7) (sym (w .passed));
-      accepted = λ e. (parents-of (frame s) (j .last .1 .1 .1 .1 .0) (j .last .1 .1 .1 .1 .1 .0) (a .manifold-islands .now) (a .joint-islands .now) w, c .before .before .before .before .before .before .label-frame .ensures);
-      refused = λ e. clashes (allSound (frame s)) (w .passed) e;
+      accepted = λ e. (parents-of (frame (start d)) (j .last .1 .1 .1 .1 .0) (j .last .1 .1 .1 .1 .1 .0) (a .manifold-islands .now) (a .joint-islands .now) w, c .before .before .before .before .before .before .label-frame .ensures);
+      refused = λ e. clashes (allSound (frame (start d))) (w .passed) e;
     }
 
 pub lay-spec : {M : Type 1} → statement M
@@ -123,8 +129,8 @@ lay-spec =
     reset-requires
     join-frame-requires
     reset-requires-2
-    fill-none-requires
-    fill-none-requires-2
+    fill-requires
+    fill-requires-2
     same-length
     same-length-2
     same-length-3

@@ -12,10 +12,10 @@ use Rattle.island.proofs.number.Statement.{statement}
 use Rattle.island.proofs.number.Tie as tie
 
 abbrev Inv-loop : tie.InvT-loop
-Inv-loop body-types parents body-islands₀ islands₀ body₀ body-islands islands body = Numbering body-types parents body-islands₀ body-islands islands body
+Inv-loop body-types parents body-islands₀ islands₀ next₀ body-islands islands next = Numbering body-types parents body-islands₀ body-islands islands next
 
 abbrev μ-loop : tie.MeasureT-loop
-μ-loop body-types parents body-islands₀ islands₀ body₀ body-islands islands body = length body-types - body
+μ-loop body-types parents body-islands₀ islands₀ next₀ body-islands islands next = length body-types - next
 
 loop-holds : tie.Need-loop-holds Inv-loop μ-loop
 loop-holds c =
@@ -27,15 +27,13 @@ number-one-requires c κs =
     let s = c .before .before .before .before .before .before in
     let a = s .args in
     let l = c .before .before .loop in (
-      s .pre .0,
-      s .pre .1,
-      l .inv .long ∙ s .pre .2,
+      record { falls = s .pre .0 .falls; long-parents = s .pre .0 .long-parents; long-bodies = l .inv .long ∙ s .pre .0 .long-bodies },
       omega (arith, l .inv .long),
-      omega (arith, l .inv .islands, l .inv .inside, count-le (leadsBy (marked (a .body-types .now) (a .body-islands .now)) (rootOf (a .parents .now))) (l .body)),
+      omega (arith, l .inv .islands, l .inv .inside, count-le (leadsBy (marked (a .body-types .now) (a .body-islands .now)) (rootOf (a .parents .now))) (l .next)),
     )
 
-add-body : tie.Need-add-body Inv-loop μ-loop
-add-body c = search needs
+add-next : tie.Need-add-next Inv-loop μ-loop
+add-next c = search needs
 
 loop-less : tie.Need-loop-less Inv-loop μ-loop
 loop-less c = omega (arith, c .before .before .before .before .before .loop .inv .long)
@@ -46,9 +44,9 @@ loop-again c =
     let a = s .args in
     let l = c .before .before .before .before .before .loop in
     let f = c .before .before .number-one in
-    let k : l .body < length (a .body-types .now) = omega (arith, l .inv .long) in
-    numbering-turns (a .body-types .now) (a .parents .now) (a .body-islands .now) (l .body-islands) (l .islands) (l .body) (l .inv) (s .pre .0) (s .pre .1) (s .pre .2) k (s .pre .4)
-    (f .last .1 .1 .0) (f .result) (f .ensures .1) (f .ensures .0) (f .kept .1 .1 .0)
+    let k : l .next < length (a .body-types .now) = omega (arith, l .inv .long) in
+    numbering-turns (a .body-types .now) (a .parents .now) (a .body-islands .now) (l .body-islands) (l .islands) (l .next) (l .inv) (s .pre .0) k (s .pre .2)
+    (f .last .1 .1 .0) (f .result) (f .ensures) (f .kept .1 .1 .0)
 
 same-length : tie.Need-same-length Inv-loop μ-loop
 same-length c = c .before .loop .inv .long
@@ -58,7 +56,7 @@ returns c =
     let s = c .before .before .before .before .before in
     let a = s .args in
     let l = c .before .loop in
-    numbering-ends (a .body-types .now) (a .parents .now) (a .body-islands .now) (l .body-islands) (l .islands) (l .body) (l .inv) (s .pre .2) (c .loop-test .left)
+    numbering-ends (a .body-types .now) (a .parents .now) (a .body-islands .now) (l .body-islands) (l .islands) (l .next) (l .inv) (s .pre .0 .long-bodies) (c .loop-test .left)
 
 pub number-spec : {M : Type 1} → statement M
 number-spec =
@@ -68,7 +66,7 @@ number-spec =
     μ-loop
     loop-holds
     number-one-requires
-    add-body
+    add-next
     loop-less
     loop-again
     same-length

@@ -1,7 +1,6 @@
 -- `island_limits::spokes` is safe: its index stays inside, and the bodies of 8,192 entries fit 16 bits.
 use borrow.Author.Needs.{needs}
-use native.Mathlib.Omega.{arith}
-use Prim.Native.Nat.{_-_, _*_, _≤_}
+use Prim.Native.Nat.{_-_, _≤_}
 use mathlib.Core.Path.{_≡_}
 use lib.ListN.{length}
 use Rattle.island_limits.proofs.spokes.Statement.{statement}

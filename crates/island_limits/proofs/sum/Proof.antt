@@ -1,8 +1,6 @@
 -- `island_limits::sum` is safe: its index stays inside, and the sum of 8,192 labels fits.
 use borrow.Author.Needs.{needs}
-use native.Mathlib.Omega.{arith}
 use Prim.Native.Nat.{_-_, _*_, _≤_}
-use mathlib.Core.Path.{_≡_}
 use lib.ListN.{length}
 use Rattle.island_limits.proofs.sum.Statement.{statement}
 use Rattle.island_limits.proofs.sum.Tie as tie
