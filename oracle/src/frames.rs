@@ -135,6 +135,16 @@ pub fn random_frame(random: &mut Random, most_bodies: usize, most_constraints: u
     frame
 }
 
+/// A random frame with fewer bodies than the given number, and with at most so many manifolds and as many joints.
+pub fn small_frame(random: &mut Random, bodies: usize, most: usize) -> Frame {
+    loop {
+        let frame = random_frame(random, bodies - 1, most);
+        if frame.types.len() < bodies && frame.joint_count() <= most && frame.pairs().iter().all(|p| *p < 256) {
+            return frame;
+        }
+    }
+}
+
 /// One bad constraint: an endpoint past the bodies, or two equal ones.
 fn spoil(random: &mut Random, frame: &mut Frame) {
     let n = frame.constraint_count();

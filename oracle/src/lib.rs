@@ -12,5 +12,6 @@ pub mod joint;
 pub mod kapitsa;
 #[cfg(feature = "ours")]
 pub mod ours;
+pub mod record;
 pub mod rigid_body;
 pub mod scope;
