@@ -214,11 +214,11 @@ whole-from flag done colors (bs ∷ rest) h =
     let c = free used in
     whole-from flag (done ++ bs ∷ []) (colors ++ c ∷ []) rest
     (λ k l. by-cases (ltb k (maxOf suc colors))
-      (λ e. mem-snoc k c colors (h k (ltb-true k (maxOf suc colors) e)))
-      (λ e. by-cases (eqb k c)
-        (λ q. ap (λ (n : ℕ). mem n (colors ++ c ∷ [])) (eqb-true k c q) ∙ mem-last c colors)
-        (λ q. let le = max-snoc-le colors c k l (ltb-false k (maxOf suc colors) e) in
-          mem-snoc k c colors (used-in flag done colors bs k (free-least used k (omega (arith, eqb-false k c q)))))))
+    (λ e. mem-snoc k c colors (h k (ltb-true k (maxOf suc colors) e)))
+    (λ e. by-cases (eqb k c)
+    (λ q. ap (λ (n : ℕ). mem n (colors ++ c ∷ [])) (eqb-true k c q) ∙ mem-last c colors)
+    (λ q. let le = max-snoc-le colors c k l (ltb-false k (maxOf suc colors) e) in
+    mem-snoc k c colors (used-in flag done colors bs k (free-least used k (omega (arith, eqb-false k c q)))))))
 
 pub group-not-empty : (flag : List ℕ) (cs : List (List ℕ)) (k : ℕ) → k < groupCount (colorsOf flag cs) → mem k (colorsOf flag cs) ≡ true
 unfolding groupCount colorsOf Whole

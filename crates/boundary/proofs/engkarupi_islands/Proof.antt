@@ -1,0 +1,44 @@
+-- The tables are as the call leaves them; its answer is taken apart into the refusal and the count.
+use borrow.Author.Needs.{needs}
+use Rattle.boundary.proofs.Numbers.{built-by}
+use Rattle.boundary.proofs.engkarupi_islands.Statement.{statement}
+use Rattle.boundary.proofs.engkarupi_islands.Tie as tie
+
+build-with-joints-requires : tie.Need-build-with-joints-requires
+build-with-joints-requires c κs = search needs
+
+islands-in-requires : tie.Need-islands-in-requires
+islands-in-requires c κs = search needs
+
+island-refusal-requires : tie.Need-island-refusal-requires
+island-refusal-requires c κs = search needs
+
+same-length : tie.Need-same-length
+same-length c = search needs
+
+same-length-2 : tie.Need-same-length-2
+same-length-2 c = search needs
+
+same-length-3 : tie.Need-same-length-3
+same-length-3 c = search needs
+
+same-length-4 : tie.Need-same-length-4
+same-length-4 c = search needs
+
+returns : tie.Need-returns
+returns c =
+    let built = c .before .before .before .before .before .before .before .before .before .before .build-with-joints .ensures in
+    built-by built (c .island-refusal .ensures) (c .before .islands-in .ensures)
+
+pub engkarupi-islands-spec : {M : Type 1} → statement M
+engkarupi-islands-spec =
+    tie.close
+    (tie.spec
+    build-with-joints-requires
+    islands-in-requires
+    island-refusal-requires
+    same-length
+    same-length-2
+    same-length-3
+    same-length-4
+    returns)

@@ -1,0 +1,66 @@
+-- What the exported calls answer: each cites the contract of the call it wraps, and gives that call's answer as numbers.
+use Prim.Native.Nat.{ℕ}
+use mathlib.Core.Path.{_≡_}
+use mathlib.Core.Bool.{cond}
+use mathlib.Core.List.{List, [], _∷_}
+use lib.Dec.{eqb}
+use lib.ListN.{length, getD, take, drop}
+use Rattle.lists.specs.Basics.{one}
+use Rattle.constraint_coloring.specs.declared.ConstraintColoring.{ConstraintColoring}
+use Rattle.constraint_coloring.specs.declared.Update.{Update}
+use Rattle.constraint_coloring.specs.declared.Positions.{Positions}
+use Rattle.constraint_coloring.specs.declared.Positions.the-variants as positions
+use Rattle.constraint_coloring.specs.Plans.{Tables, groupPart}
+use Rattle.constraint_coloring.specs.Calls.{updateNumber, updateChanged, planAfter, Updated, positionsNumber, Located}
+use Rattle.colored_bodies.specs.declared.BodyBinding.{BodyBinding}
+use Rattle.colored_bodies.specs.declared.Take.{Take}
+use Rattle.colored_bodies.specs.declared.Take.the-variants as take
+use Rattle.colored_bodies.specs.Answers.{takeNumber, Takes}
+
+-- ---- updates and lookups
+
+-- a plan as four numbers: bodies, constraints, groups, and the constraints of the largest group
+abbrev pub planFrom : List ℕ → ConstraintColoring
+planFrom p = record { «body_count» = getD p 0 0; «constraint_count» = getD p 1 0; «color_count» = getD p 2 0; «max_color_constraint_count» = getD p 3 0 }
+
+abbrev pub planNumbers : ConstraintColoring → List ℕ
+planNumbers p = p .«body_count» ∷ p .«constraint_count» ∷ p .«color_count» ∷ p .«max_color_constraint_count» ∷ []
+
+-- an update of a plan with the tables t, which are left as u
+pub record Updates (plan flags pairs : List ℕ) (t u : Tables) (number changed : ℕ) (left : List ℕ) : Type 0 where
+  pub answer : Update
+  pub updated : Updated (planFrom plan) flags pairs t u answer
+  pub refusal : number ≡ updateNumber answer
+  pub change : changed ≡ one (updateChanged answer)
+  pub plan-after : left ≡ planNumbers (planAfter (planFrom plan) answer)
+
+-- the part of group k of n groups: where it starts in the table, and its size; an empty part starts at 0
+pub record Found (n : ℕ) (offsets table : List ℕ) (k start size : ℕ) : Type 0 where
+  pub part : take size (drop start table) ≡ groupPart n offsets table k
+  pub as-long : size ≡ length (groupPart n offsets table k)
+  pub from-offset : start ≡ cond (eqb size 0) 0 (getD offsets k 0)
+
+-- the positions of a constraint; both 0 where they are refused
+abbrev pub positionNumbers : Positions → List ℕ
+positionNumbers (positions.At a b) = a ∷ b ∷ []
+positionNumbers (positions.Refused n) = 0 ∷ 0 ∷ []
+
+pub record Locates (n : ℕ) (table : List ℕ) (r number : ℕ) (places : List ℕ) : Type 0 where
+  pub answer : Positions
+  pub located : Located n table r answer
+  pub refusal : number ≡ positionsNumber answer
+  pub numbers : places ≡ positionNumbers answer
+
+-- ---- bindings
+
+-- the bodies that a take hands: a body and 1 for "dynamic" or 0 for "read-only", twice; all 0 where it is refused
+abbrev pub handedNumbers : Take → List ℕ
+handedNumbers (take.Taken x p y q) = x ∷ one p ∷ y ∷ one q ∷ []
+handedNumbers (take.Refused n) = 0 ∷ 0 ∷ 0 ∷ 0 ∷ []
+
+-- a take of the positions ps from the binding b, which is left so
+pub record Took (b : BodyBinding) (ps : List ℕ) (left : BodyBinding) (number : ℕ) (handed : List ℕ) : Type 0 where
+  pub answer : Take
+  pub takes : Takes b ps answer left
+  pub refusal : number ≡ takeNumber answer
+  pub numbers : handed ≡ handedNumbers answer

@@ -1,0 +1,304 @@
+// The calls for C and Rust: numbers and slices only. include/engkarupi.h says what each is lent and refuses.
+use colored_bodies::BodyBinding;
+use colored_bodies::Marked;
+use constraint_coloring::ConstraintColoring;
+use constraint_coloring::Positions;
+use constraint_coloring::Update;
+use island::Answer;
+ghost use mathlib.Core.Path.{_≡_};
+ghost use mathlib.Core.List.{[], _∷_};
+ghost use mathlib.Core.Bool.{cond};
+ghost use lib.Dec.{eqb};
+ghost use lib.ListN.{length, getD};
+ghost use Rattle.lists.specs.Basics.{one};
+ghost use Rattle.frame.specs.Frames.{frameOf};
+ghost use Rattle.island.specs.Calls.{islandRefusal, Built};
+ghost use Rattle.island.specs.Answers.{answerNumber, answerIslands};
+ghost use Rattle.colored_bodies.specs.Answers.{takeNumber, withBodies, Placed, Binds};
+ghost use Rattle.constraint_coloring.specs.Calls.{updateNumber, updateChanged, planAfter, positionsNumber};
+ghost use Rattle.boundary.specs.Exports.{planFrom, planNumbers, Updates, Found, positionNumbers, Locates, handedNumbers, Took};
+
+fn island_refusal(answer: Answer) -> u8
+    ensures { λ r. ⌜ r ≡ answerNumber answer ⌝ }
+{
+    match answer {
+        Answer::Islands(_) => 0,
+        Answer::Refused(n) => n,
+    }
+}
+
+fn islands_in(answer: Answer) -> u16
+    ensures { λ r. ⌜ r ≡ answerIslands answer ⌝ }
+{
+    match answer {
+        Answer::Islands(count) => count,
+        Answer::Refused(_) => 0,
+    }
+}
+
+// The islands of a frame, and how many; answers the refusal or 0.
+#[no_mangle]
+pub extern "C" fn engkarupi_islands(
+    types: &[u8],
+    manifolds: &[u16],
+    joints: &[u16],
+    enabled: &[u8],
+    parents: &mut [u16],
+    body_islands: &mut [u16],
+    manifold_islands: &mut [u16],
+    joint_islands: &mut [u16],
+    island_count: &mut u16,
+) -> u8
+    ensures { λ r. ⌜ Built (frameOf (now (types .entry)) (now (manifolds .entry)) (now (joints .entry)) (now (enabled .entry)))
+        (islandRefusal (now (types .entry)) (now (manifolds .entry)) (now (joints .entry)) (now (enabled .entry)) (record { parents = length (now (parents .entry)); bodies = length (now («body_islands» .entry)); manifolds = length (now («manifold_islands» .entry)); joints = length (now («joint_islands» .entry)) }))
+        (now (parents .entry)) (now («body_islands» .entry)) (now («manifold_islands» .entry)) (now («joint_islands» .entry))
+        (now (parents .exit)) (now («body_islands» .exit)) (now («manifold_islands» .exit)) (now («joint_islands» .exit))
+        r (now («island_count» .exit)) ⌝ }
+{
+    let answer = island::build_with_joints(
+        types,
+        manifolds,
+        joints,
+        enabled,
+        parents,
+        body_islands,
+        manifold_islands,
+        joint_islands,
+    );
+    *island_count = islands_in(answer);
+    island_refusal(answer)
+}
+
+fn update_refusal(answer: Update) -> u8
+    ensures { λ r. ⌜ r ≡ updateNumber answer ⌝ }
+{
+    match answer {
+        Update::Changed(_) => 0,
+        Update::Unchanged => 0,
+        Update::Refused(n) => n,
+    }
+}
+
+fn is_changed(answer: Update) -> u8
+    ensures { λ r. ⌜ r ≡ one (updateChanged answer) ⌝ }
+{
+    match answer {
+        Update::Changed(_) => 1,
+        Update::Unchanged => 0,
+        Update::Refused(_) => 0,
+    }
+}
+
+fn plan_after(plan: ConstraintColoring, answer: Update) -> ConstraintColoring
+    ensures { λ r. ⌜ r ≡ planAfter plan answer ⌝ }
+{
+    match answer {
+        Update::Changed(changed) => changed,
+        Update::Unchanged => plan,
+        Update::Refused(_) => plan,
+    }
+}
+
+fn plan_from(plan: &[usize; 4]) -> ConstraintColoring
+    ensures { λ r. ⌜ r ≡ planFrom (now (plan .entry)) ⌝ }
+{
+    ConstraintColoring {
+        body_count: plan[0],
+        constraint_count: plan[1],
+        color_count: plan[2],
+        max_color_constraint_count: plan[3],
+    }
+}
+
+// An update of a plan, and 1 if it changed; answers the refusal or 0.
+#[no_mangle]
+pub extern "C" fn engkarupi_update(
+    plan: &mut [usize; 4],
+    flags: &[u8],
+    pairs: &[u16],
+    dynamic_bodies: &mut [u8],
+    endpoints: &mut [u16],
+    body_offsets: &mut [u16],
+    body_constraints: &mut [u16],
+    scratch_offsets: &mut [u16],
+    constraint_colors: &mut [u16],
+    color_stamps: &mut [u16],
+    body_stamps: &mut [u16],
+    color_offsets: &mut [u16],
+    colored_constraints: &mut [u16],
+    color_body_offsets: &mut [u16],
+    color_bodies: &mut [u16],
+    constraint_body_positions: &mut [u16],
+    changed: &mut u8,
+) -> u8
+    ensures { λ r. ⌜ Updates (now (plan .entry)) (now (flags .entry)) (now (pairs .entry)) (record { dynamic-bodies = now («dynamic_bodies» .entry); endpoints = now (endpoints .entry); body-offsets = now («body_offsets» .entry); body-constraints = now («body_constraints» .entry); scratch-offsets = now («scratch_offsets» .entry); constraint-colors = now («constraint_colors» .entry); color-stamps = now («color_stamps» .entry); body-stamps = now («body_stamps» .entry); color-offsets = now («color_offsets» .entry); colored-constraints = now («colored_constraints» .entry); color-body-offsets = now («color_body_offsets» .entry); color-bodies = now («color_bodies» .entry); constraint-body-positions = now («constraint_body_positions» .entry) }) (record { dynamic-bodies = now («dynamic_bodies» .exit); endpoints = now (endpoints .exit); body-offsets = now («body_offsets» .exit); body-constraints = now («body_constraints» .exit); scratch-offsets = now («scratch_offsets» .exit); constraint-colors = now («constraint_colors» .exit); color-stamps = now («color_stamps» .exit); body-stamps = now («body_stamps» .exit); color-offsets = now («color_offsets» .exit); colored-constraints = now («colored_constraints» .exit); color-body-offsets = now («color_body_offsets» .exit); color-bodies = now («color_bodies» .exit); constraint-body-positions = now («constraint_body_positions» .exit) }) r (now (changed .exit)) (now (plan .exit)) ⌝ }
+{
+    let before = plan_from(plan);
+    let answer = before.update(
+        flags,
+        pairs,
+        dynamic_bodies,
+        endpoints,
+        body_offsets,
+        body_constraints,
+        scratch_offsets,
+        constraint_colors,
+        color_stamps,
+        body_stamps,
+        color_offsets,
+        colored_constraints,
+        color_body_offsets,
+        color_bodies,
+        constraint_body_positions,
+    );
+    let after = plan_after(before, answer);
+    *plan = [
+        after.body_count,
+        after.constraint_count,
+        after.color_count,
+        after.max_color_constraint_count,
+    ];
+    *changed = is_changed(answer);
+    update_refusal(answer)
+}
+
+// Where the part of a group starts, if it is not empty.
+fn part_start(offsets: &[u16], group: usize, size: usize) -> usize
+    ensures { λ r. ⌜ r ≡ cond (eqb size 0) 0 (getD (now (offsets .entry)) group 0) ⌝ }
+{
+    if size == 0 {
+        return 0;
+    }
+    if offsets.len() <= group {
+        return 0;
+    }
+    offsets[group] as usize
+}
+
+// The members of a group: where they start in their table; answers how many.
+#[no_mangle]
+pub extern "C" fn engkarupi_members(
+    plan: &[usize; 4],
+    color_offsets: &[u16],
+    colored_constraints: &[u16],
+    group: usize,
+    start: &mut usize,
+) -> usize
+    ensures { λ r. ⌜ Found (getD (now (plan .entry)) 2 0) (now («color_offsets» .entry)) (now («colored_constraints» .entry)) group (now (start .exit)) r ⌝ }
+{
+    let planned = plan_from(plan);
+    let part = planned.constraints_in_schedule_group(color_offsets, colored_constraints, group);
+    let size = part.len();
+    *start = part_start(color_offsets, group, size);
+    size
+}
+
+// The bodies of a group: where they start in their table; answers how many.
+#[no_mangle]
+pub extern "C" fn engkarupi_bodies(
+    plan: &[usize; 4],
+    color_body_offsets: &[u16],
+    color_bodies: &[u16],
+    group: usize,
+    start: &mut usize,
+) -> usize
+    ensures { λ r. ⌜ Found (getD (now (plan .entry)) 2 0) (now («color_body_offsets» .entry)) (now («color_bodies» .entry)) group (now (start .exit)) r ⌝ }
+{
+    let planned = plan_from(plan);
+    let part = planned.bodies_in_schedule_group(color_body_offsets, color_bodies, group);
+    let size = part.len();
+    *start = part_start(color_body_offsets, group, size);
+    size
+}
+
+fn locate(answer: Positions, places: &mut [u16; 2]) -> u8
+    ensures { λ r. ⌜ (r ≡ positionsNumber answer) × (now (places .exit) ≡ positionNumbers answer) ⌝ }
+{
+    match answer {
+        Positions::At(a, b) => {
+            *places = [a, b];
+            0
+        }
+        Positions::Refused(n) => {
+            *places = [0, 0];
+            n
+        }
+    }
+}
+
+// The positions of a constraint among its group's bodies; answers the refusal or 0.
+#[no_mangle]
+pub extern "C" fn engkarupi_positions(
+    plan: &[usize; 4],
+    constraint_body_positions: &[u16],
+    constraint: usize,
+    places: &mut [u16; 2],
+) -> u8
+    ensures { λ r. ⌜ Locates (getD (now (plan .entry)) 1 0) (now («constraint_body_positions» .entry)) constraint r (now (places .exit)) ⌝ }
+{
+    let planned = plan_from(plan);
+    let answer = planned.body_positions_for_constraint(constraint_body_positions, constraint);
+    locate(answer, places)
+}
+
+// A bind: the binding's bodies, marks and count; answers the refusal or 0.
+#[no_mangle]
+pub extern "C" fn engkarupi_bind(
+    types: &[u8],
+    indices: &[u16],
+    bodies: &mut [u16; 4096],
+    marks: &mut [u8; 4096],
+    count: &mut usize,
+) -> u8
+    ensures { λ r. ⌜ Binds (now (types .entry)) (now (indices .entry)) (record { refusal = r; binding = record { bodies = now (bodies .exit); marks = now (marks .exit); count = now (count .exit) } }) ⌝ }
+{
+    let bound = BodyBinding::bind(types, indices);
+    let binding = bound.binding;
+    let bound_bodies = binding.bodies;
+    let bound_marks = binding.marks;
+    *bodies = bound_bodies;
+    *marks = bound_marks;
+    *count = binding.count;
+    bound.refusal
+}
+
+// The answer of a take of marks as numbers, with the bodies' numbers.
+fn hand(bodies: &[u16; 4096], a: usize, b: usize, marked: Marked, handed: &mut [u16; 4]) -> u8
+    requires { ⌜ Placed a b marked ⌝ }
+    ensures { λ r. ⌜ (r ≡ takeNumber (withBodies (now (bodies .entry)) a b marked)) × (now (handed .exit) ≡ handedNumbers (withBodies (now (bodies .entry)) a b marked)) ⌝ }
+{
+    match marked {
+        Marked::Taken {
+            first_dynamic,
+            second_dynamic,
+        } => {
+            *handed = [
+                bodies[a],
+                first_dynamic as u16,
+                bodies[b],
+                second_dynamic as u16,
+            ];
+            0
+        }
+        Marked::Refused(n) => {
+            *handed = [0, 0, 0, 0];
+            n
+        }
+    }
+}
+
+// A take from a binding: two bodies in the order asked, each with 1 for "dynamic"; answers the refusal or 0.
+#[no_mangle]
+pub extern "C" fn engkarupi_take(
+    bodies: &[u16; 4096],
+    marks: &mut [u8; 4096],
+    count: usize,
+    a: usize,
+    b: usize,
+    handed: &mut [u16; 4],
+) -> u8
+    ensures { λ r. ⌜ Took (record { bodies = now (bodies .entry); marks = now (marks .entry); count = count }) (a ∷ b ∷ []) (record { bodies = now (bodies .entry); marks = now (marks .exit); count = count }) r (now (handed .exit)) ⌝ }
+{
+    let marked = colored_bodies::take_marks(marks, count, a, b);
+    hand(bodies, a, b, marked, handed)
+}

@@ -1,0 +1,154 @@
+/* Engkarupi: islands, conflict-free groups and bindings of a frame of bodies and constraints, proved.
+ *
+ * Link libboundary.a (`rt staticlib boundary`). No call allocates, keeps a pointer or has state of its own: all memory is
+ * lent by the caller for the length of the call. No two tables of one call may overlap, and none may overlap what is read.
+ * A length is in elements. A table may be longer than asked for; the length asked for is in its comment.
+ *
+ * B bodies, M manifolds (touching pairs), J joints; C is a number of constraints. Body types: 0 static, 1 kinematic,
+ * 2 dynamic. A pair list holds a, b, a, b, ..; a disabled joint (enabled byte 0) may carry any endpoints.
+ *
+ * A call that can be refused answers 0 or the number of the first question that got a "no":
+ *    1  the file's first byte is not 1
+ *    2  fewer than 11 bytes, or the length field is not the number of bytes after it
+ *    3  more than 4,096 bodies, manifolds or joints (a coloring: 4,096 bodies, 8,192 pairs)
+ *    4  lengths that do not agree: an odd pair list, not one enabled byte a joint, a file's length field
+ *    5  a type above 2, or an enabled byte or flag above 1
+ *    6  a lent table is too short
+ *    7  a live constraint without two different endpoints below B
+ *    8  a body list that does not rise strictly below B
+ *    9  two positions that are equal, or not below the binding's count and 4,096
+ *   10  the body at the lower position is gone
+ *   11  the body at the higher position is gone; a dynamic body at the lower one is now taken
+ *   12  there is no such constraint
+ * Refusals 1 to 6, 8 to 10 and 12 change no lent table; a refused bind still writes its empty binding.
+ */
+#ifndef ENGKARUPI_H
+#define ENGKARUPI_H
+
+#include <stddef.h>
+#include <stdint.h>
+
+#ifdef __cplusplus
+extern "C" {
+#endif
+
+#define ENGKARUPI_NONE 65535        /* the label of what has no island */
+#define ENGKARUPI_MAX_BODIES 4096
+#define ENGKARUPI_MAX_MANIFOLDS 4096
+#define ENGKARUPI_MAX_JOINTS 4096
+#define ENGKARUPI_MAX_PAIRS 8192
+#define ENGKARUPI_MAX_FILE 40971    /* bytes of the longest frame */
+
+/* ---- islands: which bodies are connected by live constraints between dynamic bodies
+ *
+ * Answers 0, 3, 4, 5, 6 or 7. After 0 a label is an island's number or ENGKARUPI_NONE, and *island_count is how many
+ * islands there are; following the parents from a body ends at the lowest body of its set, and no link rises. After 7 all
+ * labels are ENGKARUPI_NONE and each parent is itself. After any refusal *island_count is 0.
+ */
+uint8_t engkarupi_islands(
+    const uint8_t *types, size_t types_len,                     /* B */
+    const uint16_t *manifolds, size_t manifolds_len,            /* 2 * M */
+    const uint16_t *joints, size_t joints_len,                  /* 2 * J */
+    const uint8_t *enabled, size_t enabled_len,                 /* J, each 0 or 1 */
+    uint16_t *parents, size_t parents_len,                      /* B */
+    uint16_t *body_islands, size_t body_islands_len,            /* B */
+    uint16_t *manifold_islands, size_t manifold_islands_len,    /* M */
+    uint16_t *joint_islands, size_t joint_islands_len,          /* J */
+    uint16_t *island_count);
+
+/* ---- groups: a plan of conflict-free groups of constraints
+ *
+ * A plan is these four numbers and the tables that its updates are lent. A fresh plan is all 0 and remembers two empty
+ * lists; what stands in its tables does not matter.
+ */
+enum {
+    ENGKARUPI_PLAN_BODIES,
+    ENGKARUPI_PLAN_CONSTRAINTS,
+    ENGKARUPI_PLAN_GROUPS,
+    ENGKARUPI_PLAN_LARGEST,         /* members of the largest group */
+    ENGKARUPI_PLAN_NUMBERS
+};
+
+/* Answers 0, 3, 4, 5, 6 or 7. After 0, *changed is 1 if the input differs from what the plan remembers: then the plan and
+ * its tables are built anew. Otherwise *changed is 0 and nothing else is written. The tables marked free hold nothing
+ * afterwards. Between the updates of one plan nobody else may write its other tables.
+ *
+ * Group k has its members in colored_constraints from color_offsets[k] to color_offsets[k + 1], rising, and its bodies in
+ * color_bodies from color_body_offsets[k] to color_body_offsets[k + 1], rising. Constraint i has the places of its two
+ * endpoints among its group's bodies in constraint_body_positions[2 * i] and [2 * i + 1].
+ */
+uint8_t engkarupi_update(
+    size_t plan[ENGKARUPI_PLAN_NUMBERS],
+    const uint8_t *flags, size_t flags_len,                     /* B: 1 for a dynamic body, else 0 */
+    const uint16_t *pairs, size_t pairs_len,                    /* 2 * C */
+    uint8_t *dynamic_bodies, size_t dynamic_bodies_len,         /* B */
+    uint16_t *endpoints, size_t endpoints_len,                  /* 2 * C */
+    uint16_t *body_offsets, size_t body_offsets_len,            /* B + 1, free */
+    uint16_t *body_constraints, size_t body_constraints_len,    /* 2 * C, free */
+    uint16_t *scratch_offsets, size_t scratch_offsets_len,      /* the larger of B and C, free */
+    uint16_t *constraint_colors, size_t constraint_colors_len,  /* C */
+    uint16_t *color_stamps, size_t color_stamps_len,            /* C, free */
+    uint16_t *body_stamps, size_t body_stamps_len,              /* B, free */
+    uint16_t *color_offsets, size_t color_offsets_len,          /* C + 1 */
+    uint16_t *colored_constraints, size_t colored_constraints_len,              /* C */
+    uint16_t *color_body_offsets, size_t color_body_offsets_len,                /* C + 1 */
+    uint16_t *color_bodies, size_t color_bodies_len,                            /* 2 * C */
+    uint16_t *constraint_body_positions, size_t constraint_body_positions_len,  /* 2 * C */
+    uint8_t *changed);
+
+/* The members, and the bodies, of a group: answers how many, and *start is where they start in their table. Answers 0, with
+ * *start 0, if there is no such group or its offsets do not lie in order inside the table.
+ */
+size_t engkarupi_members(
+    const size_t plan[ENGKARUPI_PLAN_NUMBERS],
+    const uint16_t *color_offsets, size_t color_offsets_len,
+    const uint16_t *colored_constraints, size_t colored_constraints_len,
+    size_t group,
+    size_t *start);
+
+size_t engkarupi_bodies(
+    const size_t plan[ENGKARUPI_PLAN_NUMBERS],
+    const uint16_t *color_body_offsets, size_t color_body_offsets_len,
+    const uint16_t *color_bodies, size_t color_bodies_len,
+    size_t group,
+    size_t *start);
+
+/* The positions of a constraint, a's then b's. Answers 0, 3, 6 or 12; after a refusal both are 0. */
+uint8_t engkarupi_positions(
+    const size_t plan[ENGKARUPI_PLAN_NUMBERS],
+    const uint16_t *constraint_body_positions, size_t constraint_body_positions_len,   /* 2 * plan[ENGKARUPI_PLAN_CONSTRAINTS] */
+    size_t constraint,
+    uint16_t places[2]);
+
+/* ---- bindings: which bodies a group may take
+ *
+ * A binding is bodies, marks and a count. A mark is 0 (read-only), 1 (held) or another number (taken).
+ */
+
+/* Binds a rising list of bodies: dynamic ones are held, others read-only. All 4,096 places are written; those past the
+ * count hold 0. Answers 0, 3, 5 or 8; a refused bind binds nothing.
+ */
+uint8_t engkarupi_bind(
+    const uint8_t *types, size_t types_len,                     /* B */
+    const uint16_t *indices, size_t indices_len,
+    uint16_t bodies[4096],
+    uint8_t marks[4096],
+    size_t *count);
+
+/* Takes the bodies at two positions, in the order asked: handed is a's body, 1 for dynamic or 0 for read-only, b's body,
+ * 1 or 0. Dynamic bodies become taken; read-only ones may be taken again. Answers 0, 9, 10 or 11; after a refusal all four
+ * are 0.
+ */
+uint8_t engkarupi_take(
+    const uint16_t bodies[4096],
+    uint8_t marks[4096],
+    size_t count,
+    size_t a,
+    size_t b,
+    uint16_t handed[4]);
+
+#ifdef __cplusplus
+}
+#endif
+
+#endif

@@ -1,0 +1,122 @@
+//! The whole comparison of two sides, and its counts.
+use crate::agree::{Agree, Step};
+use crate::calls::*;
+use crate::frames;
+use crate::scope;
+use std::process::exit;
+
+/// Document 01's sample file, and what it prints.
+const FILE: &str = "01 0000002B 0006 0004 0003 02 02 00 02 02 01 0000 0002 0001 0000 0003 0002 0002 0005 \
+    0001 0002 01 0000 0000 00 0005 0003 01";
+const PRINT: &str = "islands 2 turns 5 takes 6 degree 2\n0 0 0 0 2\n0 0 4 1 2\n0 1 1 1 0\n1 0 2 3 2\n1 1 6 5 3\n";
+
+fn bytes(hex: &str) -> Vec<u8> {
+    let digits: Vec<u8> = hex.bytes().filter(|b| *b != b' ').collect();
+    let byte = |pair: &[u8]| u8::from_str_radix(std::str::from_utf8(pair).unwrap(), 16).unwrap();
+    digits.chunks(2).map(byte).collect()
+}
+
+/// Document 01's samples, each side against the document's own figures.
+fn samples<L: Calls, R: Calls>(agree: &mut Agree<L, R>) {
+    let two = |joint: u8| Frame { types: vec![2, 2], joints: vec![0, 0], enabled: vec![joint], ..Frame::default() };
+    let of = |types: &[u8], manifolds: &[u16]| Frame {
+        types: types.to_vec(),
+        manifolds: manifolds.to_vec(),
+        ..Frame::default()
+    };
+    let none = "islands 0 turns 0 takes 0 degree 0\n";
+    let prints = [
+        (bytes(FILE), PRINT),
+        (scope::write(&Frame::default()), none),
+        (scope::write(&of(&[2], &[])), none),
+        (scope::write(&of(&[2, 2, 2], &[2, 1, 0, 1])), "islands 1 turns 2 takes 4 degree 2\n0 0 0 2 1\n0 1 1 0 1\n"),
+        (scope::write(&of(&[2, 0, 2], &[0, 1, 2, 1])), "islands 2 turns 2 takes 2 degree 1\n0 0 0 0 1\n1 0 1 2 1\n"),
+        (scope::write(&of(&[2, 0, 2], &[2, 1, 0, 1])), "islands 2 turns 2 takes 2 degree 1\n0 0 1 0 1\n1 0 0 2 1\n"),
+        (scope::write(&of(&[2, 1], &[1, 0])), "islands 1 turns 1 takes 1 degree 1\n0 0 0 1 0\n"),
+        (scope::write(&of(&[0, 1], &[0, 1])), none),
+        (scope::write(&two(0)), none),
+        (scope::write(&two(1)), "refused 7\n"),
+        (
+            scope::write(&of(&[2, 2], &[0, 1, 0, 1, 0, 1])),
+            "islands 1 turns 3 takes 6 degree 3\n0 0 0 0 1\n0 1 1 0 1\n0 2 2 0 1\n",
+        ),
+    ];
+    for (file, text) in prints {
+        agree.printed(&file, text.as_bytes());
+        agree.file(&file);
+    }
+    let step = |flags: &[u8], pairs: &[u16]| Step { flags: flags.to_vec(), pairs: pairs.to_vec(), cut: None };
+    agree.history(&[step(&[], &[])]);
+    agree.history(&[step(&[1, 0, 1], &[0, 1, 2, 1]), step(&[0, 0], &[0, 1]), step(&[1, 1], &[0, 1, 0, 1, 0, 1])]);
+    agree.binding(&[2, 2, 2], &[0, 1, 2], &[[1, 2], [0, 2], [0, 1]]);
+}
+
+/// Compares and exits: 0 only if nothing differs. `more` multiplies the random part.
+pub fn compare<L: Calls, R: Calls>(left: &L, right: &R, more: usize) -> ! {
+    let mut agree = Agree::new(left, right, 2026);
+    let every = 15;
+    samples(&mut agree);
+
+    let mut count = 0;
+    frames::every_little(|frame| {
+        agree.frame(&frame);
+        count += 1;
+        if count % every == 0 {
+            agree.print(&scope::write(&frame));
+        }
+    });
+    for (_, frame) in frames::shapes() {
+        agree.frame(&frame);
+        agree.print(&scope::write(&frame));
+    }
+    for (_, file) in frames::limit_files() {
+        agree.file(&file);
+        agree.print(&file);
+    }
+    agree.print(&[]);
+    agree.limits();
+
+    for i in 0..50_000 * more {
+        let frame = frames::random_frame(&mut agree.random, 4096, 4096);
+        agree.frame(&frame);
+        if i % every == 0 {
+            agree.print(&scope::write(&frame));
+        }
+    }
+    for _ in 0..20 * more {
+        let seed = agree.random.next() as u32;
+        agree.frame(&frames::lift(seed, 4096, 4096, 0));
+        agree.frame(&frames::lift(seed, 4096, 4096, 4096));
+    }
+    for _ in 0..4_000 * more {
+        agree.random_history(40);
+        agree.random_islands();
+        agree.random_binding();
+        agree.forged_take();
+        agree.forged_lookups();
+    }
+    for _ in 0..10 * more {
+        agree.random_history(4096);
+    }
+    for _ in 0..150 * more {
+        let frame = frames::random_frame(&mut agree.random, 9, 6);
+        let file = scope::write(&frame);
+        agree.islands_short(&frame);
+        agree.update_short(&frame.flags(), &frame.pairs());
+        agree.run_short(&file);
+        let mut random = frames::Random(agree.random.next());
+        let mut count = 0;
+        frames::damaged(&mut random, &file, 100, |file| {
+            agree.file(file);
+            count += 1;
+            if count % (10 * every) == 0 {
+                agree.print(file);
+            }
+        });
+    }
+
+    let tally = agree.tally;
+    println!("frames {} calls {} prints {}", tally.frames, tally.calls, tally.prints);
+    println!("{} agree, {} differ", tally.agree, tally.differ);
+    exit((tally.differ != 0) as i32)
+}

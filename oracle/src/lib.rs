@@ -1,0 +1,17 @@
+//! Kapitsa's island.rs, constraint_coloring.rs and solver/colored_bodies.rs, built unchanged (`collision`, with stand-ins
+//! in `joint` and `rigid_body`), and three sides that answer the calls of document 01 (`calls`): the Rust (`kapitsa`),
+//! document 01 itself (`scope`), and the proved code through its C boundary (`ours`). `frames` makes what is asked,
+//! `agree` compares two sides.
+pub mod agree;
+pub mod bench;
+pub mod calls;
+pub mod collision;
+pub mod compare;
+pub mod frames;
+pub mod joint;
+pub mod kapitsa;
+#[cfg(feature = "ours")]
+pub mod ours;
+pub mod record;
+pub mod rigid_body;
+pub mod scope;
