@@ -8,7 +8,7 @@ use lib.ListN.{length, take}
 use Rattle.lists.specs.Basics.{over, same}
 use Rattle.frame.specs.Questions.{pairCount}
 use Rattle.groups.specs.Groups.{Plan, planOf}
-use Rattle.constraint_coloring.specs.Plans.{Tables, roomy, updateRefusal}
+use Rattle.constraint_coloring.specs.Plans.{Tables, roomy, updateRefusal, positionsRefusal, positionsAt}
 use Rattle.constraint_coloring.specs.declared.ConstraintColoring.{ConstraintColoring}
 use Rattle.constraint_coloring.specs.declared.Update.{Update}
 use Rattle.constraint_coloring.specs.declared.Update.the-variants as update
@@ -91,3 +91,10 @@ pub record Updated (p : ConstraintColoring) (flags pairs : List ℕ) (t u : Tabl
   pub color-body-offsets : u .color-body-offsets ≡ written (changesWith p t flags pairs) (planOf flags pairs .color-body-offsets) (t .color-body-offsets)
   pub color-bodies : u .color-bodies ≡ written (changesWith p t flags pairs) (planOf flags pairs .color-bodies) (t .color-bodies)
   pub constraint-body-positions : u .constraint-body-positions ≡ written (changesWith p t flags pairs) (planOf flags pairs .positions) (t .constraint-body-positions)
+
+-- ---- the lookup of positions
+
+-- its contract: the positions of constraint r in a plan of n constraints, none where it is refused
+pub record Located (n : ℕ) (table : List ℕ) (r : ℕ) (answer : Positions) : Type 0 where
+  pub refusal : positionsNumber answer ≡ positionsRefusal n table r
+  pub values : positionsValues answer ≡ cond (eqb (positionsRefusal n table r) 0) (positionsAt table r) []

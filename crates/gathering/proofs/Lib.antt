@@ -1,0 +1,8 @@
+pub mod Ranges
+pub mod Pairs
+pub mod Stamps
+pub mod Notes
+pub mod Collects
+pub mod Arranges
+pub mod Groups
+pub mod Locates

@@ -1,0 +1,98 @@
+-- The cleared tables are counted in and summed up, so that no constraint is done yet and every list is empty; then all are done.
+use native.Mathlib.Omega.{arith}
+use Prim.Native.Nat.{ℕ}
+use mathlib.Core.Path.{ap, _∙_}
+use lib.ListN.{length, replicate}
+use denote.Ref.{now}
+use Rattle.painting.proofs.Pairs.{entries-in}
+use Rattle.painting.proofs.Counts.{starts-le, counts-starts}
+use Rattle.painting.proofs.Steps.{none-done}
+use borrow.Author.Needs.{needs}
+use Rattle.painting.proofs.paint.Statement.{statement}
+use Rattle.painting.proofs.paint.Tie as tie
+
+clear-requires : tie.Need-clear-requires
+clear-requires c κs = search needs
+
+clear-requires-2 : tie.Need-clear-requires-2
+clear-requires-2 c κs = search needs
+
+count-entries-requires : tie.Need-count-entries-requires
+count-entries-requires c κs =
+    let s = c .before .before .before .before .before .before .before .before .before .before .before .before .before .before .before .before in
+    let r = s .pre in (
+      entries-in (length (now (s .args .dynamic-bodies))) (length (now (s .args .constraint-colors))) (now (s .args .endpoints)) (r .constraints) (r .sound),
+      (omega (arith, r .constraints, r .few), c .before .before .before .before .before .before .before .clear .ensures ∙ ap (λ (n : ℕ). replicate n 0) (r .offsets-length)),
+    )
+
+sum-offsets-requires : tie.Need-sum-offsets-requires
+sum-offsets-requires c κs =
+    let s = c .before .before .before .before .before .before .before .before .before .before .before .before .before .before .before .before .before .before .before .before .before in
+    let r = s .pre in
+    let v = c .before .before .before .before .count-entries in
+    let flags = now (s .args .dynamic-bodies) in
+    let colors = now (s .args .constraint-colors) in
+    let pairs = now (s .args .endpoints) in (
+      (v .kept .1 .1 .0 ∙ c .before .before .before .before .before .before .before .before .before .before .before .before .clear .kept .0 ∙ r .offsets-length, omega (arith, r .scratch-length)),
+      omega (
+        arith,
+        counts-starts flags (length flags) (length colors) pairs (r .constraints) (r .sound) _ (v .ensures) (length flags) (omega arith),
+        starts-le flags (length flags) (length colors) pairs (r .constraints) (r .sound) (length flags),
+        r .constraints,
+        r .few,
+      ),
+    )
+
+color-constraints-requires : tie.Need-color-constraints-requires
+color-constraints-requires c κs =
+    let s = c .before .before .before .before .before .before .before .before .before .before .before .before .before .before .before .before .before .before .before .before .before .before .before .before .before .before .before .before .before .before .before in
+    let r = s .pre in
+    let v = c .before .before .before .before .before .before .before .before .before .before .before .before .before .before .count-entries in
+    let w = c .before .before .before .before .before .before .before .before .before .sum-offsets in
+    let z = c .before .before .before .before .before .before .before .before .before .before .before .before .before .before .before .before .before .before .clear2 in
+    none-done (length (now (s .args .color-stamps)))
+    (record {
+      bodies = r .bodies;
+      constraints = r .constraints;
+      few = r .few;
+      sound = r .sound;
+      offsets-length = w .kept .0 ∙ v .kept .1 .1 .0 ∙ c .before .before .before .before .before .before .before .before .before .before .before .before .before .before .before .before .before .before .before .before .before .before .clear .kept .0 ∙ r .offsets-length;
+      adjacency-length = r .adjacency-length;
+      scratch-length = omega (arith, w .kept .1 .0, r .scratch-length);
+      stamps-length = omega (arith, z .kept .0, r .stamps-length);
+    })
+    (v .ensures) (w .ensures) (z .ensures)
+
+same-length : tie.Need-same-length
+same-length c = search needs
+
+same-length-2 : tie.Need-same-length-2
+same-length-2 c = search needs
+
+same-length-3 : tie.Need-same-length-3
+same-length-3 c = search needs
+
+same-length-4 : tie.Need-same-length-4
+same-length-4 c = search needs
+
+same-length-5 : tie.Need-same-length-5
+same-length-5 c = search needs
+
+returns : tie.Need-returns
+returns c = search needs
+
+pub paint-spec : {M : Type 1} → statement M
+paint-spec =
+    tie.close
+    (tie.spec
+    clear-requires
+    clear-requires-2
+    count-entries-requires
+    sum-offsets-requires
+    color-constraints-requires
+    same-length
+    same-length-2
+    same-length-3
+    same-length-4
+    same-length-5
+    returns)
