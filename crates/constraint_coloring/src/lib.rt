@@ -5,9 +5,10 @@ ghost use mathlib.Core.Bool.{_&&_};
 ghost use Prim.Native.Nat.{_+_, _*_, _/_, _^_, _<_, _≤_};
 ghost use lib.Dec.{leb, eqb};
 ghost use lib.ListN.{length, take};
-ghost use Rattle.lists.specs.Basics.{same};
+ghost use Rattle.lists.specs.Basics.{over, same};
 ghost use Rattle.constraint_coloring.specs.Plans.{updateRefusal, part, groupPart};
-ghost use Rattle.constraint_coloring.specs.Calls.{freshPlan, Located};
+ghost use Rattle.constraint_coloring.specs.Calls.{freshPlan, refusalWith, Updated, Located};
+ghost use Rattle.constraint_coloring.specs.Stages.{Listable, Listed, Rebuilt};
 
 // What a plan carries by value; the rest stands in the tables that its caller lends.
 pub struct ConstraintColoring {
@@ -145,8 +146,8 @@ fn same_pairs(a: &[u16], b: &[u16]) -> bool
 }
 
 fn copy_flags(from: &[u8], to: &mut [u8])
-    requires { ⌜ length (now to) ≡ length (now from) ⌝ }
-    ensures { λ _. ⌜ now (to .exit) ≡ now (from .entry) ⌝ }
+    requires { ⌜ length (now from) ≤ length (now to) ⌝ }
+    ensures { λ _. ⌜ now (to .exit) ≡ over (now (from .entry)) (now (to .entry)) ⌝ }
 {
     let mut i = 0;
     while i < from.len() {
@@ -156,13 +157,117 @@ fn copy_flags(from: &[u8], to: &mut [u8])
 }
 
 fn copy_pairs(from: &[u16], to: &mut [u16])
-    requires { ⌜ length (now to) ≡ length (now from) ⌝ }
-    ensures { λ _. ⌜ now (to .exit) ≡ now (from .entry) ⌝ }
+    requires { ⌜ length (now from) ≤ length (now to) ⌝ }
+    ensures { λ _. ⌜ now (to .exit) ≡ over (now (from .entry)) (now (to .entry)) ⌝ }
 {
     let mut i = 0;
     while i < from.len() {
         to[i] = from[i];
         i += 1;
+    }
+}
+
+// The members and bodies of all groups and the positions of all constraints, of colored constraints; answers the size of the
+// largest group.
+fn list_groups(
+    body_count: usize,
+    endpoints: &[u16],
+    constraint_colors: &[u16],
+    color_count: usize,
+    scratch_offsets: &mut [u16],
+    body_stamps: &mut [u16],
+    color_offsets: &mut [u16],
+    colored_constraints: &mut [u16],
+    color_body_offsets: &mut [u16],
+    color_bodies: &mut [u16],
+    constraint_body_positions: &mut [u16],
+) -> usize
+    requires { ⌜ Listable «body_count» (now endpoints) (now «constraint_colors») «color_count» (now «scratch_offsets») (now «body_stamps») (now «color_offsets») (now «colored_constraints») (now «color_body_offsets») (now «color_bodies») (now «constraint_body_positions») ⌝ }
+    ensures { λ r. ⌜ Listed «body_count» (now (endpoints .entry)) (now («constraint_colors» .entry)) «color_count» (now («color_bodies» .entry)) (now («color_offsets» .exit)) (now («colored_constraints» .exit)) (now («color_body_offsets» .exit)) (now («color_bodies» .exit)) (now («constraint_body_positions» .exit)) r ⌝ }
+{
+    let largest = grouping::group(
+        constraint_colors,
+        color_count,
+        scratch_offsets,
+        color_offsets,
+        colored_constraints,
+    );
+    gathering::gather(
+        body_count,
+        endpoints,
+        constraint_colors,
+        color_count,
+        color_offsets,
+        colored_constraints,
+        body_stamps,
+        scratch_offsets,
+        color_body_offsets,
+        color_bodies,
+    );
+    gathering::locate(
+        body_count,
+        endpoints,
+        constraint_colors,
+        color_count,
+        color_body_offsets,
+        color_bodies,
+        constraint_body_positions,
+    );
+    largest
+}
+
+// Remembers the input and builds its plan: each table is cut to the places that are used.
+fn rebuild(
+    flags: &[u8],
+    pairs: &[u16],
+    dynamic_bodies: &mut [u8],
+    endpoints: &mut [u16],
+    body_offsets: &mut [u16],
+    body_constraints: &mut [u16],
+    scratch_offsets: &mut [u16],
+    constraint_colors: &mut [u16],
+    color_stamps: &mut [u16],
+    body_stamps: &mut [u16],
+    color_offsets: &mut [u16],
+    colored_constraints: &mut [u16],
+    color_body_offsets: &mut [u16],
+    color_bodies: &mut [u16],
+    constraint_body_positions: &mut [u16],
+) -> ConstraintColoring
+    requires { ⌜ refusalWith (record { dynamic-bodies = now «dynamic_bodies»; endpoints = now endpoints; body-offsets = now «body_offsets»; body-constraints = now «body_constraints»; scratch-offsets = now «scratch_offsets»; constraint-colors = now «constraint_colors»; color-stamps = now «color_stamps»; body-stamps = now «body_stamps»; color-offsets = now «color_offsets»; colored-constraints = now «colored_constraints»; color-body-offsets = now «color_body_offsets»; color-bodies = now «color_bodies»; constraint-body-positions = now «constraint_body_positions» }) (now flags) (now pairs) ≡ 0 ⌝ }
+    ensures { λ r. ⌜ Rebuilt (now (flags .entry)) (now (pairs .entry)) (record { dynamic-bodies = now («dynamic_bodies» .entry); endpoints = now (endpoints .entry); body-offsets = now («body_offsets» .entry); body-constraints = now («body_constraints» .entry); scratch-offsets = now («scratch_offsets» .entry); constraint-colors = now («constraint_colors» .entry); color-stamps = now («color_stamps» .entry); body-stamps = now («body_stamps» .entry); color-offsets = now («color_offsets» .entry); colored-constraints = now («colored_constraints» .entry); color-body-offsets = now («color_body_offsets» .entry); color-bodies = now («color_bodies» .entry); constraint-body-positions = now («constraint_body_positions» .entry) }) (record { dynamic-bodies = now («dynamic_bodies» .exit); endpoints = now (endpoints .exit); body-offsets = now («body_offsets» .exit); body-constraints = now («body_constraints» .exit); scratch-offsets = now («scratch_offsets» .exit); constraint-colors = now («constraint_colors» .exit); color-stamps = now («color_stamps» .exit); body-stamps = now («body_stamps» .exit); color-offsets = now («color_offsets» .exit); colored-constraints = now («colored_constraints» .exit); color-body-offsets = now («color_body_offsets» .exit); color-bodies = now («color_bodies» .exit); constraint-body-positions = now («constraint_body_positions» .exit) }) r ⌝ }
+{
+    let b = flags.len();
+    let c = pairs.len() / 2;
+    copy_flags(flags, dynamic_bodies);
+    copy_pairs(pairs, endpoints);
+    let color_count = painting::paint(
+        flags,
+        pairs,
+        &mut body_offsets[..b + 1],
+        body_constraints,
+        scratch_offsets,
+        &mut constraint_colors[..c],
+        &mut color_stamps[..c],
+    );
+    let largest = list_groups(
+        b,
+        pairs,
+        &constraint_colors[..c],
+        color_count,
+        scratch_offsets,
+        &mut body_stamps[..b],
+        &mut color_offsets[..color_count + 1],
+        &mut colored_constraints[..c],
+        &mut color_body_offsets[..color_count + 1],
+        &mut color_bodies[..2 * c],
+        &mut constraint_body_positions[..2 * c],
+    );
+    ConstraintColoring {
+        body_count: b,
+        constraint_count: c,
+        color_count: color_count,
+        max_color_constraint_count: largest,
     }
 }
 
@@ -202,6 +307,70 @@ impl ConstraintColoring {
             return false;
         }
         same_pairs(pairs, &endpoints[..pairs.len()])
+    }
+
+    // Questions 3 to 7; then equal input is "unchanged" and writes nothing, and other input is remembered and its plan built.
+    pub fn update(
+        self,
+        dynamic_bodies_in: &[u8],
+        endpoints_in: &[u16],
+        dynamic_bodies: &mut [u8],
+        endpoints: &mut [u16],
+        body_offsets: &mut [u16],
+        body_constraints: &mut [u16],
+        scratch_offsets: &mut [u16],
+        constraint_colors: &mut [u16],
+        color_stamps: &mut [u16],
+        body_stamps: &mut [u16],
+        color_offsets: &mut [u16],
+        colored_constraints: &mut [u16],
+        color_body_offsets: &mut [u16],
+        color_bodies: &mut [u16],
+        constraint_body_positions: &mut [u16],
+    ) -> Update
+        ensures { λ r. ⌜ Updated self (now («dynamic_bodies_in» .entry)) (now («endpoints_in» .entry)) (record { dynamic-bodies = now («dynamic_bodies» .entry); endpoints = now (endpoints .entry); body-offsets = now («body_offsets» .entry); body-constraints = now («body_constraints» .entry); scratch-offsets = now («scratch_offsets» .entry); constraint-colors = now («constraint_colors» .entry); color-stamps = now («color_stamps» .entry); body-stamps = now («body_stamps» .entry); color-offsets = now («color_offsets» .entry); colored-constraints = now («colored_constraints» .entry); color-body-offsets = now («color_body_offsets» .entry); color-bodies = now («color_bodies» .entry); constraint-body-positions = now («constraint_body_positions» .entry) }) (record { dynamic-bodies = now («dynamic_bodies» .exit); endpoints = now (endpoints .exit); body-offsets = now («body_offsets» .exit); body-constraints = now («body_constraints» .exit); scratch-offsets = now («scratch_offsets» .exit); constraint-colors = now («constraint_colors» .exit); color-stamps = now («color_stamps» .exit); body-stamps = now («body_stamps» .exit); color-offsets = now («color_offsets» .exit); colored-constraints = now («colored_constraints» .exit); color-body-offsets = now («color_body_offsets» .exit); color-bodies = now («color_bodies» .exit); constraint-body-positions = now («constraint_body_positions» .exit) }) r ⌝ }
+    {
+        let room = roomy(
+            dynamic_bodies_in.len(),
+            endpoints_in.len() / 2,
+            dynamic_bodies.len(),
+            endpoints.len(),
+            body_offsets.len(),
+            body_constraints.len(),
+            scratch_offsets.len(),
+            constraint_colors.len(),
+            color_stamps.len(),
+            body_stamps.len(),
+            color_offsets.len(),
+            colored_constraints.len(),
+            color_body_offsets.len(),
+            color_bodies.len(),
+            constraint_body_positions.len(),
+        );
+        let refusal = update_refusal(dynamic_bodies_in, endpoints_in, room);
+        if refusal != 0 {
+            return Update::Refused(refusal);
+        }
+        if self.remembers(dynamic_bodies_in, endpoints_in, dynamic_bodies, endpoints) {
+            return Update::Unchanged;
+        }
+        Update::Changed(rebuild(
+            dynamic_bodies_in,
+            endpoints_in,
+            dynamic_bodies,
+            endpoints,
+            body_offsets,
+            body_constraints,
+            scratch_offsets,
+            constraint_colors,
+            color_stamps,
+            body_stamps,
+            color_offsets,
+            colored_constraints,
+            color_body_offsets,
+            color_bodies,
+            constraint_body_positions,
+        ))
     }
 
     // The constraints of a group: that part of the plan's own table.

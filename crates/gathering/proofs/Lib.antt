@@ -1,4 +1,4 @@
-pub mod Ranges
+pub mod Parts
 pub mod Pairs
 pub mod Stamps
 pub mod Notes

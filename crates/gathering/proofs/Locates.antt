@@ -1,22 +1,22 @@
 -- Positions. Both endpoints of a constraint stand among its group's bodies, which rise, so the search finds their places; the
 -- positions of the constraints before r fill the first 2 × r entries.
-use Prim.Native.Nat.{ℕ, suc, _+_, _-_, _*_, _≤_, _<_}
+use Prim.Native.Nat.{ℕ, suc, _+_, _*_, _≤_, _<_}
 use mathlib.Core.Path.{_≡_, refl, sym, ap, _∙_}
 use mathlib.Core.Bool.{true, _&&_}
-use mathlib.Core.List.{List, [], _∷_, _++_, map}
+use mathlib.Core.List.{List, [], _++_, map}
 use native.Mathlib.Omega.{arith}
 use native.Mathlib.Numerals.{add-one}
 use lib.Dec.{eqb, ltb}
-use lib.ListN.{length, getD, set, take, drop, length-append, length-drop, length-map, take-append-drop}
-use lib.Seq.{sets, sets-eq, length-sets, length-take-le, take-at, take-all, take-append-le, drop-append-le}
+use lib.ListN.{length, getD, set, take, drop, length-append, length-map}
+use lib.Seq.{sets, sets-eq, length-sets, length-take-le, take-at, take-all}
 use borrow.Author.Tests.{eq-eqb, ltb-true}
 use Rattle.lists.specs.Basics.{any, all, range, mem, place, rises}
 use Rattle.lists.proofs.Laws.{and-left, and-right, all-in, all-intro, any-in, mem-filter, in-range, length-range, filter-length-le, max-in, getD-mem, place-lt, rises-filter}
 use Rattle.groups.specs.Groups.{pairsOf, groupCount, members, groupBodies, positions, flatten}
 use Rattle.gathering.specs.Gathers.{bodiesIn, Findable, Locatable}
-use Rattle.gathering.proofs.Ranges.{flatten-zero, flatten-suc, start-suc, start-mono, flatten-part, length-offsets, offsets-at}
+use Rattle.groups.proofs.Tables.{flatten-zero, flatten-suc}
 use Rattle.gathering.proofs.Pairs.{pairs-at, pair-all}
-use Rattle.gathering.proofs.Groups.{partOf}
+use Rattle.gathering.proofs.Parts.{partOf, part-is}
 
 -- ---- one constraint
 module _ (ends : List ℕ) (r : ℕ) (bodies positions : List ℕ) (f : Findable ends r bodies positions) where
@@ -36,7 +36,7 @@ module _ (ends : List ℕ) (r : ℕ) (bodies positions : List ℕ) (f : Findable
   b-small = omega (arith, place-lt (getD ends (2 * r + 1) 0) bodies b-there, f .few)
 
   pub pair-placed : (x y : ℕ) → x ≡ place (getD ends (2 * r) 0) bodies → y ≡ place (getD ends (2 * r + 1) 0) bodies
-    → set (set positions (2 * r) x) (2 * r + 1) y ≡ sets positions (2 * r) (map (λ b. place b bodies) (getD (pairsOf ends) r []))
+      → set (set positions (2 * r) x) (2 * r + 1) y ≡ sets positions (2 * r) (map (λ b. place b bodies) (getD (pairsOf ends) r []))
   pair-placed x y p q = rw (pairs-at ends r (f .pair), p, q, add-one (2 * r))
 
 -- ---- the constraints before r are located
@@ -49,49 +49,14 @@ module _ (nb : ℕ) (ends colors : List ℕ) (n : ℕ) (starts bodies positions�
   pub locating-none : Locating nb ends colors positions₀ positions₀ 0
   locating-none = record { inside = omega arith; size = refl; located = sym (flatten-zero (positions nb (pairsOf ends) colors)) }
 
-  pub starts-long : length starts ≡ suc n
-  starts-long = rw (p .starts) (length-offsets (bodiesIn nb ends colors) n)
-
-  bodies-long : length (flatten (bodiesIn nb ends colors) n) ≤ length bodies
-  bodies-long =
-      let m = length (flatten (bodiesIn nb ends colors) n) in
-      omega (arith, ap length (p .bodies), ap length (take-append-drop m bodies), length-append (take m bodies) (drop m bodies))
-
-  -- the part of a group's bodies
-  module _ (k : ℕ) (h : k < n) where
-    start-at : getD starts k 0 ≡ length (flatten (bodiesIn nb ends colors) k)
-    start-at = rw (p .starts) (offsets-at (bodiesIn nb ends colors) k n (omega arith))
-
-    end-at : getD starts (k + 1) 0 ≡ length (flatten (bodiesIn nb ends colors) k) + length (bodiesIn nb ends colors k)
-    end-at = rw (p .starts, add-one k) (offsets-at (bodiesIn nb ends colors) (suc k) n h ∙ start-suc (bodiesIn nb ends colors) k)
-
-    pub start-end : getD starts k 0 ≤ getD starts (k + 1) 0
-    start-end = omega (arith, start-at, end-at)
-
-    flat-inside : length (flatten (bodiesIn nb ends colors) k) + length (bodiesIn nb ends colors k) ≤ length (flatten (bodiesIn nb ends colors) n)
-    flat-inside = omega (arith, start-suc (bodiesIn nb ends colors) k, start-mono (bodiesIn nb ends colors) (suc k) n h)
-
-    pub end-inside : getD starts (k + 1) 0 ≤ length bodies
-    end-inside = omega (arith, end-at, flat-inside, bodies-long)
-
-    part-is : partOf starts bodies k ≡ bodiesIn nb ends colors k
-    part-is =
-        let g = bodiesIn nb ends colors in
-        let flat = flatten g n in
-        let rest = drop (length flat) bodies in
-        let m : getD starts (k + 1) 0 - getD starts k 0 ≡ length (g k) = omega (arith, start-at, end-at) in
-        let b : bodies ≡ flat ++ rest = sym (take-append-drop (length flat) bodies) ∙ ap (λ (l : List ℕ). l ++ rest) (p .bodies) in
-        rw (m, start-at)
-        (ap (λ (l : List ℕ). take (length (g k)) (drop (length (flatten g k)) l)) b
-        ∙ rw (drop-append-le (length (flatten g k)) flat rest (omega (arith, flat-inside)))
-          (take-append-le (length (g k)) (drop (length (flatten g k)) flat) rest (omega (arith, flat-inside, length-drop (length (flatten g k)) flat))
-          ∙ flatten-part g k n h))
-
   -- constraint r stands in its group, and its endpoints among the group's bodies
   module _ (r : ℕ) (h : r < length colors) where
     pub color-below : getD colors r 0 < n
     unfolding groupCount
     color-below = omega (arith, p .colored .groups, max-in suc (getD colors r 0) colors (getD-mem colors r h))
+
+    group-part : partOf starts bodies (getD colors r 0) ≡ bodiesIn nb ends colors (getD colors r 0)
+    group-part = part-is (bodiesIn nb ends colors) n starts bodies (p .starts) (p .bodies) (getD colors r 0) color-below
 
     member : mem r (members colors (getD colors r 0)) ≡ true
     unfolding members
@@ -107,8 +72,8 @@ module _ (nb : ℕ) (ends colors : List ℕ) (n : ℕ) (starts bodies positions�
         let cs = pairsOf ends in
         all-intro (λ b. mem b (bodiesIn nb ends colors k)) (getD cs r [])
         (λ b m. mem-filter (λ b. any (λ s. mem b (getD cs s [])) (members colors k)) b (range nb)
-          (in-range b 0 nb (omega arith) (omega (arith, ltb-true b nb (all-in (λ b. ltb b nb) b (getD cs r []) m (pair-all (λ b. ltb b nb) ends r (p .colored .below) pair-fits)))))
-          (any-in (λ s. mem b (getD cs s [])) r (members colors k) member m))
+        (in-range b 0 nb (omega arith) (omega (arith, ltb-true b nb (all-in (λ b. ltb b nb) b (getD cs r []) m (pair-all (λ b. ltb b nb) ends r (p .colored .below) pair-fits)))))
+        (any-in (λ s. mem b (getD cs s [])) r (members colors k) member m))
 
     rising-bodies : rises (bodiesIn nb ends colors (getD colors r 0)) ≡ true
     unfolding groupBodies
@@ -121,7 +86,7 @@ module _ (nb : ℕ) (ends colors : List ℕ) (n : ℕ) (starts bodies positions�
     module _ (table : List ℕ) (v : Locating nb ends colors positions₀ table r) where
       pub findable : Findable ends r (partOf starts bodies (getD colors r 0)) table
       findable =
-          rw (part-is (getD colors r 0) color-below)
+          rw group-part
           (record { pair = pair-fits; room = v .size ∙ p .room; few = few-bodies; rising = rising-bodies; there = among })
 
       pub locating-more : (table′ : List ℕ) → table′ ≡ sets table (2 * r) (map (λ b. place b (partOf starts bodies (getD colors r 0))) (getD (pairsOf ends) r [])) → Locating nb ends colors positions₀ table′ (r + 1)
@@ -130,15 +95,15 @@ module _ (nb : ℕ) (ends colors : List ℕ) (n : ℕ) (starts bodies positions�
           let f = positions nb (pairsOf ends) colors in
           let vs = map (λ b. place b (bodiesIn nb ends colors (getD colors r 0))) (getD (pairsOf ends) r []) in
           let two : length vs ≡ 2 = length-map (getD (pairsOf ends) r []) (λ b. place b (bodiesIn nb ends colors (getD colors r 0))) ∙ ap length (pairs-at ends r pair-fits) in
-          let s : table′ ≡ (take (2 * r) table ++ vs) ++ drop (2 * r + length vs) table = e ∙ rw (part-is (getD colors r 0) color-below) (sets-eq vs table (2 * r) (omega (arith, two, v .size, p .room, pair-fits))) in
+          let s : table′ ≡ (take (2 * r) table ++ vs) ++ drop (2 * r + length vs) table = e ∙ rw group-part (sets-eq vs table (2 * r) (omega (arith, two, v .size, p .room, pair-fits))) in
           let l : length (take (2 * r) table ++ vs) ≡ 2 * (r + 1) = omega (arith, two, length-append (take (2 * r) table) vs, length-take-le (2 * r) table (omega (arith, v .size, p .room, pair-fits))) in
           record {
             inside = omega arith;
             size = ap length e ∙ length-sets table (2 * r) (map (λ b. place b (partOf starts bodies (getD colors r 0))) (getD (pairsOf ends) r [])) ∙ v .size;
             located =
-              ap (λ (t : List ℕ). take (2 * (r + 1)) t) s
-              ∙ take-at (take (2 * r) table ++ vs) (drop (2 * r + length vs) table) (2 * (r + 1)) l
-              ∙ rw (v .located, add-one) (sym (flatten-suc f r))
+                ap (λ (t : List ℕ). take (2 * (r + 1)) t) s
+                ∙ take-at (take (2 * r) table ++ vs) (drop (2 * r + length vs) table) (2 * (r + 1)) l
+                ∙ rw (v .located, add-one) (sym (flatten-suc f r));
           }
 
   pub locating-done : (table : List ℕ) (r : ℕ) → Locating nb ends colors positions₀ table r → length colors ≤ r → table ≡ flatten (positions nb (pairsOf ends) colors) (length colors)

@@ -12,7 +12,7 @@ use Rattle.lists.proofs.Sums.{sum-le, sum-swap, length-filter}
 use Rattle.lists.proofs.Laws.{and-left, and-right, and-both, all-in, getD-mem, one-any, at-most-one, sum-one}
 use Rattle.groups.specs.Groups.{pairsOf}
 use Rattle.gathering.specs.Gathers.{endsOf, bodiesOf}
-use Rattle.gathering.proofs.Ranges.{filter-ext-in}
+use Rattle.lists.proofs.Ranges.{filter-ext-in}
 
 pub pairs-at : (e : List ℕ) (r : ℕ) → 2 * r + 1 < length e → getD (pairsOf e) r [] ≡ getD e (2 * r) 0 ∷ getD e (2 * r + 1) 0 ∷ []
 pairs-at [] r h = absurd (omega arith)
@@ -46,7 +46,7 @@ pub pair-all : (p : ℕ → Bool) (e : List ℕ) (r : ℕ) → all p e ≡ true 
 pair-all p e r h k =
     rw (pairs-at e r k)
     (and-both (p (getD e (2 * r) 0)) (p (getD e (2 * r + 1) 0) && true) (entry-all p e (2 * r) h (omega arith))
-      (and-both (p (getD e (2 * r + 1) 0)) true (entry-all p e (2 * r + 1) h k) refl))
+    (and-both (p (getD e (2 * r + 1) 0)) true (entry-all p e (2 * r + 1) h k) refl))
 
 pub ends-all : (p : ℕ → Bool) (e ms : List ℕ) → all p e ≡ true → all (λ r. ltb (2 * r + 1) (length e)) ms ≡ true → all p (endsOf e ms) ≡ true
 unfolding endsOf
@@ -61,9 +61,9 @@ any-append : (p : ℕ → Bool) (xs ys : List ℕ) → any p (xs ++ ys) ≡ (any
 any-append p [] ys = refl
 any-append p (x ∷ xs) ys = rw (any-append p xs ys) (regroup (p x) (any p xs) (any p ys))
   where
-  regroup : (a b c : Bool) → (a || (b || c)) ≡ ((a || b) || c)
-  regroup true b c = refl
-  regroup false b c = refl
+    regroup : (a b c : Bool) → (a || (b || c)) ≡ ((a || b) || c)
+    regroup true b c = refl
+    regroup false b c = refl
 
 mem-ends : (e ms : List ℕ) (b : ℕ) → mem b (endsOf e ms) ≡ any (λ r. mem b (getD (pairsOf e) r [])) ms
 unfolding endsOf
@@ -77,10 +77,14 @@ bodies-mem nb ends ms = filter-ext-in _ (λ b. mem b (endsOf ends ms)) (range nb
 -- ---- no more bodies than endpoints
 held : (n : ℕ) (bs : List ℕ) → length (filter (λ b. mem b bs) (range n)) ≤ length bs
 held n bs =
-    omega (arith, length-filter (λ b. mem b bs) (range n),
-    sum-le (λ b. one (mem b bs)) (λ b. count (eqb b) bs) (range n) (λ b. one-any (eqb b) bs),
-    sum-swap (λ b x. one (eqb b x)) (range n) bs,
-    sum-le (λ x. sumOf (λ b. one (eqb b x)) (range n)) (λ x. 1) bs (λ x. at-most-one x 0 n), sum-one bs)
+    omega (
+      arith,
+      length-filter (λ b. mem b bs) (range n),
+      sum-le (λ b. one (mem b bs)) (λ b. count (eqb b) bs) (range n) (λ b. one-any (eqb b) bs),
+      sum-swap (λ b x. one (eqb b x)) (range n) bs,
+      sum-le (λ x. sumOf (λ b. one (eqb b x)) (range n)) (λ x. 1) bs (λ x. at-most-one x 0 n),
+      sum-one bs,
+    )
 
 pub bodies-few : (nb : ℕ) (ends ms : List ℕ) → length (bodiesOf nb ends ms) ≤ 2 * length ms
 bodies-few nb ends ms = rw (bodies-mem nb ends ms) (omega (arith, held nb (endsOf ends ms), ends-short ends ms))

@@ -2,29 +2,24 @@
 
 ghost use mathlib.Core.Path.{_≡_};
 ghost use mathlib.Core.List.{[], _∷_, map};
-ghost use Prim.Native.Nat.{_+_, _*_, _≤_, _<_};
+ghost use Prim.Native.Nat.{_*_, _≤_, _<_};
 ghost use lib.ListN.{length, getD, replicate};
 ghost use lib.Seq.{sets};
 ghost use Rattle.lists.specs.Basics.{sorted, place};
 ghost use Rattle.groups.specs.Groups.{pairsOf, positions, flatten};
 ghost use Rattle.gathering.specs.Gathers.{endsOf, stamped, Noted, Notable, Fresh, Listed, Gatherable, Gathered, Findable, Locatable};
 
-// A part with at least one of so many bodies is collected anew, and a shorter one sorted.
+// A part that holds a sixteenth of all bodies or more is collected anew, and a shorter one sorted.
 const LONG: usize = 16;
 
-// Every place becomes 0.
-fn clear(table: &mut [u16])
-    ensures { λ _. ⌜ now (table .exit) ≡ replicate (length (now (table .entry))) 0 ⌝ }
-{
-    let mut i = 0;
-    while i < table.len() {
-        table[i] = 0;
-        i += 1;
-    }
-}
-
 // A body with another stamp gets this one and is appended.
-fn note(body: u16, stamp: u16, body_stamps: &mut [u16], color_bodies: &mut [u16], end: usize) -> usize
+fn note(
+    body: u16,
+    stamp: u16,
+    body_stamps: &mut [u16],
+    color_bodies: &mut [u16],
+    end: usize,
+) -> usize
     requires { ⌜ (body < length (now «body_stamps»)) × (end < length (now «color_bodies»)) ⌝ }
     ensures { λ r. ⌜ Noted stamp (body ∷ []) end (now («body_stamps» .entry)) (now («color_bodies» .entry)) (now («body_stamps» .exit)) (now («color_bodies» .exit)) r ⌝ }
 {
@@ -49,8 +44,15 @@ fn note_pair(
     requires { ⌜ Notable (now endpoints) (constraint ∷ []) (now «body_stamps») (now «color_bodies») end ⌝ }
     ensures { λ r. ⌜ Noted stamp (getD (pairsOf (now (endpoints .entry))) constraint []) end (now («body_stamps» .entry)) (now («color_bodies» .entry)) (now («body_stamps» .exit)) (now («color_bodies» .exit)) r ⌝ }
 {
-    let middle = note(endpoints[2 * constraint], stamp, body_stamps, color_bodies, end);
-    note(endpoints[2 * constraint + 1], stamp, body_stamps, color_bodies, middle)
+    let first = 2 * constraint;
+    let middle = note(endpoints[first], stamp, body_stamps, color_bodies, end);
+    note(
+        endpoints[first + 1],
+        stamp,
+        body_stamps,
+        color_bodies,
+        middle,
+    )
 }
 
 // The bodies of a group's constraints, as they come.
@@ -68,7 +70,14 @@ fn note_members(
     let mut end = start;
     let mut i = 0;
     while i < members.len() {
-        end = note_pair(endpoints, members[i] as usize, stamp, body_stamps, color_bodies, end);
+        end = note_pair(
+            endpoints,
+            members[i] as usize,
+            stamp,
+            body_stamps,
+            color_bodies,
+            end,
+        );
         i += 1;
     }
     end
@@ -114,7 +123,12 @@ fn list_bodies(
     ensures { λ r. ⌜ Listed (now (endpoints .entry)) (now (members .entry)) stamp (now («body_stamps» .exit)) (now («color_bodies» .entry)) (now («color_bodies» .exit)) start r ⌝ }
 {
     let end = note_members(endpoints, members, stamp, body_stamps, color_bodies, start);
-    arrange(body_stamps, stamp, &mut color_bodies[start..end], scratch_offsets);
+    arrange(
+        body_stamps,
+        stamp,
+        &mut color_bodies[start..end],
+        scratch_offsets,
+    );
     end
 }
 
@@ -134,7 +148,7 @@ pub fn gather(
     requires { ⌜ Gatherable «body_count» (now endpoints) (now «constraint_colors») «color_count» (now «color_offsets») (now «colored_constraints») (now «body_stamps») (now «scratch_offsets») (now «color_body_offsets») (now «color_bodies») ⌝ }
     ensures { λ _. ⌜ Gathered «body_count» (now (endpoints .entry)) (now («constraint_colors» .entry)) «color_count» (now («color_body_offsets» .exit)) (now («color_bodies» .entry)) (now («color_bodies» .exit)) ⌝ }
 {
-    clear(body_stamps);
+    tables::fill(body_stamps, 0);
     color_body_offsets[0] = 0;
     let mut end = 0;
     let mut color = 0;
@@ -142,19 +156,35 @@ pub fn gather(
         let first = color_offsets[color] as usize;
         let last = color_offsets[color + 1] as usize;
         let stamp = (color + 1) as u16;
-        end = list_bodies(endpoints, &colored_constraints[first..last], stamp, body_stamps, scratch_offsets, color_bodies, end);
+        end = list_bodies(
+            endpoints,
+            &colored_constraints[first..last],
+            stamp,
+            body_stamps,
+            scratch_offsets,
+            color_bodies,
+            end,
+        );
         color += 1;
         color_body_offsets[color] = end as u16;
     }
 }
 
 // The places of a constraint's two bodies among its group's, in the order a, b.
-fn locate_pair(endpoints: &[u16], constraint: usize, bodies: &[u16], constraint_body_positions: &mut [u16])
+fn locate_pair(
+    endpoints: &[u16],
+    constraint: usize,
+    bodies: &[u16],
+    constraint_body_positions: &mut [u16],
+)
     requires { ⌜ Findable (now endpoints) constraint (now bodies) (now «constraint_body_positions») ⌝ }
     ensures { λ _. ⌜ now («constraint_body_positions» .exit) ≡ sets (now («constraint_body_positions» .entry)) (2 * constraint) (map (λ b. place b (now (bodies .entry))) (getD (pairsOf (now (endpoints .entry))) constraint [])) ⌝ }
 {
-    constraint_body_positions[2 * constraint] = ordering::position(bodies, endpoints[2 * constraint]) as u16;
-    constraint_body_positions[2 * constraint + 1] = ordering::position(bodies, endpoints[2 * constraint + 1]) as u16;
+    let first = 2 * constraint;
+    let a = ordering::position(bodies, endpoints[first]);
+    let b = ordering::position(bodies, endpoints[first + 1]);
+    constraint_body_positions[first] = a as u16;
+    constraint_body_positions[first + 1] = b as u16;
 }
 
 // The positions of all constraints.
@@ -175,7 +205,12 @@ pub fn locate(
         let color = constraint_colors[constraint] as usize;
         let start = color_body_offsets[color] as usize;
         let end = color_body_offsets[color + 1] as usize;
-        locate_pair(endpoints, constraint, &color_bodies[start..end], constraint_body_positions);
+        locate_pair(
+            endpoints,
+            constraint,
+            &color_bodies[start..end],
+            constraint_body_positions,
+        );
         constraint += 1;
     }
 }

@@ -15,7 +15,7 @@ use Rattle.lists.proofs.Laws.{and-left, and-right, by-cases}
 use Rattle.lists.proofs.Sums.{sum-append}
 use Rattle.groups.specs.Groups.{pairsOf, flagged, clash, free, usedBy, colorFrom, colorsOf, groupCount}
 use Rattle.groups.proofs.Colors.{colors-snoc, colors-length}
-use Rattle.painting.specs.Painting.{Ready, Painted, Counted, Summed, Fresh, Freed, part, bodyA, bodyB, listed, listedBoth, Listed, nextAfter, listsAfter, Room, on, degree, Lists, Done}
+use Rattle.painting.specs.Painting.{Ready, Painted, Counted, Summed, Fresh, Freed, part, bodyA, bodyB, listed, listedBoth, Listed, nextAfter, listsAfter, Room, firstOf, on, degree, Lists, Done}
 use Rattle.painting.proofs.Pairs.{Pair, pairs-length, pair-at, pair-sound}
 use Rattle.painting.proofs.Counts.{zeros-at, counts-starts, starts-le, starts-room}
 use Rattle.painting.proofs.Used.{used-more, used-length, used-all, all-append, free-pair, colors-low, groups-more}
@@ -59,14 +59,14 @@ module _ {flags pairs offsets adjacency scratch colors stamps : List ℕ} {i k :
   all-length : length (pairsOf pairs) ≡ length colors
   all-length = pairs-length (length colors) pairs (d .ready .constraints)
 
-  done-length : length (take i (pairsOf pairs)) ≡ i
+  done-length : length (firstOf pairs i) ≡ i
   done-length = length-take-le i (pairsOf pairs) (omega (arith, all-length))
 
-  next : take (i + 1) (pairsOf pairs) ≡ take i (pairsOf pairs) ++ (bodyA pairs i ∷ bodyB pairs i ∷ []) ∷ []
+  next : firstOf pairs (i + 1) ≡ firstOf pairs i ++ (bodyA pairs i ∷ bodyB pairs i ∷ []) ∷ []
   next = rw (add-one i, take-suc (pairsOf pairs) i [] (omega (arith, all-length)), pair-at i pairs pair-in)
 
   -- ---- room in the lists
-  held : (x : ℕ) → length (on flags (take i (pairsOf pairs)) x) + count (clash flags (x ∷ [])) (drop i (pairsOf pairs)) ≡ degree flags (pairsOf pairs) x
+  held : (x : ℕ) → length (on flags (firstOf pairs i) x) + count (clash flags (x ∷ [])) (drop i (pairsOf pairs)) ≡ degree flags (pairsOf pairs) x
   held x =
       let cs = pairsOf pairs in
       omega (
@@ -76,10 +76,10 @@ module _ {flags pairs offsets adjacency scratch colors stamps : List ℕ} {i k :
         ap (count (clash flags (x ∷ []))) (take-append-drop i cs),
       )
 
-  fit : (x : ℕ) → length (on flags (take i (pairsOf pairs)) x) ≤ degree flags (pairsOf pairs) x
+  fit : (x : ℕ) → length (on flags (firstOf pairs i) x) ≤ degree flags (pairsOf pairs) x
   fit x = omega (arith, held x)
 
-  more : (x : ℕ) → clash flags (x ∷ []) (bodyA pairs i ∷ bodyB pairs i ∷ []) ≡ true → length (on flags (take i (pairsOf pairs)) x) < degree flags (pairsOf pairs) x
+  more : (x : ℕ) → clash flags (x ∷ []) (bodyA pairs i ∷ bodyB pairs i ∷ []) ≡ true → length (on flags (firstOf pairs i) x) < degree flags (pairsOf pairs) x
   more x h =
       omega (
         arith,
@@ -111,24 +111,24 @@ module _ {flags pairs offsets adjacency scratch colors stamps : List ℕ} {i k :
         inside = omega (arith, d .lists .ends x h, fit x, inside x h, d .ready .adjacency-length);
       }
 
-  listed-is : (x : ℕ) → x < length flags → listed offsets scratch adjacency x ≡ on flags (take i (pairsOf pairs)) x
+  listed-is : (x : ℕ) → x < length flags → listed offsets scratch adjacency x ≡ on flags (firstOf pairs i) x
   listed-is x h =
-      let e : getD scratch x 0 - getD offsets x 0 ≡ length (on flags (take i (pairsOf pairs)) x) = omega (arith, d .lists .ends x h) in
+      let e : getD scratch x 0 - getD offsets x 0 ≡ length (on flags (firstOf pairs i) x) = omega (arith, d .lists .ends x h) in
       ap (λ (n : ℕ). part (getD offsets x 0) n adjacency) e ∙ d .lists .hold x h
 
   neighbors-are : listedBoth pairs offsets scratch adjacency i
-      ≡ on flags (take i (pairsOf pairs)) (bodyA pairs i) ++ on flags (take i (pairsOf pairs)) (bodyB pairs i)
+      ≡ on flags (firstOf pairs i) (bodyA pairs i) ++ on flags (firstOf pairs i) (bodyB pairs i)
   neighbors-are = rw (listed-is (bodyA pairs i) (pair .a-in), listed-is (bodyB pairs i) (pair .b-in))
 
-  earlier : (x : ℕ) → all (λ c. ltb c i) (on flags (take i (pairsOf pairs)) x) ≡ true
+  earlier : (x : ℕ) → all (λ c. ltb c i) (on flags (firstOf pairs i) x) ≡ true
   earlier x =
-      used-all flags (λ c. ltb c i) (take i (pairsOf pairs)) (colorsOf flags (take i (pairsOf pairs))) (x ∷ [])
-      (ap (λ (n : ℕ). all (λ c. ltb c n) (colorsOf flags (take i (pairsOf pairs)))) (sym done-length) ∙ colors-low flags (take i (pairsOf pairs)))
+      used-all flags (λ c. ltb c i) (firstOf pairs i) (colorsOf flags (firstOf pairs i)) (x ∷ [])
+      (ap (λ (n : ℕ). all (λ c. ltb c n) (colorsOf flags (firstOf pairs i))) (sym done-length) ∙ colors-low flags (firstOf pairs i))
 
   pub fresh : Fresh (listedBoth pairs offsets scratch adjacency i) stamps i
   fresh =
       record {
-        earlier = ap (all (λ c. ltb c i)) neighbors-are ∙ all-append (λ c. ltb c i) (on flags (take i (pairsOf pairs)) (bodyA pairs i)) (on flags (take i (pairsOf pairs)) (bodyB pairs i)) (earlier (bodyA pairs i)) (earlier (bodyB pairs i));
+        earlier = ap (all (λ c. ltb c i)) neighbors-are ∙ all-append (λ c. ltb c i) (on flags (firstOf pairs i) (bodyA pairs i)) (on flags (firstOf pairs i) (bodyB pairs i)) (earlier (bodyA pairs i)) (earlier (bodyB pairs i));
         stamped = d .stamped;
         room = omega (arith, d .ready .stamps-length);
         few = omega (arith, d .ready .few);
@@ -145,49 +145,49 @@ module _ {flags pairs offsets adjacency scratch colors stamps : List ℕ} {i k :
 
   -- ---- the color
   module _ (stamps′ : List ℕ) (c : ℕ) (f : Freed (listedBoth pairs offsets scratch adjacency i) stamps′ i c) where
-    color-is : c ≡ free (usedBy flags (take i (pairsOf pairs)) (colorsOf flags (take i (pairsOf pairs))) (bodyA pairs i ∷ bodyB pairs i ∷ []))
-    color-is = f .least ∙ ap free neighbors-are ∙ free-pair flags (take i (pairsOf pairs)) (colorsOf flags (take i (pairsOf pairs))) (bodyA pairs i) (bodyB pairs i)
+    color-is : c ≡ free (usedBy flags (firstOf pairs i) (colorsOf flags (firstOf pairs i)) (bodyA pairs i ∷ bodyB pairs i ∷ []))
+    color-is = f .least ∙ ap free neighbors-are ∙ free-pair flags (firstOf pairs i) (colorsOf flags (firstOf pairs i)) (bodyA pairs i) (bodyB pairs i)
 
-    colors-next : colorsOf flags (take (i + 1) (pairsOf pairs)) ≡ colorsOf flags (take i (pairsOf pairs)) ++ c ∷ []
+    colors-next : colorsOf flags (firstOf pairs (i + 1)) ≡ colorsOf flags (firstOf pairs i) ++ c ∷ []
     colors-next =
-        ap (colorsOf flags) next ∙ colors-snoc flags (take i (pairsOf pairs)) (bodyA pairs i ∷ bodyB pairs i ∷ [])
-        ∙ ap (λ (n : ℕ). colorsOf flags (take i (pairsOf pairs)) ++ n ∷ []) (sym color-is)
+        ap (colorsOf flags) next ∙ colors-snoc flags (firstOf pairs i) (bodyA pairs i ∷ bodyB pairs i ∷ [])
+        ∙ ap (λ (n : ℕ). colorsOf flags (firstOf pairs i) ++ n ∷ []) (sym color-is)
 
-    on-next : (x : ℕ) → on flags (take (i + 1) (pairsOf pairs)) x ≡ on flags (take i (pairsOf pairs)) x ++ cond (clash flags (x ∷ []) (bodyA pairs i ∷ bodyB pairs i ∷ [])) (c ∷ []) []
+    on-next : (x : ℕ) → on flags (firstOf pairs (i + 1)) x ≡ on flags (firstOf pairs i) x ++ cond (clash flags (x ∷ []) (bodyA pairs i ∷ bodyB pairs i ∷ [])) (c ∷ []) []
     on-next x =
-        ap (λ (cs : List ℕ). usedBy flags (take (i + 1) (pairsOf pairs)) cs (x ∷ [])) colors-next
-        ∙ ap (λ (ps : List (List ℕ)). usedBy flags ps (colorsOf flags (take i (pairsOf pairs)) ++ c ∷ []) (x ∷ [])) next
-        ∙ used-more flags (take i (pairsOf pairs)) (colorsOf flags (take i (pairsOf pairs))) (bodyA pairs i ∷ bodyB pairs i ∷ []) (x ∷ []) c (sym (colors-length flags (take i (pairsOf pairs))))
+        ap (λ (cs : List ℕ). usedBy flags (firstOf pairs (i + 1)) cs (x ∷ [])) colors-next
+        ∙ ap (λ (ps : List (List ℕ)). usedBy flags ps (colorsOf flags (firstOf pairs i) ++ c ∷ []) (x ∷ [])) next
+        ∙ used-more flags (firstOf pairs i) (colorsOf flags (firstOf pairs i)) (bodyA pairs i ∷ bodyB pairs i ∷ []) (x ∷ []) c (sym (colors-length flags (firstOf pairs i)))
 
     -- ---- its color at the end of both lists
-    lists-a : Lists (length flags) (grown flags (on flags (take i (pairsOf pairs))) (bodyA pairs i) c) offsets (listsAfter flags scratch adjacency (bodyA pairs i) c) (nextAfter flags scratch (bodyA pairs i))
+    lists-a : Lists (length flags) (grown flags (on flags (firstOf pairs i)) (bodyA pairs i) c) offsets (listsAfter flags scratch adjacency (bodyA pairs i) c) (nextAfter flags scratch (bodyA pairs i))
     lists-a =
-        append-if (length flags) offsets (degree flags (pairsOf pairs)) apart flags (on flags (take i (pairsOf pairs))) adjacency scratch (bodyA pairs i) c (d .lists) (λ x h. fit x) (pair .a-in)
+        append-if (length flags) offsets (degree flags (pairsOf pairs)) apart flags (on flags (firstOf pairs i)) adjacency scratch (bodyA pairs i) c (d .lists) (λ x h. fit x) (pair .a-in)
         (λ f. more (bodyA pairs i) (clash-a flags (bodyA pairs i) (bodyB pairs i) f)) (omega (arith, inside (bodyA pairs i) (pair .a-in), d .ready .adjacency-length)) (d .ready .scratch-length)
 
-    grown-b : grown flags (on flags (take i (pairsOf pairs))) (bodyA pairs i) c (bodyB pairs i) ≡ on flags (take i (pairsOf pairs)) (bodyB pairs i)
+    grown-b : grown flags (on flags (firstOf pairs i)) (bodyA pairs i) c (bodyB pairs i) ≡ on flags (firstOf pairs i) (bodyB pairs i)
     grown-b = rw (ne-eqb (bodyB pairs i) (bodyA pairs i) (λ e. pair .apart (sym e)), and-false (flagged flags (bodyA pairs i)))
 
-    fit-a : (x : ℕ) → length (grown flags (on flags (take i (pairsOf pairs))) (bodyA pairs i) c x) ≤ degree flags (pairsOf pairs) x
+    fit-a : (x : ℕ) → length (grown flags (on flags (firstOf pairs i)) (bodyA pairs i) c x) ≤ degree flags (pairsOf pairs) x
     fit-a x =
         by-cases (flagged flags (bodyA pairs i) && eqb x (bodyA pairs i))
         (λ e. let same = eqb-true x (bodyA pairs i) (and-right (flagged flags (bodyA pairs i)) (eqb x (bodyA pairs i)) e) in
         rw e (omega (
           arith,
-          length-append (on flags (take i (pairsOf pairs)) x) (c ∷ []),
+          length-append (on flags (firstOf pairs i) x) (c ∷ []),
           more x (ap (λ (y : ℕ). clash flags (y ∷ []) (bodyA pairs i ∷ bodyB pairs i ∷ [])) same
               ∙ clash-a flags (bodyA pairs i) (bodyB pairs i) (and-left (flagged flags (bodyA pairs i)) (eqb x (bodyA pairs i)) e)),
         )))
         (λ e. rw e (fit x))
 
     module _ (adjacency₁ scratch₁ : List ℕ) (scratch₁-is : scratch₁ ≡ nextAfter flags scratch (bodyA pairs i)) (adjacency₁-is : adjacency₁ ≡ listsAfter flags scratch adjacency (bodyA pairs i) c) where
-      lists₁ : Lists (length flags) (grown flags (on flags (take i (pairsOf pairs))) (bodyA pairs i) c) offsets adjacency₁ scratch₁
+      lists₁ : Lists (length flags) (grown flags (on flags (firstOf pairs i)) (bodyA pairs i) c) offsets adjacency₁ scratch₁
       lists₁ = rw (scratch₁-is, adjacency₁-is) lists-a
 
       sized₁ : (length scratch₁ ≡ length scratch) × (length adjacency₁ ≡ length adjacency)
       sized₁ = (ap length scratch₁-is ∙ length-next flags scratch (bodyA pairs i), ap length adjacency₁-is ∙ length-lists flags scratch adjacency (bodyA pairs i) c)
 
-      more-b : flagged flags (bodyB pairs i) ≡ true → length (grown flags (on flags (take i (pairsOf pairs))) (bodyA pairs i) c (bodyB pairs i)) < degree flags (pairsOf pairs) (bodyB pairs i)
+      more-b : flagged flags (bodyB pairs i) ≡ true → length (grown flags (on flags (firstOf pairs i)) (bodyA pairs i) c (bodyB pairs i)) < degree flags (pairsOf pairs) (bodyB pairs i)
       more-b f = omega (arith, ap length grown-b, more (bodyB pairs i) (clash-b flags (bodyA pairs i) (bodyB pairs i) f))
 
       pub room-b : Room flags adjacency₁ scratch₁ (bodyB pairs i)
@@ -199,12 +199,12 @@ module _ {flags pairs offsets adjacency scratch colors stamps : List ℕ} {i k :
             inside = λ f. omega (arith, lists₁ .ends (bodyB pairs i) (pair .b-in), more-b f, inside (bodyB pairs i) (pair .b-in), d .ready .adjacency-length, sized₁ .1);
           }
 
-      lists₂ : Lists (length flags) (on flags (take (i + 1) (pairsOf pairs))) offsets (listsAfter flags scratch₁ adjacency₁ (bodyB pairs i) c) (nextAfter flags scratch₁ (bodyB pairs i))
+      lists₂ : Lists (length flags) (on flags (firstOf pairs (i + 1))) offsets (listsAfter flags scratch₁ adjacency₁ (bodyB pairs i) c) (nextAfter flags scratch₁ (bodyB pairs i))
       lists₂ =
-          lists-same (length flags) (grown flags (grown flags (on flags (take i (pairsOf pairs))) (bodyA pairs i) c) (bodyB pairs i) c) (on flags (take (i + 1) (pairsOf pairs))) offsets
+          lists-same (length flags) (grown flags (grown flags (on flags (firstOf pairs i)) (bodyA pairs i) c) (bodyB pairs i) c) (on flags (firstOf pairs (i + 1))) offsets
           (listsAfter flags scratch₁ adjacency₁ (bodyB pairs i) c) (nextAfter flags scratch₁ (bodyB pairs i))
-          (λ x. grown-pair flags (on flags (take i (pairsOf pairs))) (bodyA pairs i) (bodyB pairs i) c x (pair .apart) ∙ sym (on-next x))
-          (append-if (length flags) offsets (degree flags (pairsOf pairs)) apart flags (grown flags (on flags (take i (pairsOf pairs))) (bodyA pairs i) c) adjacency₁ scratch₁ (bodyB pairs i) c lists₁
+          (λ x. grown-pair flags (on flags (firstOf pairs i)) (bodyA pairs i) (bodyB pairs i) c x (pair .apart) ∙ sym (on-next x))
+          (append-if (length flags) offsets (degree flags (pairsOf pairs)) apart flags (grown flags (on flags (firstOf pairs i)) (bodyA pairs i) c) adjacency₁ scratch₁ (bodyB pairs i) c lists₁
           (λ x h. fit-a x) (pair .b-in) more-b (omega (arith, inside (bodyB pairs i) (pair .b-in), d .ready .adjacency-length, sized₁ .1)) (omega (arith, d .ready .scratch-length, sized₁ .0)))
 
       pub step : (adjacency₂ scratch₂ : List ℕ) (k′ : ℕ) → scratch₂ ≡ nextAfter flags scratch₁ (bodyB pairs i) → adjacency₂ ≡ listsAfter flags scratch₁ adjacency₁ (bodyB pairs i) c
@@ -225,7 +225,7 @@ module _ {flags pairs offsets adjacency scratch colors stamps : List ℕ} {i k :
             lists = rw (scratch₂-is, adjacency₂-is) lists₂;
             colored = rw (add-one i) (take-suc-set colors i c i-in) ∙ ap (λ (cs : List ℕ). cs ++ c ∷ []) (d .colored) ∙ sym colors-next;
             stamped = f .stamped;
-            counted = count-is ∙ ap (λ (n : ℕ). max n (c + 1)) (d .counted) ∙ sym (ap groupCount colors-next ∙ groups-more (colorsOf flags (take i (pairsOf pairs))) c);
+            counted = count-is ∙ ap (λ (n : ℕ). max n (c + 1)) (d .counted) ∙ sym (ap groupCount colors-next ∙ groups-more (colorsOf flags (firstOf pairs i)) c);
           }
 
 -- all constraints are done

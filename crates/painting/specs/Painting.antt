@@ -51,14 +51,14 @@ pub record Summed (n : ℕ) (old offsets scratch : List ℕ) : Type 0 where
 abbrev pub part : ℕ → ℕ → List ℕ → List ℕ
 part start count t = take count (drop start t)
 
--- the neighbors of a constraint, by color: first those on its body a, then those on b; and the place of each
+-- the colors of a constraint's neighbors: first those on its body a, then those on b; and the place of each
 abbrev pub neighbors : ℕ → ℕ → ℕ → ℕ → List ℕ → List ℕ
 neighbors a-start a-count b-start b-count t = part a-start a-count t ++ part b-start b-count t
 
 abbrev pub neighborAt : ℕ → ℕ → ℕ → ℕ → ℕ
 neighborAt a-start a-count b-start number = cond (ltb number a-count) (a-start + number) (b-start + (number - a-count))
 
--- the neighbors are earlier than constraint i, and no stamp is its stamp i + 1
+-- the neighbors of constraint i have colors below i, and no color bears its stamp i + 1 yet
 pub record Fresh (near stamps : List ℕ) (i : ℕ) : Type 0 where
   pub earlier : all (λ c. ltb c i) near ≡ true
   pub stamped : (c : ℕ) → getD stamps c 0 ≤ i
@@ -111,6 +111,10 @@ pub record Room (flags adjacency scratch : List ℕ) (x : ℕ) : Type 0 where
 
 -- ---- constraint by constraint
 
+-- the first i constraints
+abbrev pub firstOf : List ℕ → ℕ → List (List ℕ)
+firstOf pairs i = take i (pairsOf pairs)
+
 -- the colors that the constraints cs have on body x, in list order, if it is dynamic
 abbrev pub on : List ℕ → List (List ℕ) → ℕ → List ℕ
 on flags cs x = usedBy flags cs (colorsOf flags cs) (x ∷ [])
@@ -131,7 +135,7 @@ pub record Lists (nb : ℕ) (held : ℕ → List ℕ) (offsets adjacency scratch
 pub record Done (flags pairs offsets adjacency scratch colors stamps : List ℕ) (i color-count : ℕ) : Type 0 where
   pub ready : Ready flags pairs offsets adjacency scratch colors stamps
   pub starts : (x : ℕ) → x ≤ length flags → getD offsets x 0 ≡ startOf flags (pairsOf pairs) x
-  pub lists : Lists (length flags) (on flags (take i (pairsOf pairs))) offsets adjacency scratch
-  pub colored : take i colors ≡ colorsOf flags (take i (pairsOf pairs))
+  pub lists : Lists (length flags) (on flags (firstOf pairs i)) offsets adjacency scratch
+  pub colored : take i colors ≡ colorsOf flags (firstOf pairs i)
   pub stamped : (c : ℕ) → getD stamps c 0 ≤ i
-  pub counted : color-count ≡ groupCount (colorsOf flags (take i (pairsOf pairs)))
+  pub counted : color-count ≡ groupCount (colorsOf flags (firstOf pairs i))

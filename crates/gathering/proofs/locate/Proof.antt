@@ -1,14 +1,13 @@
+-- `locate`: the positions of the constraints before `constraint` fill the first entries; the measure is the constraints left.
 use borrow.Author.Needs.{needs}
 use native.Mathlib.Omega.{arith}
 use Prim.Native.Nat.{_+_, _-_}
 use lib.ListN.{length, getD}
 use denote.Ref.{now}
-use Rattle.gathering.proofs.Locates.{Locating, locating-none, starts-long, start-end, end-inside, color-below, findable, locating-more, locating-done}
+use Rattle.gathering.proofs.Parts.{starts-long, start-end, end-inside}
+use Rattle.gathering.proofs.Locates.{Locating, locating-none, color-below, findable, locating-more, locating-done}
 use Rattle.gathering.proofs.locate.Statement.{statement}
 use Rattle.gathering.proofs.locate.Tie as tie
-use Rattle.gathering.proofs.locate.Reads as reads
-use Rattle.gathering.proofs.locate.Lts as lts
-use Rattle.gathering.proofs.locate_pair.Reads as locate-pair-reads
 
 abbrev Inv-loop : tie.InvT-loop
 Inv-loop body-count endpoints constraint-colors color-count color-body-offsets color-bodies constraint-body-positions₀ constraint₀ constraint-body-positions constraint =
@@ -18,136 +17,115 @@ abbrev μ-loop : tie.MeasureT-loop
 μ-loop body-count endpoints constraint-colors color-count color-body-offsets color-bodies constraint-body-positions₀ constraint₀ constraint-body-positions constraint =
     length constraint-colors - constraint
 
--- src/lib.rt:174:5
 loop-holds : tie.Need-loop-holds Inv-loop μ-loop
 loop-holds c =
     let s = c .before .before .before .before .before in
     locating-none (s .args .body-count) (now (s .args .endpoints)) (now (s .args .constraint-colors)) (s .args .color-count) (now (s .args .color-body-offsets)) (now (s .args .color-bodies)) (now (s .args .constraint-body-positions)) (s .pre)
 
--- src/lib.rt:175:21
 mul-color : tie.Need-mul-color Inv-loop μ-loop
 mul-color c = search needs
 
--- src/lib.rt:175:21
 shared-slice-read-color : tie.Need-shared-slice-read-color Inv-loop μ-loop
 shared-slice-read-color c = search needs
 
--- src/lib.rt:175:21
 cast-color : tie.Need-cast-color Inv-loop μ-loop
 cast-color c = omega (arith, c .shared-slice-known5 .given (c .before .before .loop .constraint))
 
--- src/lib.rt:176:21
 mul-start : tie.Need-mul-start Inv-loop μ-loop
 mul-start c =
     let l = c .before .before in
     let s = l .before .before .before .before .before .before in
     let k = color-below (s .args .body-count) (now (s .args .endpoints)) (now (s .args .constraint-colors)) (s .args .color-count) (now (s .args .color-body-offsets)) (now (s .args .color-bodies)) (now (s .args .constraint-body-positions)) (s .pre) (l .loop .constraint) (c .before .loop-test .taken) in
-    omega (arith, starts-long (s .args .body-count) (now (s .args .endpoints)) (now (s .args .constraint-colors)) (s .args .color-count) (now (s .args .color-body-offsets)) (now (s .args .color-bodies)) (now (s .args .constraint-body-positions)) (s .pre))
+    omega (arith, starts-long _ (s .args .color-count) (now (s .args .color-body-offsets)) (now (s .args .color-bodies)) (s .pre .starts) (s .pre .bodies))
 
--- src/lib.rt:176:21
 shared-slice-read-start : tie.Need-shared-slice-read-start Inv-loop μ-loop
 shared-slice-read-start c =
     let l = c .before .before .before in
     let s = l .before .before .before .before .before .before in
     let k = color-below (s .args .body-count) (now (s .args .endpoints)) (now (s .args .constraint-colors)) (s .args .color-count) (now (s .args .color-body-offsets)) (now (s .args .color-bodies)) (now (s .args .constraint-body-positions)) (s .pre) (l .loop .constraint) (c .before .before .loop-test .taken) in
-    omega (arith, starts-long (s .args .body-count) (now (s .args .endpoints)) (now (s .args .constraint-colors)) (s .args .color-count) (now (s .args .color-body-offsets)) (now (s .args .color-bodies)) (now (s .args .constraint-body-positions)) (s .pre))
+    omega (arith, starts-long _ (s .args .color-count) (now (s .args .color-body-offsets)) (now (s .args .color-bodies)) (s .pre .starts) (s .pre .bodies))
 
--- src/lib.rt:176:21
 cast-start : tie.Need-cast-start Inv-loop μ-loop
 cast-start c =
     let l = c .before .before .before in
     let s = l .before .before .before .before .before .before in
     omega (arith, c .shared-slice-known6 .given (getD (now (s .args .constraint-colors)) (l .loop .constraint) 0))
 
--- src/lib.rt:177:38
 add-end : tie.Need-add-end Inv-loop μ-loop
 add-end c =
     let l = c .before .before .before in
     let s = l .before .before .before .before .before .before in
     let k = color-below (s .args .body-count) (now (s .args .endpoints)) (now (s .args .constraint-colors)) (s .args .color-count) (now (s .args .color-body-offsets)) (now (s .args .color-bodies)) (now (s .args .constraint-body-positions)) (s .pre) (l .loop .constraint) (c .before .before .loop-test .taken) in
-    omega (arith, starts-long (s .args .body-count) (now (s .args .endpoints)) (now (s .args .constraint-colors)) (s .args .color-count) (now (s .args .color-body-offsets)) (now (s .args .color-bodies)) (now (s .args .constraint-body-positions)) (s .pre))
+    omega (arith, starts-long _ (s .args .color-count) (now (s .args .color-body-offsets)) (now (s .args .color-bodies)) (s .pre .starts) (s .pre .bodies))
 
--- src/lib.rt:177:19
 mul-end : tie.Need-mul-end Inv-loop μ-loop
 mul-end c =
     let l = c .before .before .before in
     let s = l .before .before .before .before .before .before in
     let k = color-below (s .args .body-count) (now (s .args .endpoints)) (now (s .args .constraint-colors)) (s .args .color-count) (now (s .args .color-body-offsets)) (now (s .args .color-bodies)) (now (s .args .constraint-body-positions)) (s .pre) (l .loop .constraint) (c .before .before .loop-test .taken) in
-    omega (arith, starts-long (s .args .body-count) (now (s .args .endpoints)) (now (s .args .constraint-colors)) (s .args .color-count) (now (s .args .color-body-offsets)) (now (s .args .color-bodies)) (now (s .args .constraint-body-positions)) (s .pre))
+    omega (arith, starts-long _ (s .args .color-count) (now (s .args .color-body-offsets)) (now (s .args .color-bodies)) (s .pre .starts) (s .pre .bodies))
 
--- src/lib.rt:177:19
 shared-slice-read-end : tie.Need-shared-slice-read-end Inv-loop μ-loop
 shared-slice-read-end c =
     let l = c .before .before .before .before in
     let s = l .before .before .before .before .before .before in
     let k = color-below (s .args .body-count) (now (s .args .endpoints)) (now (s .args .constraint-colors)) (s .args .color-count) (now (s .args .color-body-offsets)) (now (s .args .color-bodies)) (now (s .args .constraint-body-positions)) (s .pre) (l .loop .constraint) (c .before .before .before .loop-test .taken) in
-    omega (arith, starts-long (s .args .body-count) (now (s .args .endpoints)) (now (s .args .constraint-colors)) (s .args .color-count) (now (s .args .color-body-offsets)) (now (s .args .color-bodies)) (now (s .args .constraint-body-positions)) (s .pre))
+    omega (arith, starts-long _ (s .args .color-count) (now (s .args .color-body-offsets)) (now (s .args .color-bodies)) (s .pre .starts) (s .pre .bodies))
 
--- src/lib.rt:177:19
 cast-end : tie.Need-cast-end Inv-loop μ-loop
 cast-end c =
     let l = c .before .before .before .before in
     let s = l .before .before .before .before .before .before in
     omega (arith, c .shared-slice-known7 .given (getD (now (s .args .constraint-colors)) (l .loop .constraint) 0 + 1))
 
--- src/lib.rt:178:44
 mul-locate-pair : tie.Need-mul-locate-pair Inv-loop μ-loop
 mul-locate-pair c =
     let l = c .before .before .before .before in
     let s = l .before .before .before .before .before .before in
     omega (arith, c .before .shared-slice-known6 .given (getD (now (s .args .constraint-colors)) (l .loop .constraint) 0))
 
--- src/lib.rt:178:44
 sub-locate-pair : tie.Need-sub-locate-pair Inv-loop μ-loop
 sub-locate-pair c =
     let l = c .before .before .before .before in
     let s = l .before .before .before .before .before .before in
     let k = color-below (s .args .body-count) (now (s .args .endpoints)) (now (s .args .constraint-colors)) (s .args .color-count) (now (s .args .color-body-offsets)) (now (s .args .color-bodies)) (now (s .args .constraint-body-positions)) (s .pre) (l .loop .constraint) (c .before .before .before .loop-test .taken) in
-    omega (arith, start-end (s .args .body-count) (now (s .args .endpoints)) (now (s .args .constraint-colors)) (s .args .color-count) (now (s .args .color-body-offsets)) (now (s .args .color-bodies)) (now (s .args .constraint-body-positions)) (s .pre) (getD (now (s .args .constraint-colors)) (l .loop .constraint) 0) k)
+    omega (arith, start-end _ (s .args .color-count) (now (s .args .color-body-offsets)) (now (s .args .color-bodies)) (s .pre .starts) (s .pre .bodies) (getD (now (s .args .constraint-colors)) (l .loop .constraint) 0) k)
 
--- src/lib.rt:178:44
 part-locate-pair-start : tie.Need-part-locate-pair-start Inv-loop μ-loop
 part-locate-pair-start c =
     let l = c .before .before .before .before in
     let s = l .before .before .before .before .before .before in
     let k = color-below (s .args .body-count) (now (s .args .endpoints)) (now (s .args .constraint-colors)) (s .args .color-count) (now (s .args .color-body-offsets)) (now (s .args .color-bodies)) (now (s .args .constraint-body-positions)) (s .pre) (l .loop .constraint) (c .before .before .before .loop-test .taken) in
-    omega (arith, start-end (s .args .body-count) (now (s .args .endpoints)) (now (s .args .constraint-colors)) (s .args .color-count) (now (s .args .color-body-offsets)) (now (s .args .color-bodies)) (now (s .args .constraint-body-positions)) (s .pre) (getD (now (s .args .constraint-colors)) (l .loop .constraint) 0) k)
+    omega (arith, start-end _ (s .args .color-count) (now (s .args .color-body-offsets)) (now (s .args .color-bodies)) (s .pre .starts) (s .pre .bodies) (getD (now (s .args .constraint-colors)) (l .loop .constraint) 0) k)
 
--- src/lib.rt:178:44
 part-locate-pair-end : tie.Need-part-locate-pair-end Inv-loop μ-loop
 part-locate-pair-end c =
     let l = c .before .before .before .before in
     let s = l .before .before .before .before .before .before in
     let k = color-below (s .args .body-count) (now (s .args .endpoints)) (now (s .args .constraint-colors)) (s .args .color-count) (now (s .args .color-body-offsets)) (now (s .args .color-bodies)) (now (s .args .constraint-body-positions)) (s .pre) (l .loop .constraint) (c .before .before .before .loop-test .taken) in
-    omega (arith, end-inside (s .args .body-count) (now (s .args .endpoints)) (now (s .args .constraint-colors)) (s .args .color-count) (now (s .args .color-body-offsets)) (now (s .args .color-bodies)) (now (s .args .constraint-body-positions)) (s .pre) (getD (now (s .args .constraint-colors)) (l .loop .constraint) 0) k)
+    omega (arith, end-inside _ (s .args .color-count) (now (s .args .color-body-offsets)) (now (s .args .color-bodies)) (s .pre .starts) (s .pre .bodies) (getD (now (s .args .constraint-colors)) (l .loop .constraint) 0) k)
 
--- src/lib.rt:178:9
 locate-pair-requires : tie.Need-locate-pair-requires Inv-loop μ-loop
 locate-pair-requires c κs =
     let l = c .before .before .before .before .before .before in
     let s = l .before .before .before .before .before .before in
     findable (s .args .body-count) (now (s .args .endpoints)) (now (s .args .constraint-colors)) (s .args .color-count) (now (s .args .color-body-offsets)) (now (s .args .color-bodies)) (now (s .args .constraint-body-positions)) (s .pre) (l .loop .constraint) (c .before .before .before .before .before .loop-test .taken) (l .loop .constraint-body-positions) (l .loop .inv)
 
--- src/lib.rt:179:9
 add-constraint : tie.Need-add-constraint Inv-loop μ-loop
 add-constraint c = search needs
 
--- src/lib.rt:174:5
 loop-less : tie.Need-loop-less Inv-loop μ-loop
 loop-less c = search needs
 
--- src/lib.rt:174:5
 loop-again : tie.Need-loop-again Inv-loop μ-loop
 loop-again c =
     let l = c .before .before .before .before .before .before .before .before .before in
     let s = l .before .before .before .before .before .before in
     locating-more (s .args .body-count) (now (s .args .endpoints)) (now (s .args .constraint-colors)) (s .args .color-count) (now (s .args .color-body-offsets)) (now (s .args .color-bodies)) (now (s .args .constraint-body-positions)) (s .pre) (l .loop .constraint) (c .before .before .before .before .before .before .before .before .loop-test .taken) (l .loop .constraint-body-positions) (l .loop .inv) _ (c .before .before .locate-pair .ensures)
 
--- src/lib.rt:161:1
 same-length : tie.Need-same-length Inv-loop μ-loop
 same-length c = c .before .loop .inv .size
 
--- src/lib.rt:161:1
 returns : tie.Need-returns Inv-loop μ-loop
 returns c =
     let l = c .before in

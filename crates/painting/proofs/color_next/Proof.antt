@@ -6,6 +6,16 @@ use borrow.Author.Needs.{needs}
 use Rattle.painting.proofs.color_next.Statement.{statement}
 use Rattle.painting.proofs.color_next.Tie as tie
 
+-- the places after each call
+abbrev of-start : tie.After-free-color → tie.Start
+of-start c = c .before .before .before .before .before .before .before .before .before .before .before
+
+abbrev of-color : tie.After-append → tie.After-free-color
+of-color c = c .before .before .before .before .before .before
+
+abbrev of-append : tie.After-append2 → tie.After-append
+of-append c = c .before .before .before .before .before .before .before .before
+
 free-color-requires : tie.Need-free-color-requires
 free-color-requires c κs =
     let s = c .before .before .before .before .before .before .before .before .before .before in
@@ -32,13 +42,13 @@ shared-slice-read-a : tie.Need-shared-slice-read-a
 shared-slice-read-a c = search needs
 
 cast-a : tie.Need-cast-a
-cast-a c = omega (arith, c .shared-slice-known4 .given (2 * c .before .before .before .before .before .before .before .before .before .before .before .before .before .before .args .constraint))
+cast-a c = omega (arith, c .shared-slice-known4 .given (2 * of-start (c .before .before .before) .args .constraint))
 
 cast-append : tie.Need-cast-append
 cast-append c = search needs
 
 append-requires : tie.Need-append-requires
-append-requires c κs = let s = c .before .before .before .before .before .before .before .before .before .before .before .before .before .before .before .before in room-a (s .pre .1) (s .pre .0)
+append-requires c κs = let s = of-start (c .before .before .before .before .before) in room-a (s .pre .1) (s .pre .0)
 
 mul-b : tie.Need-mul-b
 mul-b c = search needs
@@ -53,20 +63,23 @@ shared-slice-read-b : tie.Need-shared-slice-read-b
 shared-slice-read-b c = search needs
 
 cast-b : tie.Need-cast-b
-cast-b c = omega (arith, c .shared-slice-known5 .given (2 * c .before .before .before .before .before .before .before .before .before .before .before .before .before .before .before .before .before .before .before .before .before .before .args .constraint + 1))
+cast-b c = omega (arith, c .shared-slice-known5 .given (2 * of-start (of-color (c .before .before .before .before .before)) .args .constraint + 1))
 
 cast-append-2 : tie.Need-cast-append-2
 cast-append-2 c = search needs
 
 append-requires-2 : tie.Need-append-requires-2
 append-requires-2 c κs =
-    let s = c .before .before .before .before .before .before .before .before .before .before .before .before .before .before .before .before .before .before .before .before .before .before .before .before in
-    let v = c .before .before .before .before .before .before .before .before .before .before .before .before .before .free-color in
-    let p = c .before .before .before .before .before .before .before .append in
-    room-b (s .pre .1) (s .pre .0) _ (v .result) (v .ensures) _ _ (p .ensures .0) (p .ensures .1)
+    let p = c .before .before .before .before .before .before .before in
+    let v = of-color p in
+    let s = of-start v in
+    room-b (s .pre .1) (s .pre .0) _ (v .free-color .result) (v .free-color .ensures) _ _ (p .append .ensures .0) (p .append .ensures .1)
 
 add-larger : tie.Need-add-larger
-add-larger c = let s = c .before .before .before .before .before .before .before .before .before .before .before .before .before .before .before .before .before .before .before .before .before .before .before .before .before .before .before .before .before in omega (arith, c .before .before .before .before .before .before .before .before .before .before .before .before .before .before .before .before .before .before .free-color .ensures .low, s .pre .0, s .pre .1 .ready .few)
+add-larger c =
+    let v = of-color (of-append (c .before .before .before .before)) in
+    let s = of-start v in
+    omega (arith, v .free-color .ensures .low, s .pre .0, s .pre .1 .ready .few)
 
 larger-requires : tie.Need-larger-requires
 larger-requires c κs = search needs
@@ -85,11 +98,12 @@ same-length-4 c = search needs
 
 returns : tie.Need-returns
 returns c =
-    let s = c .before .before .before .before .before .before .before .before .before .before .before .before .before .before .before .before .before .before .before .before .before .before .before .before .before .before .before .before .before .before in
-    let v = c .before .before .before .before .before .before .before .before .before .before .before .before .before .before .before .before .before .before .before .free-color in
-    let p = c .before .before .before .before .before .before .before .before .before .before .before .before .before .append in
-    let q = c .before .before .before .before .before .append2 in
-    step (s .pre .1) (s .pre .0) _ (v .result) (v .ensures) _ _ (p .ensures .0) (p .ensures .1) _ _ _ (q .ensures .0) (q .ensures .1) (c .larger .ensures) (v .kept .1 .1 .1 .1 .0)
+    let q = c .before .before .before .before .before in
+    let p = of-append q in
+    let v = of-color p in
+    let s = of-start v in
+    step (s .pre .1) (s .pre .0) _ (v .free-color .result) (v .free-color .ensures) _ _ (p .append .ensures .0) (p .append .ensures .1) _ _ _
+    (q .append2 .ensures .0) (q .append2 .ensures .1) (c .larger .ensures) (v .free-color .kept .1 .1 .1 .1 .0)
 
 pub color-next-spec : {M : Type 1} → statement M
 color-next-spec =

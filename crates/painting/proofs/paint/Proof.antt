@@ -11,32 +11,47 @@ use borrow.Author.Needs.{needs}
 use Rattle.painting.proofs.paint.Statement.{statement}
 use Rattle.painting.proofs.paint.Tie as tie
 
-clear-requires : tie.Need-clear-requires
-clear-requires c κs = search needs
+-- the places after each call
+abbrev of-start : tie.After-fill → tie.Start
+of-start c = c .before .before .before .before .before .before .before .before .before
 
-clear-requires-2 : tie.Need-clear-requires-2
-clear-requires-2 c κs = search needs
+abbrev of-fill : tie.After-fill2 → tie.After-fill
+of-fill c = c .before .before .before .before
+
+abbrev of-fill2 : tie.After-count-entries → tie.After-fill2
+of-fill2 c = c .before .before .before .before
+
+abbrev of-count : tie.After-sum-offsets → tie.After-count-entries
+of-count c = c .before .before .before .before .before
+
+fill-requires : tie.Need-fill-requires
+fill-requires c κs = search needs
+
+fill-requires-2 : tie.Need-fill-requires-2
+fill-requires-2 c κs = search needs
 
 count-entries-requires : tie.Need-count-entries-requires
 count-entries-requires c κs =
-    let s = c .before .before .before .before .before .before .before .before .before .before .before .before .before .before .before .before in
+    let z = of-fill (c .before .before .before) in
+    let s = of-start z in
     let r = s .pre in (
       entries-in (length (now (s .args .dynamic-bodies))) (length (now (s .args .constraint-colors))) (now (s .args .endpoints)) (r .constraints) (r .sound),
-      (omega (arith, r .constraints, r .few), c .before .before .before .before .before .before .before .clear .ensures ∙ ap (λ (n : ℕ). replicate n 0) (r .offsets-length)),
+      (omega (arith, r .constraints, r .few), z .fill .ensures ∙ ap (λ (n : ℕ). replicate n 0) (r .offsets-length)),
     )
 
 sum-offsets-requires : tie.Need-sum-offsets-requires
 sum-offsets-requires c κs =
-    let s = c .before .before .before .before .before .before .before .before .before .before .before .before .before .before .before .before .before .before .before .before .before in
+    let v = c .before .before .before .before in
+    let z = of-fill (of-fill2 v) in
+    let s = of-start z in
     let r = s .pre in
-    let v = c .before .before .before .before .count-entries in
     let flags = now (s .args .dynamic-bodies) in
     let colors = now (s .args .constraint-colors) in
     let pairs = now (s .args .endpoints) in (
-      (v .kept .1 .1 .0 ∙ c .before .before .before .before .before .before .before .before .before .before .before .before .clear .kept .0 ∙ r .offsets-length, omega (arith, r .scratch-length)),
+      (v .count-entries .kept .1 .1 .0 ∙ z .fill .kept .0 ∙ r .offsets-length, omega (arith, r .scratch-length)),
       omega (
         arith,
-        counts-starts flags (length flags) (length colors) pairs (r .constraints) (r .sound) _ (v .ensures) (length flags) (omega arith),
+        counts-starts flags (length flags) (length colors) pairs (r .constraints) (r .sound) _ (v .count-entries .ensures) (length flags) (omega arith),
         starts-le flags (length flags) (length colors) pairs (r .constraints) (r .sound) (length flags),
         r .constraints,
         r .few,
@@ -45,23 +60,24 @@ sum-offsets-requires c κs =
 
 color-constraints-requires : tie.Need-color-constraints-requires
 color-constraints-requires c κs =
-    let s = c .before .before .before .before .before .before .before .before .before .before .before .before .before .before .before .before .before .before .before .before .before .before .before .before .before .before .before .before .before .before .before in
+    let w = c .before .before .before .before .before .before .before .before .before in
+    let v = of-count w in
+    let y = of-fill2 v in
+    let z = of-fill y in
+    let s = of-start z in
     let r = s .pre in
-    let v = c .before .before .before .before .before .before .before .before .before .before .before .before .before .before .count-entries in
-    let w = c .before .before .before .before .before .before .before .before .before .sum-offsets in
-    let z = c .before .before .before .before .before .before .before .before .before .before .before .before .before .before .before .before .before .before .clear2 in
     none-done (length (now (s .args .color-stamps)))
     (record {
       bodies = r .bodies;
       constraints = r .constraints;
       few = r .few;
       sound = r .sound;
-      offsets-length = w .kept .0 ∙ v .kept .1 .1 .0 ∙ c .before .before .before .before .before .before .before .before .before .before .before .before .before .before .before .before .before .before .before .before .before .before .clear .kept .0 ∙ r .offsets-length;
+      offsets-length = w .sum-offsets .kept .0 ∙ v .count-entries .kept .1 .1 .0 ∙ z .fill .kept .0 ∙ r .offsets-length;
       adjacency-length = r .adjacency-length;
-      scratch-length = omega (arith, w .kept .1 .0, r .scratch-length);
-      stamps-length = omega (arith, z .kept .0, r .stamps-length);
+      scratch-length = omega (arith, w .sum-offsets .kept .1 .0, r .scratch-length);
+      stamps-length = omega (arith, y .fill2 .kept .0, r .stamps-length);
     })
-    (v .ensures) (w .ensures) (z .ensures)
+    (v .count-entries .ensures) (w .sum-offsets .ensures) (y .fill2 .ensures)
 
 same-length : tie.Need-same-length
 same-length c = search needs
@@ -85,8 +101,8 @@ pub paint-spec : {M : Type 1} → statement M
 paint-spec =
     tie.close
     (tie.spec
-    clear-requires
-    clear-requires-2
+    fill-requires
+    fill-requires-2
     count-entries-requires
     sum-offsets-requires
     color-constraints-requires
