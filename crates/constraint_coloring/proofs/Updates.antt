@@ -16,11 +16,11 @@ use Rattle.constraint_coloring.specs.declared.ConstraintColoring.{Constr
 use Rattle.constraint_coloring.specs.declared.Update.{Update}
 use Rattle.constraint_coloring.specs.declared.Update.the-variants.{Changed, Unchanged, Refused}
 
-written-not : (b : Bool) (new old : List ℕ) → b ≡ false → old ≡ written b new old
+pub written-not : (b : Bool) (new old : List ℕ) → b ≡ false → old ≡ written b new old
 unfolding written
 written-not b new old e = rw e
 
-written-new : (b : Bool) (new old : List ℕ) → b ≡ true → over new old ≡ written b new old
+pub written-new : (b : Bool) (new old : List ℕ) → b ≡ true → over new old ≡ written b new old
 unfolding written
 written-new b new old e = rw e
 

@@ -2,3 +2,4 @@ pub mod Accepted
 pub mod Plans
 pub mod Groups
 pub mod Condition3
+pub mod Samples

@@ -7,7 +7,7 @@ use Rattle.island.specs.Calls.{islandRefusal}
 use Rattle.groups.specs.Groups.{planOf}
 use Rattle.colored_bodies.specs.declared.BodyBinding.{BodyBinding}
 use Rattle.colored_bodies.specs.Bindings.{bindOf, takeOf}
-use Rattle.frame_run.specs.Print.{printOf}
+use Rattle.schedules.specs.Print.{printOf}
 
 -- what a sample asks: an islands call (types, pairs, joints, enabled bytes), a coloring (types, pairs), takes one after another
 -- (types, bodies, position pairs), the print of a file
