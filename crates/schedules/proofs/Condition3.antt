@@ -195,7 +195,7 @@ same-calls p q ns i k e b (r ∷ rs) =
     let c : Call = record { island = i; group = k; constraint = getD ns r 0; refusal = t .refusal; handed = t .handed } in
     rw (e b r) (ap (λ (cs : List Call). c ∷ cs) (same-calls p q ns i k e (t .after) rs))
 
-join-ext : {A : Type 0} (g h : ℕ → List A) (xs : List ℕ) → ((x : ℕ) → mem x xs ≡ true → g x ≡ h x) → joinMap g xs ≡ joinMap h xs
+pub join-ext : {A : Type 0} (g h : ℕ → List A) (xs : List ℕ) → ((x : ℕ) → mem x xs ≡ true → g x ≡ h x) → joinMap g xs ≡ joinMap h xs
 join-ext g h [] e = refl
 join-ext g h (x ∷ xs) e = ap₂ _++_ (e x (mem-self x xs)) (join-ext g h xs (λ y m. e y (or-right (eqb y x) (mem y xs) m)))
 
