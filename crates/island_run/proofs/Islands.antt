@@ -1,8 +1,8 @@
 -- The plan as it stands after the update of an island hands back what the definition's plan does, so its groups make the same takes.
-use Prim.Native.Nat.{ℕ, _*_, _/_, _≤_, _<_}
-use mathlib.Core.Path.{_≡_, refl, sym, ap, _∙_}
-use mathlib.Core.Bool.{Bool, true}
-use mathlib.Core.List.{List, []}
+use Prim.Native.Nat.{ℕ, _/_, _≤_, _<_}
+use mathlib.Core.Path.{_≡_, sym, ap, _∙_}
+use mathlib.Core.Bool.{true}
+use mathlib.Core.List.{List}
 use native.Mathlib.Omega.{arith}
 use lib.ListN.{length}
 use Rattle.lists.specs.Basics.{joinMap, range}
@@ -11,7 +11,7 @@ use Rattle.groups.specs.Groups.{Plan, pairsOf, colorsOf, groupCount, planOf}
 use Rattle.groups.proofs.Colors.{colors-length, group-not-empty}
 use Rattle.constraint_coloring.specs.declared.ConstraintColoring.{ConstraintColoring}
 use Rattle.constraint_coloring.specs.declared.Update.{Update}
-use Rattle.constraint_coloring.specs.Plans.{Tables, roomy, updateRefusal, fresh, planFor}
+use Rattle.constraint_coloring.specs.Plans.{Tables, fresh, planFor}
 use Rattle.constraint_coloring.specs.Calls.{freshPlan, planAfter, refusalWith, Updated}
 use Rattle.constraint_coloring.proofs.Memory.{remembers}
 use Rattle.schedules.specs.Runs.{membersIn, bodiesIn, takeRank}

@@ -11,6 +11,7 @@ use Rattle.constraint_coloring.specs.Plans.{Tables, roomy, updateRefusal, fresh
 use Rattle.schedules.specs.Runs.{Call}
 use Rattle.island_numbers.specs.Numbers.{Labels, byIsland, pairsAmong}
 use Rattle.group_run.specs.Appends.{planCalls}
+use Rattle.group_run.specs.declared.Tally.{Tally}
 
 -- the constraints `ns` of island i are colored on a fresh plan with these flags, and its groups taken in order
 unfoldable pub islandCalls : List ℕ → List ℕ → List ℕ → ℕ → List ℕ → List Call
@@ -26,3 +27,16 @@ pub record Ready (flags pairs ns island-pairs : List ℕ) (t : Tables) : Type 0 
   pub accepted : updateRefusal flags (pairsAmong pairs ns) true ≡ 0
   pub room : length island-pairs ≡ 2 * length ns
   pub tables : roomy (length flags) (length ns) t ≡ true
+
+-- all islands can be run: their numbers are sorted, and so is each island
+pub record Prepared (islands : ℕ) (flags pairs ls ns island-pairs : List ℕ) (t : Tables) : Type 0 where
+  pub labels : Labels islands ls
+  pub numbers : ns ≡ byIsland islands ls
+  pub paired : 2 * length ls ≤ length pairs
+  pub accepted : (i : ℕ) → i < islands → updateRefusal flags (pairsAmong pairs (members ls i)) true ≡ 0
+  pub room : 2 * length ls ≤ length island-pairs
+  pub tables : roomy (length flags) (length ls) t ≡ true
+
+-- nothing is taken yet
+abbrev pub none : Tally
+none = record { place = 0; takes = 0 }
