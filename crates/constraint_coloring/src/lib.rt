@@ -31,29 +31,6 @@ pub enum Positions {
     Refused(u8),
 }
 
-// The part of a table from `start` to `end`; empty if these don't lie in order inside it.
-fn part_of<'a>(table: &'a [u16], start: usize, end: usize) -> &'a [u16]
-    ensures { λ r. ⌜ now r ≡ part start end (now (table .entry)) ⌝ }
-{
-    if (start <= end) & (end <= table.len()) {
-        return &table[start..end];
-    }
-    &table[0..0]
-}
-
-// The part of a group; empty if there is no such group or its offsets are missing.
-fn group_part<'a>(color_count: usize, offsets: &[u16], table: &'a [u16], group: usize) -> &'a [u16]
-    ensures { λ r. ⌜ now r ≡ groupPart «color_count» (now (offsets .entry)) (now (table .entry)) group ⌝ }
-{
-    if color_count <= group {
-        return &table[0..0];
-    }
-    if offsets.len() <= group + 1 {
-        return &table[0..0];
-    }
-    part_of(table, offsets[group] as usize, offsets[group + 1] as usize)
-}
-
 // Question 6: is there room for `b` bodies and `c` constraints in tables of these lengths?
 fn roomy(
     b: usize,
@@ -117,6 +94,7 @@ fn update_refusal(dynamic_bodies: &[u8], endpoints: &[u16], room: bool) -> u8
     0
 }
 
+// Whether two lists of flags are the same, place by place.
 fn same_flags(a: &[u8], b: &[u8]) -> bool
     requires { ⌜ length (now b) ≡ length (now a) ⌝ }
     ensures { λ r. ⌜ r ≡ same (now (a .entry)) (now (b .entry)) ⌝ }
@@ -131,6 +109,7 @@ fn same_flags(a: &[u8], b: &[u8]) -> bool
     true
 }
 
+// The same of endpoint pairs.
 fn same_pairs(a: &[u16], b: &[u16]) -> bool
     requires { ⌜ length (now b) ≡ length (now a) ⌝ }
     ensures { λ r. ⌜ r ≡ same (now (a .entry)) (now (b .entry)) ⌝ }
@@ -145,6 +124,7 @@ fn same_pairs(a: &[u16], b: &[u16]) -> bool
     true
 }
 
+// Flags over the first places of a table.
 fn copy_flags(from: &[u8], to: &mut [u8])
     requires { ⌜ length (now from) ≤ length (now to) ⌝ }
     ensures { λ _. ⌜ now (to .exit) ≡ over (now (from .entry)) (now (to .entry)) ⌝ }
@@ -156,6 +136,7 @@ fn copy_flags(from: &[u8], to: &mut [u8])
     }
 }
 
+// The same of endpoint pairs.
 fn copy_pairs(from: &[u16], to: &mut [u16])
     requires { ⌜ length (now from) ≤ length (now to) ⌝ }
     ensures { λ _. ⌜ now (to .exit) ≡ over (now (from .entry)) (now (to .entry)) ⌝ }
@@ -234,41 +215,106 @@ fn rebuild(
     color_bodies: &mut [u16],
     constraint_body_positions: &mut [u16],
 ) -> ConstraintColoring
-    requires { ⌜ refusalWith (record { dynamic-bodies = now «dynamic_bodies»; endpoints = now endpoints; body-offsets = now «body_offsets»; body-constraints = now «body_constraints»; scratch-offsets = now «scratch_offsets»; constraint-colors = now «constraint_colors»; color-stamps = now «color_stamps»; body-stamps = now «body_stamps»; color-offsets = now «color_offsets»; colored-constraints = now «colored_constraints»; color-body-offsets = now «color_body_offsets»; color-bodies = now «color_bodies»; constraint-body-positions = now «constraint_body_positions» }) (now flags) (now pairs) ≡ 0 ⌝ }
-    ensures { λ r. ⌜ Rebuilt (now (flags .entry)) (now (pairs .entry)) (record { dynamic-bodies = now («dynamic_bodies» .entry); endpoints = now (endpoints .entry); body-offsets = now («body_offsets» .entry); body-constraints = now («body_constraints» .entry); scratch-offsets = now («scratch_offsets» .entry); constraint-colors = now («constraint_colors» .entry); color-stamps = now («color_stamps» .entry); body-stamps = now («body_stamps» .entry); color-offsets = now («color_offsets» .entry); colored-constraints = now («colored_constraints» .entry); color-body-offsets = now («color_body_offsets» .entry); color-bodies = now («color_bodies» .entry); constraint-body-positions = now («constraint_body_positions» .entry) }) (record { dynamic-bodies = now («dynamic_bodies» .exit); endpoints = now (endpoints .exit); body-offsets = now («body_offsets» .exit); body-constraints = now («body_constraints» .exit); scratch-offsets = now («scratch_offsets» .exit); constraint-colors = now («constraint_colors» .exit); color-stamps = now («color_stamps» .exit); body-stamps = now («body_stamps» .exit); color-offsets = now («color_offsets» .exit); colored-constraints = now («colored_constraints» .exit); color-body-offsets = now («color_body_offsets» .exit); color-bodies = now («color_bodies» .exit); constraint-body-positions = now («constraint_body_positions» .exit) }) r ⌝ }
+    requires { ⌜ refusalWith (record {
+      dynamic-bodies = now «dynamic_bodies»;
+      endpoints = now endpoints;
+      body-offsets = now «body_offsets»;
+      body-constraints = now «body_constraints»;
+      scratch-offsets = now «scratch_offsets»;
+      constraint-colors = now «constraint_colors»;
+      color-stamps = now «color_stamps»;
+      body-stamps = now «body_stamps»;
+      color-offsets = now «color_offsets»;
+      colored-constraints = now «colored_constraints»;
+      color-body-offsets = now «color_body_offsets»;
+      color-bodies = now «color_bodies»;
+      constraint-body-positions = now «constraint_body_positions»;
+    }) (now flags) (now pairs) ≡ 0 ⌝ }
+    ensures { λ r. ⌜ Rebuilt (now (flags .entry)) (now (pairs .entry)) (record {
+      dynamic-bodies = now («dynamic_bodies» .entry);
+      endpoints = now (endpoints .entry);
+      body-offsets = now («body_offsets» .entry);
+      body-constraints = now («body_constraints» .entry);
+      scratch-offsets = now («scratch_offsets» .entry);
+      constraint-colors = now («constraint_colors» .entry);
+      color-stamps = now («color_stamps» .entry);
+      body-stamps = now («body_stamps» .entry);
+      color-offsets = now («color_offsets» .entry);
+      colored-constraints = now («colored_constraints» .entry);
+      color-body-offsets = now («color_body_offsets» .entry);
+      color-bodies = now («color_bodies» .entry);
+      constraint-body-positions = now («constraint_body_positions» .entry);
+    }) (record {
+      dynamic-bodies = now («dynamic_bodies» .exit);
+      endpoints = now (endpoints .exit);
+      body-offsets = now («body_offsets» .exit);
+      body-constraints = now («body_constraints» .exit);
+      scratch-offsets = now («scratch_offsets» .exit);
+      constraint-colors = now («constraint_colors» .exit);
+      color-stamps = now («color_stamps» .exit);
+      body-stamps = now («body_stamps» .exit);
+      color-offsets = now («color_offsets» .exit);
+      colored-constraints = now («colored_constraints» .exit);
+      color-body-offsets = now («color_body_offsets» .exit);
+      color-bodies = now («color_bodies» .exit);
+      constraint-body-positions = now («constraint_body_positions» .exit);
+    }) r ⌝ }
 {
-    let b = flags.len();
-    let c = pairs.len() / 2;
+    let body_count = flags.len();
+    let constraint_count = pairs.len() / 2;
     copy_flags(flags, dynamic_bodies);
     copy_pairs(pairs, endpoints);
     let color_count = painting::paint(
         flags,
         pairs,
-        &mut body_offsets[..b + 1],
+        &mut body_offsets[..body_count + 1],
         body_constraints,
         scratch_offsets,
-        &mut constraint_colors[..c],
-        &mut color_stamps[..c],
+        &mut constraint_colors[..constraint_count],
+        &mut color_stamps[..constraint_count],
     );
     let largest = list_groups(
-        b,
+        body_count,
         pairs,
-        &constraint_colors[..c],
+        &constraint_colors[..constraint_count],
         color_count,
         scratch_offsets,
-        &mut body_stamps[..b],
+        &mut body_stamps[..body_count],
         &mut color_offsets[..color_count + 1],
-        &mut colored_constraints[..c],
+        &mut colored_constraints[..constraint_count],
         &mut color_body_offsets[..color_count + 1],
-        &mut color_bodies[..2 * c],
-        &mut constraint_body_positions[..2 * c],
+        &mut color_bodies[..2 * constraint_count],
+        &mut constraint_body_positions[..2 * constraint_count],
     );
     ConstraintColoring {
-        body_count: b,
-        constraint_count: c,
+        body_count: body_count,
+        constraint_count: constraint_count,
         color_count: color_count,
         max_color_constraint_count: largest,
     }
+}
+
+// The part of a table from `start` to `end`; empty if these don't lie in order inside it.
+fn part_of<'a>(table: &'a [u16], start: usize, end: usize) -> &'a [u16]
+    ensures { λ r. ⌜ now r ≡ part start end (now (table .entry)) ⌝ }
+{
+    if (start <= end) & (end <= table.len()) {
+        return &table[start..end];
+    }
+    &table[0..0]
+}
+
+// The part of a group; empty if there is no such group or its offsets are missing.
+fn group_part<'a>(color_count: usize, offsets: &[u16], table: &'a [u16], group: usize) -> &'a [u16]
+    ensures { λ r. ⌜ now r ≡ groupPart «color_count» (now (offsets .entry)) (now (table .entry)) group ⌝ }
+{
+    if color_count <= group {
+        return &table[0..0];
+    }
+    if offsets.len() <= group + 1 {
+        return &table[0..0];
+    }
+    part_of(table, offsets[group] as usize, offsets[group + 1] as usize)
 }
 
 impl ConstraintColoring {
@@ -328,7 +374,35 @@ impl ConstraintColoring {
         color_bodies: &mut [u16],
         constraint_body_positions: &mut [u16],
     ) -> Update
-        ensures { λ r. ⌜ Updated self (now («dynamic_bodies_in» .entry)) (now («endpoints_in» .entry)) (record { dynamic-bodies = now («dynamic_bodies» .entry); endpoints = now (endpoints .entry); body-offsets = now («body_offsets» .entry); body-constraints = now («body_constraints» .entry); scratch-offsets = now («scratch_offsets» .entry); constraint-colors = now («constraint_colors» .entry); color-stamps = now («color_stamps» .entry); body-stamps = now («body_stamps» .entry); color-offsets = now («color_offsets» .entry); colored-constraints = now («colored_constraints» .entry); color-body-offsets = now («color_body_offsets» .entry); color-bodies = now («color_bodies» .entry); constraint-body-positions = now («constraint_body_positions» .entry) }) (record { dynamic-bodies = now («dynamic_bodies» .exit); endpoints = now (endpoints .exit); body-offsets = now («body_offsets» .exit); body-constraints = now («body_constraints» .exit); scratch-offsets = now («scratch_offsets» .exit); constraint-colors = now («constraint_colors» .exit); color-stamps = now («color_stamps» .exit); body-stamps = now («body_stamps» .exit); color-offsets = now («color_offsets» .exit); colored-constraints = now («colored_constraints» .exit); color-body-offsets = now («color_body_offsets» .exit); color-bodies = now («color_bodies» .exit); constraint-body-positions = now («constraint_body_positions» .exit) }) r ⌝ }
+        ensures { λ r. ⌜ Updated self (now («dynamic_bodies_in» .entry)) (now («endpoints_in» .entry)) (record {
+          dynamic-bodies = now («dynamic_bodies» .entry);
+          endpoints = now (endpoints .entry);
+          body-offsets = now («body_offsets» .entry);
+          body-constraints = now («body_constraints» .entry);
+          scratch-offsets = now («scratch_offsets» .entry);
+          constraint-colors = now («constraint_colors» .entry);
+          color-stamps = now («color_stamps» .entry);
+          body-stamps = now («body_stamps» .entry);
+          color-offsets = now («color_offsets» .entry);
+          colored-constraints = now («colored_constraints» .entry);
+          color-body-offsets = now («color_body_offsets» .entry);
+          color-bodies = now («color_bodies» .entry);
+          constraint-body-positions = now («constraint_body_positions» .entry);
+        }) (record {
+          dynamic-bodies = now («dynamic_bodies» .exit);
+          endpoints = now (endpoints .exit);
+          body-offsets = now («body_offsets» .exit);
+          body-constraints = now («body_constraints» .exit);
+          scratch-offsets = now («scratch_offsets» .exit);
+          constraint-colors = now («constraint_colors» .exit);
+          color-stamps = now («color_stamps» .exit);
+          body-stamps = now («body_stamps» .exit);
+          color-offsets = now («color_offsets» .exit);
+          colored-constraints = now («colored_constraints» .exit);
+          color-body-offsets = now («color_body_offsets» .exit);
+          color-bodies = now («color_bodies» .exit);
+          constraint-body-positions = now («constraint_body_positions» .exit);
+        }) r ⌝ }
     {
         let room = roomy(
             dynamic_bodies_in.len(),
