@@ -225,7 +225,7 @@ pub fn decode_enabled(bytes: &[u8], from: usize, enabled: &mut [u8])
 }
 
 // Whether constraint `i` is live: it has no enabled byte, or a byte 1.
-fn live_at(enabled: &[u8], i: usize) -> bool
+pub fn live_at(enabled: &[u8], i: usize) -> bool
     ensures { λ r. ⌜ r ≡ eqb (getD (now (enabled .entry)) i 1) 1 ⌝ }
 {
     if i < enabled.len() {
@@ -235,7 +235,7 @@ fn live_at(enabled: &[u8], i: usize) -> bool
 }
 
 // Question 7 of one constraint.
-fn sound_one(bodies: usize, live: bool, a: u16, b: u16) -> bool
+pub fn sound_one(bodies: usize, live: bool, a: u16, b: u16) -> bool
     ensures { λ r. ⌜ r ≡ sound bodies (constraint live a b) ⌝ }
 {
     if !live {

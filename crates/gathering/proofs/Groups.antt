@@ -15,7 +15,8 @@ use Rattle.lists.proofs.Sums.{sum-le, sum-ext, sum-swap, length-filter}
 use Rattle.lists.proofs.Laws.{all-intro, filter-mem, range-high, length-range, at-most-one, sum-one}
 use Rattle.groups.specs.Groups.{members, groupBodies, flatten, offsets}
 use Rattle.gathering.specs.Gathers.{bodiesOf, bodiesIn, Fresh, Listed, Gatherable, Gathered}
-use Rattle.gathering.proofs.Ranges.{length-joinMap, map-range-suc, flatten-zero, flatten-suc, start-suc}
+use Rattle.lists.proofs.Ranges.{length-joinMap, map-range-suc}
+use Rattle.groups.proofs.Tables.{flatten-zero, flatten-suc, start-suc}
 use Rattle.gathering.proofs.Parts.{partOf, part-is}
 use Rattle.gathering.proofs.Pairs.{bodies-few}
 

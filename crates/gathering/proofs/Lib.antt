@@ -1,4 +1,3 @@
-pub mod Ranges
 pub mod Parts
 pub mod Pairs
 pub mod Stamps

@@ -14,7 +14,7 @@ use Rattle.lists.specs.Basics.{any, all, range, mem, place, rises}
 use Rattle.lists.proofs.Laws.{and-left, and-right, all-in, all-intro, any-in, mem-filter, in-range, length-range, filter-length-le, max-in, getD-mem, place-lt, rises-filter}
 use Rattle.groups.specs.Groups.{pairsOf, groupCount, members, groupBodies, positions, flatten}
 use Rattle.gathering.specs.Gathers.{bodiesIn, Findable, Locatable}
-use Rattle.gathering.proofs.Ranges.{flatten-zero, flatten-suc}
+use Rattle.groups.proofs.Tables.{flatten-zero, flatten-suc}
 use Rattle.gathering.proofs.Pairs.{pairs-at, pair-all}
 use Rattle.gathering.proofs.Parts.{partOf, part-is}
 

@@ -12,7 +12,7 @@ use Rattle.lists.proofs.Sums.{sum-le, sum-swap, length-filter}
 use Rattle.lists.proofs.Laws.{and-left, and-right, and-both, all-in, getD-mem, one-any, at-most-one, sum-one}
 use Rattle.groups.specs.Groups.{pairsOf}
 use Rattle.gathering.specs.Gathers.{endsOf, bodiesOf}
-use Rattle.gathering.proofs.Ranges.{filter-ext-in}
+use Rattle.lists.proofs.Ranges.{filter-ext-in}
 
 pub pairs-at : (e : List ℕ) (r : ℕ) → 2 * r + 1 < length e → getD (pairsOf e) r [] ≡ getD e (2 * r) 0 ∷ getD e (2 * r + 1) 0 ∷ []
 pairs-at [] r h = absurd (omega arith)

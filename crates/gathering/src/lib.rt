@@ -9,19 +9,8 @@ ghost use Rattle.lists.specs.Basics.{sorted, place};
 ghost use Rattle.groups.specs.Groups.{pairsOf, positions, flatten};
 ghost use Rattle.gathering.specs.Gathers.{endsOf, stamped, Noted, Notable, Fresh, Listed, Gatherable, Gathered, Findable, Locatable};
 
-// A part with at least one of so many bodies is collected anew, and a shorter one sorted.
+// A part that holds a sixteenth of all bodies or more is collected anew, and a shorter one sorted.
 const LONG: usize = 16;
-
-// Every place becomes 0.
-fn clear(table: &mut [u16])
-    ensures { λ _. ⌜ now (table .exit) ≡ replicate (length (now (table .entry))) 0 ⌝ }
-{
-    let mut i = 0;
-    while i < table.len() {
-        table[i] = 0;
-        i += 1;
-    }
-}
 
 // A body with another stamp gets this one and is appended.
 fn note(
@@ -159,7 +148,7 @@ pub fn gather(
     requires { ⌜ Gatherable «body_count» (now endpoints) (now «constraint_colors») «color_count» (now «color_offsets») (now «colored_constraints») (now «body_stamps») (now «scratch_offsets») (now «color_body_offsets») (now «color_bodies») ⌝ }
     ensures { λ _. ⌜ Gathered «body_count» (now (endpoints .entry)) (now («constraint_colors» .entry)) «color_count» (now («color_body_offsets» .exit)) (now («color_bodies» .entry)) (now («color_bodies» .exit)) ⌝ }
 {
-    clear(body_stamps);
+    tables::fill(body_stamps, 0);
     color_body_offsets[0] = 0;
     let mut end = 0;
     let mut color = 0;

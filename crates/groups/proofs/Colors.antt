@@ -11,8 +11,8 @@ use lib.Seq.{getD-at}
 use borrow.Author.Tests.{eqb-true, eqb-false, ltb-true, ltb-false, leb-true}
 use Rattle.lists.specs.Basics.{one, any, all, sumOf, maxOf, count, mem}
 use Rattle.lists.proofs.Sums.{sum-swap, sum-le, sum-append, sum-times, sum-zero}
-use Rattle.lists.proofs.Laws.{and-left, and-right, and-both, or-right, clashes, by-cases, not-true-false, one-any, any-in, any-out, mem-self, sum-le-in, sum-one, pigeonhole}
-use Rattle.groups.specs.Groups.{flagged, clash, freeFrom, free, usedBy, colorFrom, colorsOf}
+use Rattle.lists.proofs.Laws.{or-left, or-cases, and-left, and-right, and-both, or-right, clashes, by-cases, not-true-false, one-any, any-in, any-out, mem-self, sum-le-in, sum-one, pigeonhole}
+use Rattle.groups.specs.Groups.{groupCount, flagged, clash, freeFrom, free, usedBy, colorFrom, colorsOf}
 
 -- ---- the least free number
 freeFrom-le : (d c : ℕ) (used : List ℕ) → freeFrom d c used ≤ c + d
@@ -178,3 +178,48 @@ free-unique used c no-c below =
     (λ l. by-cases (ltb c (free used))
     (λ m. clashes (mem c used) (free-least used c (ltb-true c (free used) m)) no-c)
     (λ m. omega (arith, ltb-false (free used) c l, ltb-false c (free used) m)))
+
+-- ---- no color is left out, so a real group is never empty
+used-in : (flag : List ℕ) (done : List (List ℕ)) (colors bs : List ℕ) (x : ℕ) → mem x (usedBy flag done colors bs) ≡ true → mem x colors ≡ true
+unfolding usedBy
+used-in flag [] colors bs x h = clashes false h refl
+used-in flag (xs ∷ xss) [] bs x h = clashes false h refl
+used-in flag (xs ∷ xss) (c ∷ cs) bs x h = by-cases (clash flag bs xs)
+    (λ e. or-cases (eqb x c) (mem x (usedBy flag xss cs bs)) (rw e at h) (λ q. or-left (eqb x c) (mem x cs) q) (λ k. or-right (eqb x c) (mem x cs) (used-in flag xss cs bs x k)))
+    (λ e. or-right (eqb x c) (mem x cs) (used-in flag xss cs bs x (rw e at h)))
+
+mem-snoc : (x c : ℕ) (xs : List ℕ) → mem x xs ≡ true → mem x (xs ++ c ∷ []) ≡ true
+mem-snoc x c [] h = clashes false h refl
+mem-snoc x c (y ∷ ys) h = or-cases (eqb x y) (mem x ys) h (λ q. or-left (eqb x y) (mem x (ys ++ c ∷ [])) q) (λ k. or-right (eqb x y) (mem x (ys ++ c ∷ [])) (mem-snoc x c ys k))
+
+mem-last : (c : ℕ) (xs : List ℕ) → mem c (xs ++ c ∷ []) ≡ true
+mem-last c [] = mem-self c []
+mem-last c (y ∷ ys) = or-right (eqb c y) (mem c (ys ++ c ∷ [])) (mem-last c ys)
+
+-- every number below the count is a color
+Whole : List ℕ → Type 0
+Whole colors = (k : ℕ) → k < maxOf suc colors → mem k colors ≡ true
+
+max-snoc-le : (xs : List ℕ) (c k : ℕ) → k < maxOf suc (xs ++ c ∷ []) → maxOf suc xs ≤ k → k ≤ c
+max-snoc-le [] c k h l = omega arith
+max-snoc-le (x ∷ xs) c k h l = by-cases (ltb k (maxOf suc (xs ++ c ∷ [])))
+    (λ e. max-snoc-le xs c k (ltb-true k (maxOf suc (xs ++ c ∷ [])) e) (omega arith))
+    (λ e. absurd (omega (arith, ltb-false k (maxOf suc (xs ++ c ∷ [])) e)))
+
+whole-from : (flag : List ℕ) (done : List (List ℕ)) (colors : List ℕ) (rest : List (List ℕ)) → Whole colors → Whole (colorFrom flag done colors rest)
+unfolding colorFrom Whole
+whole-from flag done colors [] h = h
+whole-from flag done colors (bs ∷ rest) h =
+    let used = usedBy flag done colors bs in
+    let c = free used in
+    whole-from flag (done ++ bs ∷ []) (colors ++ c ∷ []) rest
+    (λ k l. by-cases (ltb k (maxOf suc colors))
+      (λ e. mem-snoc k c colors (h k (ltb-true k (maxOf suc colors) e)))
+      (λ e. by-cases (eqb k c)
+        (λ q. ap (λ (n : ℕ). mem n (colors ++ c ∷ [])) (eqb-true k c q) ∙ mem-last c colors)
+        (λ q. let le = max-snoc-le colors c k l (ltb-false k (maxOf suc colors) e) in
+          mem-snoc k c colors (used-in flag done colors bs k (free-least used k (omega (arith, eqb-false k c q)))))))
+
+pub group-not-empty : (flag : List ℕ) (cs : List (List ℕ)) (k : ℕ) → k < groupCount (colorsOf flag cs) → mem k (colorsOf flag cs) ≡ true
+unfolding groupCount colorsOf Whole
+group-not-empty flag cs k h = whole-from flag [] [] cs (λ i l. absurd (omega arith)) k h

@@ -3,21 +3,15 @@
 use Prim.Native.Nat.{ℕ, zero, suc, _+_, _≤_, _<_}
 use native.Mathlib.Omega.{arith}
 use native.Mathlib.Decide.{ℕ-discrete, decLt}
-use native.Mathlib.Nat.{add-zero}
-use mathlib.Core.Path.{_≡_, ap}
+use mathlib.Core.Path.{_≡_, ap, _∙_}
 use mathlib.Core.Bool.{Bool, true, false}
-use Rattle.lists.specs.Basics.{one, sumOf, count, rangeFrom, range}
-
-sum-next : (g : ℕ → ℕ) (a n : ℕ) → sumOf g (rangeFrom a (suc n)) ≡ sumOf g (rangeFrom a n) + g (a + n)
-sum-next g a zero = omega (arith, ap g (add-zero a))
-sum-next g a (suc n) =
-    let e : suc a + n ≡ a + suc n = omega arith in
-    omega (arith, sum-next g (suc a) n, ap g e)
+use mathlib.Core.List.{[], _∷_}
+use Rattle.lists.specs.Basics.{one, count, range}
+use Rattle.lists.proofs.Sums.{sum-append}
+use Rattle.lists.proofs.Ranges.{range-snoc}
 
 pub count-next : (p : ℕ → Bool) (n : ℕ) → count p (range (suc n)) ≡ count p (range n) + one (p n)
-count-next p n =
-    let e : 0 + n ≡ n = omega arith in
-    omega (arith, sum-next (λ x. one (p x)) 0 n, ap (λ (x : ℕ). one (p x)) e)
+count-next p n = ap (count p) (range-snoc n) ∙ sum-append (λ x. one (p x)) (range n) (n ∷ []) ∙ omega arith
 
 one-le : (t : Bool) → one t ≤ 1
 one-le true = omega arith

@@ -1,2 +1,4 @@
 pub mod Islands
 pub mod Calls
+pub mod Answers
+pub mod Steps

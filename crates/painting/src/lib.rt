@@ -11,15 +11,6 @@ ghost use Rattle.painting.specs.Painting.{Ready, Painted, Counted, upTo,
 ghost use Rattle.painting.specs.Painting.{neighbors, neighborAt, Fresh, Freed};
 ghost use Rattle.painting.specs.Painting.{bodyA, bodyB, listedBoth, Listed, nextAfter, listsAfter, Room, Done};
 
-// Every place becomes 0.
-fn clear(table: &mut [u16])
-    ensures { λ _. ⌜ now (table .exit) ≡ replicate (length (now (table .entry))) 0 ⌝ }
-{
-    for place in 0..table.len() {
-        table[place] = 0;
-    }
-}
-
 // Counts the entries of each dynamic body, one place above the body.
 fn count_entries(dynamic_bodies: &[u8], endpoints: &[u16], body_offsets: &mut [u16])
     requires { ⌜ all (λ b. ltb b (length (now «dynamic_bodies»))) (now endpoints) ≡ true ⌝ }
@@ -245,8 +236,8 @@ pub fn paint(
     requires { ⌜ Ready (now «dynamic_bodies») (now endpoints) (now «body_offsets») (now «body_constraints») (now «scratch_offsets») (now «constraint_colors») (now «color_stamps») ⌝ }
     ensures { λ r. ⌜ Painted (now («dynamic_bodies» .entry)) (now (endpoints .entry)) (now («constraint_colors» .exit)) r ⌝ }
 {
-    clear(body_offsets);
-    clear(color_stamps);
+    tables::fill(body_offsets, 0);
+    tables::fill(color_stamps, 0);
     count_entries(dynamic_bodies, endpoints, body_offsets);
     sum_offsets(body_offsets, scratch_offsets, dynamic_bodies.len());
     color_constraints(

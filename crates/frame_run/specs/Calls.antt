@@ -1,0 +1,92 @@
+-- What a run is lent, what it answers, and what it leaves in its tables.
+use Prim.Native.Nat.{ℕ, _+_, _*_}
+use mathlib.Core.Path.{_≡_}
+use mathlib.Core.Bool.{Bool, _&&_}
+use mathlib.Core.List.{List}
+use lib.Dec.{leb}
+use lib.ListN.{length}
+use Rattle.lists.specs.Basics.{over}
+use Rattle.frame.specs.Files.{countB, countM, countJ, decode}
+use Rattle.island.specs.Calls.{Built}
+use Rattle.constraint_coloring.specs.Plans as plans
+use Rattle.schedules.specs.Runs.{runRefusal, runOf}
+use Rattle.frame_run.specs.declared.Report.{Report}
+use Rattle.frame_run.specs.declared.Run.{Run}
+use Rattle.frame_run.specs.declared.Run.the-variants as run
+
+-- ---- the answer: document 01's number, 0 where accepted, and the four carried numbers, all 0 where refused
+
+abbrev pub runNumber : Run → ℕ
+runNumber (run.Ran r) = 0
+runNumber (run.Refused n) = n
+
+abbrev pub runReport : Run → Report
+runReport (run.Ran r) = r
+runReport (run.Refused n) = record { islands = 0; turns = 0; takes = 0; degree = 0 }
+
+-- ---- the lent tables
+
+-- the island tables, the turn table, and the workspace: types, flags, the frame's pair entries and one island's, enabled bytes,
+-- constraint numbers, and the plan's thirteen tables
+pub record Lent : Type 0 where
+  pub parents : List ℕ
+  pub body-islands : List ℕ
+  pub manifold-islands : List ℕ
+  pub joint-islands : List ℕ
+  pub turns : List ℕ
+  pub types : List ℕ
+  pub flags : List ℕ
+  pub pairs : List ℕ
+  pub island-pairs : List ℕ
+  pub enabled : List ℕ
+  pub numbers : List ℕ
+  pub plan : plans.Tables
+
+-- question 6, for a frame of b bodies, m manifolds and j joints
+unfoldable pub roomFor : ℕ → ℕ → ℕ → Lent → Bool
+roomFor b m j l =
+    leb b (length (l .parents)) && leb b (length (l .body-islands)) && leb m (length (l .manifold-islands)) && leb j (length (l .joint-islands))
+    && leb (3 * (m + j)) (length (l .turns)) && leb b (length (l .types)) && leb b (length (l .flags))
+    && leb (2 * (m + j)) (length (l .pairs)) && leb (2 * (m + j)) (length (l .island-pairs)) && leb j (length (l .enabled)) && leb (m + j) (length (l .numbers))
+    && plans.roomy b (m + j) (l .plan)
+
+unfoldable pub roomIn : List ℕ → Lent → Bool
+roomIn bs l = roomFor (countB bs) (countM bs) (countJ bs) l
+
+-- a table of the workspace: free after 7 or acceptance but for its length; after any other refusal as it was
+pub record Worked (k : ℕ) (old new : List ℕ) : Type 0 where
+  pub kept : (k ≡ 0 → ⊥) → (k ≡ 7 → ⊥) → new ≡ old
+  pub long : length new ≡ length old
+
+-- the contract: the lent tables at entry (l) and at exit (m), where k is the refusal or 0
+pub record Ran (bs : List ℕ) (k : ℕ) (l m : Lent) (r : Run) : Type 0 where
+  pub refusal : runNumber r ≡ k
+  pub report : runReport r ≡ record {
+    islands = runOf bs (roomIn bs l) .islands;
+    turns = runOf bs (roomIn bs l) .turns;
+    takes = runOf bs (roomIn bs l) .takes;
+    degree = runOf bs (roomIn bs l) .degree;
+  }
+  -- the turns from place 0 on; past them the turn table keeps its content
+  pub turns : m .turns ≡ over (runOf bs (roomIn bs l) .table) (l .turns)
+  -- the island tables stand as an islands call leaves them
+  pub islands : Built (decode bs) k (l .parents) (l .body-islands) (l .manifold-islands) (l .joint-islands) (m .parents) (m .body-islands) (m .manifold-islands) (m .joint-islands) (runNumber r) (runReport r .islands)
+  pub types : Worked k (l .types) (m .types)
+  pub flags : Worked k (l .flags) (m .flags)
+  pub pairs : Worked k (l .pairs) (m .pairs)
+  pub island-pairs : Worked k (l .island-pairs) (m .island-pairs)
+  pub enabled : Worked k (l .enabled) (m .enabled)
+  pub numbers : Worked k (l .numbers) (m .numbers)
+  pub dynamic-bodies : Worked k (l .plan .dynamic-bodies) (m .plan .dynamic-bodies)
+  pub endpoints : Worked k (l .plan .endpoints) (m .plan .endpoints)
+  pub body-offsets : Worked k (l .plan .body-offsets) (m .plan .body-offsets)
+  pub body-constraints : Worked k (l .plan .body-constraints) (m .plan .body-constraints)
+  pub scratch-offsets : Worked k (l .plan .scratch-offsets) (m .plan .scratch-offsets)
+  pub constraint-colors : Worked k (l .plan .constraint-colors) (m .plan .constraint-colors)
+  pub color-stamps : Worked k (l .plan .color-stamps) (m .plan .color-stamps)
+  pub body-stamps : Worked k (l .plan .body-stamps) (m .plan .body-stamps)
+  pub color-offsets : Worked k (l .plan .color-offsets) (m .plan .color-offsets)
+  pub colored-constraints : Worked k (l .plan .colored-constraints) (m .plan .colored-constraints)
+  pub color-body-offsets : Worked k (l .plan .color-body-offsets) (m .plan .color-body-offsets)
+  pub color-bodies : Worked k (l .plan .color-bodies) (m .plan .color-bodies)
+  pub constraint-body-positions : Worked k (l .plan .constraint-body-positions) (m .plan .constraint-body-positions)

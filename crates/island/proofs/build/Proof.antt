@@ -1,0 +1,67 @@
+-- `island::build` meets its contract: it is `build_with_joints` with no joint, whose empty joint table stays empty.
+use borrow.Author.Needs.{needs}
+use Prim.Native.Nat.{ℕ}
+use native.Mathlib.Omega.{arith}
+use mathlib.Core.Path.{_≡_, refl, sym, _∙_}
+use mathlib.Core.List.{List, [], _∷_}
+use lib.ListN.{length}
+use Rattle.island.proofs.build.Statement.{statement}
+use Rattle.island.proofs.build.Tie as tie
+
+empty : (l : List ℕ) → length l ≡ 0 → l ≡ []
+empty [] e = refl
+empty (x ∷ l) e = absurd (omega arith)
+
+slice-aggregate-build-with-joints : tie.Need-slice-aggregate-build-with-joints
+slice-aggregate-build-with-joints c = search needs
+
+slice-aggregate-build-with-joints-2 : tie.Need-slice-aggregate-build-with-joints-2
+slice-aggregate-build-with-joints-2 c = search needs
+
+array-borrow-prefix-joint-islands : tie.Need-array-borrow-prefix-joint-islands
+array-borrow-prefix-joint-islands c = search needs
+
+slice-aggregate-build-with-joints-3 : tie.Need-slice-aggregate-build-with-joints-3
+slice-aggregate-build-with-joints-3 c = search needs
+
+build-with-joints-requires : tie.Need-build-with-joints-requires
+build-with-joints-requires c κs = search needs
+
+same-length : tie.Need-same-length
+same-length c = search needs
+
+same-length-2 : tie.Need-same-length-2
+same-length-2 c = search needs
+
+same-length-3 : tie.Need-same-length-3
+same-length-3 c = search needs
+
+returns : tie.Need-returns
+returns c =
+    let f = c .before .before .before .before .before .before .before .build-with-joints in
+    let w = f .ensures in
+    record {
+      refusal = w .refusal;
+      count = w .count;
+      body-labels = w .body-labels;
+      manifold-labels = w .manifold-labels;
+      joint-labels = sym (empty (f .last .1 .1 .1 .1 .1 .1 .1 .0) (f .kept .1 .1 .1 .1 .1 .1 .1 .0)) ∙ w .joint-labels;
+      parents = w .parents;
+      beyond = w .beyond;
+      alone = w .alone;
+      kept = w .kept;
+    }
+
+pub build-spec : {M : Type 1} → statement M
+build-spec =
+    tie.close
+    (tie.spec
+    slice-aggregate-build-with-joints
+    slice-aggregate-build-with-joints-2
+    array-borrow-prefix-joint-islands
+    slice-aggregate-build-with-joints-3
+    build-with-joints-requires
+    same-length
+    same-length-2
+    same-length-3
+    returns)

@@ -1,0 +1,287 @@
+// Frames at the limits: prints for each its refusal, or how many islands it has, the last body's label and the sum of the
+// bodies' labels (none is 65535).
+ghost use Prim.Native.Nat.{_≤_};
+ghost use lib.ListN.{length};
+
+// The chain 0-1, 1-2, 2-3, ..
+fn rising(pairs: &mut [u16])
+    requires { ⌜ length (now pairs) ≤ 8192 ⌝ }
+{
+    let mut k = 0;
+    while k < pairs.len() {
+        pairs[k] = ((k + 1) / 2) as u16;
+        k += 1;
+    }
+}
+
+// The same chain from its other end: .., 3-2, 2-1, 1-0
+fn falling(pairs: &mut [u16])
+    requires { ⌜ length (now pairs) ≤ 8192 ⌝ }
+{
+    let mut k = 0;
+    while k < pairs.len() {
+        pairs[k] = ((pairs.len() - k) / 2) as u16;
+        k += 1;
+    }
+}
+
+// Every body on the hub: 0-hub, 1-hub, 2-hub, ..
+fn spokes(pairs: &mut [u16], hub: u16)
+    requires { ⌜ length (now pairs) ≤ 8192 ⌝ }
+{
+    let mut k = 0;
+    while k + 1 < pairs.len() {
+        pairs[k] = (k / 2) as u16;
+        pairs[k + 1] = hub;
+        k += 2;
+    }
+}
+
+fn wide(x: u16) -> u64
+    ensures { λ r. ⌜ r ≤ 65535 ⌝ }
+{
+    x as u64
+}
+
+fn sum(labels: &[u16]) -> u64
+    requires { ⌜ length (now labels) ≤ 8192 ⌝ }
+{
+    let mut total: u64 = 0;
+    let mut i = 0;
+    while i < labels.len() {
+        total += wide(labels[i]);
+        i += 1;
+    }
+    total
+}
+
+fn number(word: &[u8], n: u64) {
+    io::write_all(1, word);
+    io::print_decimal(1, n);
+}
+
+// The line of one frame.
+fn report(name: &[u8], answer: island::Answer, labels: &[u16]) {
+    io::write_all(1, name);
+    match answer {
+        island::Answer::Islands(n) => {
+            number(b" islands ", wide(n));
+            if labels.len() > 0 {
+                number(b" last ", wide(labels[labels.len() - 1]));
+            }
+            if labels.len() <= 8192 {
+                number(b" sum ", sum(labels));
+            }
+        }
+        island::Answer::Refused(n) => {
+            number(b" refused ", n as u64);
+        }
+    }
+    io::write_all(1, b"\n");
+}
+
+// A frame without joints.
+fn show(
+    name: &[u8],
+    body_types: &[u8],
+    manifolds: &[u16],
+    parents: &mut [u16],
+    body_islands: &mut [u16],
+    manifold_islands: &mut [u16],
+) {
+    let answer = island::build(
+        body_types,
+        manifolds,
+        parents,
+        body_islands,
+        manifold_islands,
+    );
+    report(name, answer, body_islands);
+}
+
+// A frame of joints, all enabled.
+fn show_joints(
+    name: &[u8],
+    body_types: &[u8],
+    joints: &[u16],
+    enabled: &[u8],
+    parents: &mut [u16],
+    body_islands: &mut [u16],
+    joint_islands: &mut [u16],
+) {
+    let mut manifold_islands = [0; 1];
+    let answer = island::build_with_joints(
+        body_types,
+        &joints[..0],
+        joints,
+        enabled,
+        parents,
+        body_islands,
+        &mut manifold_islands[..0],
+        joint_islands,
+    );
+    report(name, answer, body_islands);
+}
+
+// 4,096 bodies in one chain, and 4,095 on one static body.
+fn most_bodies() {
+    let mut body_types = [2; 4096];
+    let mut pairs = [0; 8190];
+    let mut parents = [0; 4096];
+    let mut body_islands = [0; 4096];
+    let mut manifold_islands = [0; 4095];
+    rising(&mut pairs);
+    show(
+        b"chain rising",
+        &body_types,
+        &pairs,
+        &mut parents,
+        &mut body_islands,
+        &mut manifold_islands,
+    );
+    falling(&mut pairs);
+    show(
+        b"chain falling",
+        &body_types,
+        &pairs,
+        &mut parents,
+        &mut body_islands,
+        &mut manifold_islands,
+    );
+    spokes(&mut pairs, 4095);
+    body_types[4095] = 0;
+    show(
+        b"static hub",
+        &body_types,
+        &pairs,
+        &mut parents,
+        &mut body_islands,
+        &mut manifold_islands,
+    );
+}
+
+// Endpoint B - 1, and B.
+fn last_endpoint() {
+    let body_types = [2; 2];
+    let mut parents = [0; 2];
+    let mut body_islands = [0; 2];
+    let mut manifold_islands = [0; 1];
+    let mut pair = [0; 2];
+    pair[1] = 1;
+    show(
+        b"endpoint B - 1",
+        &body_types,
+        &pair,
+        &mut parents,
+        &mut body_islands,
+        &mut manifold_islands,
+    );
+    pair[1] = 2;
+    show(
+        b"endpoint B",
+        &body_types,
+        &pair,
+        &mut parents,
+        &mut body_islands,
+        &mut manifold_islands,
+    );
+}
+
+// One table an entry short, in a frame whose exact tables `most_bodies` lent.
+fn short_tables() {
+    let body_types = [2; 4096];
+    let mut pairs = [0; 8190];
+    let mut parents = [0; 4096];
+    let mut body_islands = [0; 4096];
+    let mut labels = [0; 4095];
+    let mut short = [0; 4095];
+    let mut shorter = [0; 4094];
+    rising(&mut pairs);
+    show(
+        b"parents short",
+        &body_types,
+        &pairs,
+        &mut short,
+        &mut body_islands,
+        &mut labels,
+    );
+    show(
+        b"body labels short",
+        &body_types,
+        &pairs,
+        &mut parents,
+        &mut short,
+        &mut labels,
+    );
+    show(
+        b"manifold labels short",
+        &body_types,
+        &pairs,
+        &mut parents,
+        &mut body_islands,
+        &mut shorter,
+    );
+}
+
+// The chain by joints, with the joint labels exact and one short.
+fn joint_tables() {
+    let body_types = [2; 4096];
+    let enabled = [1; 4095];
+    let mut pairs = [0; 8190];
+    let mut parents = [0; 4096];
+    let mut body_islands = [0; 4096];
+    let mut labels = [0; 4095];
+    let mut shorter = [0; 4094];
+    rising(&mut pairs);
+    show_joints(
+        b"joint labels exact",
+        &body_types,
+        &pairs,
+        &enabled,
+        &mut parents,
+        &mut body_islands,
+        &mut labels,
+    );
+    show_joints(
+        b"joint labels short",
+        &body_types,
+        &pairs,
+        &enabled,
+        &mut parents,
+        &mut body_islands,
+        &mut shorter,
+    );
+}
+
+// One body too many.
+fn too_many_bodies() {
+    let body_types = [2; 4097];
+    let mut parents = [0; 4097];
+    let mut body_islands = [0; 4097];
+    let mut none = [0; 1];
+    let pairs = [0; 1];
+    show(
+        b"4097 bodies",
+        &body_types,
+        &pairs[..0],
+        &mut parents,
+        &mut body_islands,
+        &mut none[..0],
+    );
+    show(
+        b"4096 bodies",
+        &body_types[..4096],
+        &pairs[..0],
+        &mut parents,
+        &mut body_islands,
+        &mut none[..0],
+    );
+}
+
+fn main() {
+    most_bodies();
+    last_endpoint();
+    short_tables();
+    joint_tables();
+    too_many_bodies();
+}

@@ -1,0 +1,5 @@
+pub mod Puts
+pub mod Digits
+pub mod Spelling
+pub mod Lines
+pub mod Turns

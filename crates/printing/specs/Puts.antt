@@ -1,0 +1,24 @@
+-- Text put into a lent buffer from a place on.
+use Prim.Native.Nat.{ℕ, _+_}
+use mathlib.Core.Path.{_≡_}
+use mathlib.Core.Bool.{cond}
+use mathlib.Core.List.{List, [], _++_}
+use lib.Dec.{leb}
+use lib.ListN.{length, take, drop}
+
+-- the text written over `old` from place `at` on
+unfoldable pub put : ℕ → List ℕ → List ℕ → List ℕ
+put at text old = take at old ++ (text ++ drop (at + length text) old)
+
+-- the buffer `old` becomes `new`: the text stands from place `at` on, and r is the place after it
+pub record Put (text old : List ℕ) (at : ℕ) (new : List ℕ) (r : ℕ) : Type 0 where
+  pub buffer : new ≡ put at text old
+  pub next : r ≡ at + length text
+
+-- no line is longer: a head has 31 bytes of words, spaces and newline, and four numbers of at most 20 digits
+abbrev pub longest : ℕ
+longest = 111
+
+-- the text, if `longest` bytes are left from place `at` on in a buffer of this size; else nothing
+unfoldable pub ifRoom : ℕ → ℕ → List ℕ → List ℕ
+ifRoom size at text = cond (leb (at + longest) size) text []

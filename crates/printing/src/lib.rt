@@ -1,0 +1,239 @@
+// The bytes that the program `turns` prints, appended to a lent buffer: a head, a line of a turn, a refusal, and the
+// lines of a turn table as far as the buffer goes. The public functions answer every buffer and every place: where
+// fewer than `MAX_LINE` bytes are left they write nothing. Each answers the place after what it wrote.
+ghost use mathlib.Core.Path.{_≡_};
+ghost use mathlib.Core.List.{_∷_, [], _++_};
+ghost use Prim.Native.Nat.{_+_, _*_, _≤_, _<_};
+ghost use lib.Dec.{leb};
+ghost use lib.ListN.{length};
+ghost use Rattle.frame.specs.Files.{byte, half};
+ghost use Rattle.schedules.specs.Print.{decimal, headOf, turnLine, refusalLine};
+ghost use Rattle.printing.specs.Puts.{Put, longest, ifRoom};
+ghost use Rattle.printing.specs.Turns.{endsAt, ifReady, Lines};
+
+// No line is longer.
+pub const MAX_LINE: usize = 111;
+
+// How far the lines of a turn table were gathered: the place after them, and the first turn that is left.
+pub struct Gathered {
+    pub at: usize,
+    pub turn: usize,
+}
+
+fn digit(d: usize) -> u8
+    requires { ⌜ d < 10 ⌝ }
+    ensures { λ r. ⌜ r ≡ 48 + d ⌝ }
+{
+    48 + d as u8
+}
+
+// How many decimal digits a number has.
+fn width(n: usize) -> usize
+    ensures { λ r. ⌜ r ≡ length (decimal n) ⌝ }
+{
+    let mut digits = 1;
+    let mut rest = n;
+    while 10 <= rest {
+        rest /= 10;
+        digits += 1;
+    }
+    digits
+}
+
+// A number, from its last digit to its first.
+fn put_decimal(out: &mut [u8], at: usize, n: usize) -> usize
+    requires { ⌜ at + 20 ≤ length (now out) ⌝ }
+    ensures { λ r. ⌜ Put (decimal n) (now (out .entry)) at (now (out .exit)) r ⌝ }
+{
+    let end = at + width(n);
+    let mut i = end;
+    let mut rest = n;
+    while 10 <= rest {
+        i -= 1;
+        out[i] = digit(rest % 10);
+        rest /= 10;
+    }
+    out[at] = digit(rest);
+    end
+}
+
+fn put_word(out: &mut [u8], at: usize, word: &[u8]) -> usize
+    requires { ⌜ at + length (now word) ≤ length (now out) ⌝ }
+    ensures { λ r. ⌜ Put (now (word .entry)) (now (out .entry)) at (now (out .exit)) r ⌝ }
+{
+    let mut i = 0;
+    while i < word.len() {
+        out[at + i] = word[i];
+        i += 1;
+    }
+    at + i
+}
+
+fn put_byte(out: &mut [u8], at: usize, byte: u8) -> usize
+    requires { ⌜ at < length (now out) ⌝ }
+    ensures { λ r. ⌜ Put (byte ∷ []) (now (out .entry)) at (now (out .exit)) r ⌝ }
+{
+    out[at] = byte;
+    at + 1
+}
+
+// A number and the byte that ends its field: a space or a newline.
+fn put_number(out: &mut [u8], at: usize, n: usize, end: u8) -> usize
+    requires { ⌜ at + 21 ≤ length (now out) ⌝ }
+    ensures { λ r. ⌜ Put (decimal n ++ end ∷ []) (now (out .entry)) at (now (out .exit)) r ⌝ }
+{
+    let after = put_decimal(out, at, n);
+    put_byte(out, after, end)
+}
+
+// A word, a space, and a number with its end.
+fn put_field(out: &mut [u8], at: usize, word: &[u8], n: usize, end: u8) -> usize
+    requires { ⌜ at + length (now word) + 22 ≤ length (now out) ⌝ }
+    ensures { λ r. ⌜ Put ((now (word .entry) ++ 32 ∷ []) ++ (decimal n ++ end ∷ [])) (now (out .entry)) at (now (out .exit)) r ⌝ }
+{
+    let named = put_word(out, at, word);
+    let parted = put_byte(out, named, b' ');
+    put_number(out, parted, n, end)
+}
+
+// Are MAX_LINE bytes left from a place on?
+fn roomy(size: usize, at: usize) -> bool
+    ensures { λ r. ⌜ r ≡ leb (at + longest) size ⌝ }
+{
+    if size < MAX_LINE {
+        return false;
+    }
+    at <= size - MAX_LINE
+}
+
+// The head: the four carried numbers, each after its word.
+pub fn put_head(
+    out: &mut [u8],
+    at: usize,
+    islands: usize,
+    turns: usize,
+    takes: usize,
+    degree: usize,
+) -> usize
+    ensures { λ r. ⌜ Put (ifRoom (length (now (out .entry))) at (headOf islands turns takes degree)) (now (out .entry)) at (now (out .exit)) r ⌝ }
+{
+    if !roomy(out.len(), at) {
+        return at;
+    }
+    let with_islands = put_field(out, at, b"islands", islands, b' ');
+    let with_turns = put_field(out, with_islands, b"turns", turns, b' ');
+    let with_takes = put_field(out, with_turns, b"takes", takes, b' ');
+    put_field(out, with_takes, b"degree", degree, b'\n')
+}
+
+// The line of a turn: island, group, constraint and its endpoints a, b.
+pub fn put_turn_line(
+    out: &mut [u8],
+    at: usize,
+    island: usize,
+    group: usize,
+    constraint: usize,
+    a: usize,
+    b: usize,
+) -> usize
+    ensures { λ r. ⌜ Put (ifRoom (length (now (out .entry))) at (turnLine island group constraint (a ∷ b ∷ []))) (now (out .entry)) at (now (out .exit)) r ⌝ }
+{
+    if !roomy(out.len(), at) {
+        return at;
+    }
+    let with_island = put_number(out, at, island, b' ');
+    let with_group = put_number(out, with_island, group, b' ');
+    let with_constraint = put_number(out, with_group, constraint, b' ');
+    let with_a = put_number(out, with_constraint, a, b' ');
+    put_number(out, with_a, b, b'\n')
+}
+
+// A refusal, by its number.
+pub fn put_refusal(out: &mut [u8], at: usize, number: usize) -> usize
+    ensures { λ r. ⌜ Put (ifRoom (length (now (out .entry))) at (refusalLine number)) (now (out .entry)) at (now (out .exit)) r ⌝ }
+{
+    if !roomy(out.len(), at) {
+        return at;
+    }
+    put_field(out, at, b"refused", number, b'\n')
+}
+
+// The byte at a place of a file, and 0 past its end.
+fn byte_at(frame: &[u8], i: usize) -> usize
+    ensures { λ r. ⌜ (r ≡ byte (now (frame .entry)) i) × (r < 256) ⌝ }
+{
+    if i < frame.len() {
+        return frame[i] as usize;
+    }
+    0
+}
+
+// The 16-bit number at a place of a file, big-endian.
+fn half_at(frame: &[u8], i: usize) -> usize
+    requires { ⌜ i < 1048576 ⌝ }
+    ensures { λ r. ⌜ (r ≡ half (now (frame .entry)) i) × (r < 65536) ⌝ }
+{
+    byte_at(frame, i) * 256 + byte_at(frame, i + 1)
+}
+
+// Where a file has the endpoints of a constraint: manifolds first, then joints.
+fn ends_at(frame: &[u8], constraint: usize) -> usize
+    requires { ⌜ constraint < 131072 ⌝ }
+    ensures { λ r. ⌜ (r ≡ endsAt (now (frame .entry)) constraint) × (r + 2 < 1048576) ⌝ }
+{
+    let manifolds = half_at(frame, 7);
+    let pairs = 11 + half_at(frame, 5);
+    if constraint < manifolds {
+        return pairs + 4 * constraint;
+    }
+    pairs + 4 * manifolds + 5 * (constraint - manifolds)
+}
+
+// The line of a turn, with its constraint's endpoints out of the file; nothing where there is no such constraint.
+fn put_turn(
+    out: &mut [u8],
+    at: usize,
+    island: usize,
+    group: usize,
+    constraint: usize,
+    frame: &[u8],
+) -> usize
+    ensures { λ r. ⌜ Put (ifReady (now (frame .entry)) (length (now (out .entry))) at island group constraint) (now (out .entry)) at (now (out .exit)) r ⌝ }
+{
+    if half_at(frame, 7) + half_at(frame, 9) <= constraint {
+        return at;
+    }
+    let ends = ends_at(frame, constraint);
+    let a = half_at(frame, ends);
+    let b = half_at(frame, ends + 2);
+    put_turn_line(out, at, island, group, constraint, a, b)
+}
+
+fn wide(x: u16) -> usize
+    ensures { λ r. ⌜ r ≡ x ⌝ }
+{
+    x as usize
+}
+
+// The lines of a file's turn table from turn `first` on, as far as there is room.
+pub fn put_turns(out: &mut [u8], at: usize, turns: &[u16], first: usize, frame: &[u8]) -> Gathered
+    ensures { λ r. ⌜ Lines (now (frame .entry)) (now (turns .entry)) first (now (out .entry)) at (now (out .exit)) r ⌝ }
+{
+    let mut place = at;
+    let mut turn = first;
+    while turn < turns.len() / 3 {
+        let island = wide(turns[3 * turn]);
+        let group = wide(turns[3 * turn + 1]);
+        let constraint = wide(turns[3 * turn + 2]);
+        let next = put_turn(out, place, island, group, constraint, frame);
+        if next == place {
+            break;
+        }
+        place = next;
+        turn += 1;
+    }
+    Gathered {
+        at: place,
+        turn: turn,
+    }
+}

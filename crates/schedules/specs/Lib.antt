@@ -1,0 +1,4 @@
+pub mod Runs
+pub mod Condition
+pub mod Print
+pub mod Samples
