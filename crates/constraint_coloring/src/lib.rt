@@ -8,7 +8,7 @@ ghost use lib.ListN.{length, take};
 ghost use Rattle.lists.specs.Basics.{over, same};
 ghost use Rattle.constraint_coloring.specs.Plans.{updateRefusal, part, groupPart};
 ghost use Rattle.constraint_coloring.specs.Calls.{freshPlan, refusalWith, Updated, Located};
-ghost use Rattle.constraint_coloring.specs.Stages.{Listable, Listed, Rebuilt};
+ghost use Rattle.constraint_coloring.specs.Stages.{Schedulable, Scheduled, Rebuilt};
 
 // What a plan carries by value; the rest stands in the tables that its caller lends.
 pub struct ConstraintColoring {
@@ -99,12 +99,12 @@ fn same_flags(a: &[u8], b: &[u8]) -> bool
     requires { ⌜ length (now b) ≡ length (now a) ⌝ }
     ensures { λ r. ⌜ r ≡ same (now (a .entry)) (now (b .entry)) ⌝ }
 {
-    let mut i = 0;
-    while i < a.len() {
-        if a[i] != b[i] {
+    let mut body = 0;
+    while body < a.len() {
+        if a[body] != b[body] {
             return false;
         }
-        i += 1;
+        body += 1;
     }
     true
 }
@@ -114,12 +114,12 @@ fn same_pairs(a: &[u16], b: &[u16]) -> bool
     requires { ⌜ length (now b) ≡ length (now a) ⌝ }
     ensures { λ r. ⌜ r ≡ same (now (a .entry)) (now (b .entry)) ⌝ }
 {
-    let mut i = 0;
-    while i < a.len() {
-        if a[i] != b[i] {
+    let mut entry = 0;
+    while entry < a.len() {
+        if a[entry] != b[entry] {
             return false;
         }
-        i += 1;
+        entry += 1;
     }
     true
 }
@@ -129,10 +129,10 @@ fn copy_flags(from: &[u8], to: &mut [u8])
     requires { ⌜ length (now from) ≤ length (now to) ⌝ }
     ensures { λ _. ⌜ now (to .exit) ≡ over (now (from .entry)) (now (to .entry)) ⌝ }
 {
-    let mut i = 0;
-    while i < from.len() {
-        to[i] = from[i];
-        i += 1;
+    let mut body = 0;
+    while body < from.len() {
+        to[body] = from[body];
+        body += 1;
     }
 }
 
@@ -141,10 +141,10 @@ fn copy_pairs(from: &[u16], to: &mut [u16])
     requires { ⌜ length (now from) ≤ length (now to) ⌝ }
     ensures { λ _. ⌜ now (to .exit) ≡ over (now (from .entry)) (now (to .entry)) ⌝ }
 {
-    let mut i = 0;
-    while i < from.len() {
-        to[i] = from[i];
-        i += 1;
+    let mut entry = 0;
+    while entry < from.len() {
+        to[entry] = from[entry];
+        entry += 1;
     }
 }
 
@@ -163,8 +163,8 @@ fn list_groups(
     color_bodies: &mut [u16],
     constraint_body_positions: &mut [u16],
 ) -> usize
-    requires { ⌜ Listable «body_count» (now endpoints) (now «constraint_colors») «color_count» (now «scratch_offsets») (now «body_stamps») (now «color_offsets») (now «colored_constraints») (now «color_body_offsets») (now «color_bodies») (now «constraint_body_positions») ⌝ }
-    ensures { λ r. ⌜ Listed «body_count» (now (endpoints .entry)) (now («constraint_colors» .entry)) «color_count» (now («color_bodies» .entry)) (now («color_offsets» .exit)) (now («colored_constraints» .exit)) (now («color_body_offsets» .exit)) (now («color_bodies» .exit)) (now («constraint_body_positions» .exit)) r ⌝ }
+    requires { ⌜ Schedulable «body_count» (now endpoints) (now «constraint_colors») «color_count» (now «scratch_offsets») (now «body_stamps») (now «color_offsets») (now «colored_constraints») (now «color_body_offsets») (now «color_bodies») (now «constraint_body_positions») ⌝ }
+    ensures { λ r. ⌜ Scheduled «body_count» (now (endpoints .entry)) (now («constraint_colors» .entry)) «color_count» (now («color_bodies» .entry)) (now («color_offsets» .exit)) (now («colored_constraints» .exit)) (now («color_body_offsets» .exit)) (now («color_bodies» .exit)) (now («constraint_body_positions» .exit)) r ⌝ }
 {
     let largest = grouping::group(
         constraint_colors,
