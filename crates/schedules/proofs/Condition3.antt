@@ -19,7 +19,7 @@ use Rattle.frame.specs.Files.{decode, frameRefusal}
 use Rattle.island.specs.Islands.{islandCount, label, ofIsland}
 use Rattle.island.proofs.Theorem.{islands-few, label-below-at}
 use Rattle.colored_bodies.specs.declared.BodyBinding.{BodyBinding}
-use Rattle.schedules.specs.Runs.{Call, Plans, Orders, planAt, membersIn, bodiesIn, takeRank, callsFrom, groupCalls, schedule, rising, turnsOf, takesOf, runRefusal, runOf}
+use Rattle.schedules.specs.Runs.{runCalls, Call, Plans, Orders, planAt, membersIn, bodiesIn, takeRank, callsFrom, groupCalls, schedule, rising, turnsOf, takesOf, runRefusal, runOf}
 use Rattle.schedules.specs.Condition.{SameNumbers, due, takesOn, Claim}
 use Rattle.schedules.proofs.Accepted.{Accepted, accepted, live, live-number}
 use Rattle.schedules.proofs.Plans.{endsAt, colorsAt, Stands, plan-stands, planned-stands, groups-few, length-colors}
@@ -221,13 +221,24 @@ rising-ordered : (f : Frame) (p : Plans) (i k : ℕ) → i < islandCount f → k
 unfolding rising
 rising-ordered f p i k l h n = refl
 
+-- the run's own turns and takes
+module _ (f : Frame) (ok : Accepted f) where
+  run-stands : (i : ℕ) (l : i < islandCount f) → Stands f ok i l (planAt f i)
+  run-stands i l = plan-stands f ok i l
+
+  pub run-turns : length (turnsOf (runCalls f)) ≡ turnCount f
+  run-turns = count-turns f ok (planAt f) run-stands (rising (planAt f)) (rising-ordered f (planAt f))
+
+  pub run-takes : takesOf (runCalls f) ≡ degreeSum f
+  run-takes = count-takes f ok (planAt f) run-stands (rising (planAt f)) (rising-ordered f (planAt f))
+
 pub condition3 : Claim
 unfolding runOf
 condition3 bs p o e sch =
     let f = decode bs in
     let ok = accepted bs e in
     let st : (i : ℕ) (l : i < islandCount f) → Stands f ok i l (p i) = λ i l. planned-stands f ok i l (p i) (sch .plans i l) in
-    let run : (i : ℕ) (l : i < islandCount f) → Stands f ok i l (planAt f i) = λ i l. plan-stands f ok i l in
+    let run = run-stands f ok in
     let rise = rising-ordered f (planAt f) in
     let ord = sch .orders in
     record {
@@ -246,8 +257,8 @@ condition3 bs p o e sch =
       report =
           rw (
             runs bs e,
-            count-turns f ok (planAt f) run (rising (planAt f)) rise,
-            count-takes f ok (planAt f) run (rising (planAt f)) rise,
+            run-turns f ok,
+            run-takes f ok,
             all-turns f ok (planAt f) run (rising (planAt f)) rise,
             same-schedule f ok p (planAt f) st run,
           );
