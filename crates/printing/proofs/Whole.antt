@@ -16,7 +16,7 @@ use Rattle.frame.specs.Files.{countM, countJ, pairsAt, jointsAt, enabledIn, dec
 use Rattle.schedules.specs.Runs.{Call, Report, turnOf, runCalls, runRefusal, runOf}
 use Rattle.schedules.specs.Print.{turnLines, reportLines, printOf}
 use Rattle.schedules.specs.Condition.{takesOn}
-use Rattle.schedules.proofs.Accepted.{pairs-count, live-number}
+use Rattle.schedules.proofs.Accepted.{accepted, pairs-count, live-number}
 use Rattle.schedules.proofs.Condition3.{run-once, run-report}
 use Rattle.printing.specs.Puts.{longest}
 use Rattle.printing.specs.Turns.{lineOf, ready, gathered, turnsFrom, linesOf}
@@ -86,7 +86,7 @@ touches-live f n t = live-number f n (and-left (constraintAt f n .live) _ t)
 taken-known : (bs : List ℕ) → frameRefusal bs ≡ 0 → (n : ℕ) → 1 ≤ takesOn n (runCalls (decode bs)) → n < countM bs + countJ bs
 taken-known bs e n h =
     let f = decode bs in
-    let once = run-once bs e n in
+    let once = run-once f (accepted bs e) n in
     by-cases (touches f (constraintAt f n))
     (λ t. omega (arith, touches-live f n t, constraint-count bs))
     (λ t. absurd (omega (arith, once, ap one t)))

@@ -222,33 +222,36 @@ unfolding rising
 rising-ordered f p i k l h n = refl
 
 -- ---- the run itself
-module _ (bs : List ℕ) (e : frameRefusal bs ≡ 0) where
-  abbrev own : (i : ℕ) (l : i < islandCount (decode bs)) → Stands (decode bs) (accepted bs e) i l (planAt (decode bs) i)
-  own i l = plan-stands (decode bs) (accepted bs e) i l
+module _ (f : Frame) (ok : Accepted f) where
+  run-stands : (i : ℕ) (l : i < islandCount f) → Stands f ok i l (planAt f i)
+  run-stands i l = plan-stands f ok i l
 
-  pub run-once : (n : ℕ) → takesOn n (runCalls (decode bs)) ≡ one (touches (decode bs) (constraintAt (decode bs) n))
-  run-once = all-once (decode bs) (accepted bs e) (planAt (decode bs)) own (rising (planAt (decode bs))) (rising-ordered (decode bs) (planAt (decode bs)))
+  run-rises : (i k : ℕ) → i < islandCount f → k < planAt f i .groups → SameNumbers (rising (planAt f) i k) (membersIn (planAt f i) k)
+  run-rises = rising-ordered f (planAt f)
 
-  -- its report: the numbers read from the frame, and a turn for each take
-  pub run-report : runOf bs true ≡ record {
-    refusal = 0;
-    islands = islandCount (decode bs);
-    turns = turnCount (decode bs);
-    takes = degreeSum (decode bs);
-    degree = degreeMax (decode bs);
-    table = joinMap turnOf (runCalls (decode bs));
-  }
-  unfolding runOf
-  run-report =
-      let f = decode bs in
-      let ok = accepted bs e in
-      let rise = rising-ordered f (planAt f) in
-      rw (
-        runs bs e,
-        count-turns f ok (planAt f) own (rising (planAt f)) rise,
-        count-takes f ok (planAt f) own (rising (planAt f)) rise,
-        all-turns f ok (planAt f) own (rising (planAt f)) rise,
-      )
+  pub run-turns : length (turnsOf (runCalls f)) ≡ turnCount f
+  run-turns = count-turns f ok (planAt f) run-stands (rising (planAt f)) run-rises
+
+  pub run-takes : takesOf (runCalls f) ≡ degreeSum f
+  run-takes = count-takes f ok (planAt f) run-stands (rising (planAt f)) run-rises
+
+  pub run-once : (n : ℕ) → takesOn n (runCalls f) ≡ one (touches f (constraintAt f n))
+  run-once = all-once f ok (planAt f) run-stands (rising (planAt f)) run-rises
+
+-- its report: the numbers read from the frame, and a turn for each take
+pub run-report : (bs : List ℕ) → frameRefusal bs ≡ 0 → runOf bs true ≡ record {
+  refusal = 0;
+  islands = islandCount (decode bs);
+  turns = turnCount (decode bs);
+  takes = degreeSum (decode bs);
+  degree = degreeMax (decode bs);
+  table = joinMap turnOf (runCalls (decode bs));
+}
+unfolding runOf
+run-report bs e =
+    let f = decode bs in
+    let ok = accepted bs e in
+    rw (runs bs e, run-turns f ok, run-takes f ok, all-turns f ok (planAt f) (run-stands f ok) (rising (planAt f)) (run-rises f ok))
 
 pub condition3 : Claim
 condition3 bs p o e sch =
@@ -269,5 +272,5 @@ condition3 bs p o e sch =
         untouched f (constraintAt f n) (dead-touches f (constraintAt f n) q),
         all-once f ok p st o ord n ∙ ap one (dead-touches f (constraintAt f n) q),
       );
-      report = rw (same-schedule f ok p (planAt f) st (own bs e)) (run-report bs e);
+      report = rw (same-schedule f ok p (planAt f) st (run-stands f ok)) (run-report bs e);
     }

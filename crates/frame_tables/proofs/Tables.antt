@@ -1,0 +1,194 @@
+-- Once questions 1 to 6 are passed, an islands call asks only 7. Its labels, read from the front of the lent tables, are the frame's, or
+-- none after 7, and either way they can be sorted.
+use Prim.Native.Nat.{ℕ, zero, suc, _+_, _*_, _/_, _%_, _≤_}
+use mathlib.Core.Path.{_≡_, refl, sym, ap, _∙_, subst}
+use mathlib.Core.Bool.{true, _&&_, cond}
+use mathlib.Core.List.{List, [], _∷_, _++_, map}
+use native.Mathlib.Omega.{arith}
+use lib.Dec.{eqb}
+use lib.ListN.{length, take, drop, replicate, length-map, length-append, length-drop, length-replicate}
+use lib.Seq.{take-at, drop-at, length-take-le}
+use borrow.Author.Tests.{le-leb, eq-eqb}
+use Rattle.lists.proofs.Laws.{by-cases, clashes}
+use Rattle.lists.proofs.Ranges.{map-append}
+use Rattle.frame.specs.Frames.{Frame, constraints, frameOf, none, allSound, degreeMax}
+use Rattle.frame.specs.Questions.{question, asked, fewEach, typesKnown, bits}
+use Rattle.frame.specs.Files.{countB, countM, countJ, pairsAt, jointsAt, typesIn, manifoldsIn, jointsIn, enabledIn, pairsFrom, enabledFrom, decode, sizeQuestions, fileQuestions, frameRefusal}
+use Rattle.frame.proofs.Questions.{passed, asked-append}
+use Rattle.frame.proofs.Files.{Sized}
+use Rattle.island.specs.Islands.{label}
+use Rattle.island.specs.Calls.{Rooms, islandRefusal, labelsAfter, Built}
+use Rattle.schedules.proofs.Accepted.{Accepted, accepted, pairs-count}
+use Rattle.island_numbers.specs.Numbers.{Labels, Sortable, byIsland}
+use Rattle.frame_tables.specs.Filled.{Decoded, Countable, Roomy, Fills, labelsIn, soundness}
+use Rattle.frame_tables.proofs.Decoding.{file-sized}
+use Rattle.frame_tables.proofs.Labels.{frame-labels, none-labels}
+
+-- ---- the lengths of a file's parts
+
+pairs-long : (bs : List ℕ) (s step n : ℕ) → length (pairsFrom bs s step n) ≡ 2 * n
+unfolding pairsFrom
+pairs-long bs s step zero = refl
+pairs-long bs s step (suc n) = omega (arith, pairs-long bs (s + step) step n)
+
+enabled-long : (bs : List ℕ) (s n : ℕ) → length (enabledFrom bs s n) ≡ n
+unfolding enabledFrom
+enabled-long bs s zero = refl
+enabled-long bs s (suc n) = ap suc (enabled-long bs (s + 5) n)
+
+replicate-more : (m n : ℕ) → replicate m none ++ replicate n none ≡ replicate (m + n) none
+replicate-more zero n = let e : 0 + n ≡ n = omega arith in rw e
+replicate-more (suc m) n = let e : suc m + n ≡ suc (m + n) = omega arith in rw e (ap (λ (l : List ℕ). none ∷ l) (replicate-more m n))
+
+module _ (bs : List ℕ) (e : asked (fileQuestions bs) ≡ 0) where
+  abbrev s : Sized bs
+  s = file-sized bs e
+
+  abbrev f : Frame
+  f = decode bs
+
+  file-known : (typesKnown (typesIn bs) && bits (enabledIn bs)) ≡ true
+  file-known =
+      by-cases (typesKnown (typesIn bs) && bits (enabledIn bs)) (λ t. t)
+      (λ t. absurd (by-cases (eqb (asked (sizeQuestions bs)) 0)
+      (λ z. let y : 0 ≡ 5 = sym e ∙ asked-append (sizeQuestions bs) (question 5 (typesKnown (typesIn bs) && bits (enabledIn bs)) ∷ []) refl ∙ rw (z, t) in omega arith)
+      (λ z. clashes (eqb (asked (sizeQuestions bs)) 0) (eq-eqb (asked (sizeQuestions bs)) 0 (sym (asked-append (sizeQuestions bs) (question 5 (typesKnown (typesIn bs) && bits (enabledIn bs)) ∷ []) refl ∙ rw z) ∙ e)) z)))
+
+  types-long : length (typesIn bs) ≡ countB bs
+  types-long = length-take-le (countB bs) (drop 11 bs) (omega (arith, length-drop 11 bs, s .bytes))
+
+  manifolds-count : length (f .manifolds) ≡ countM bs
+  unfolding decode
+  manifolds-count = pairs-count bs (pairsAt bs) 4 (countM bs) []
+
+  joints-count : length (f .joints) ≡ countJ bs
+  unfolding decode
+  joints-count = pairs-count bs (jointsAt bs) 5 (countJ bs) (enabledIn bs)
+
+  pub few-constraints : length (constraints f) ≤ 8192
+  few-constraints = omega (arith, length-append (f .manifolds) (f .joints), manifolds-count, joints-count, s .manifolds, s .joints)
+
+  -- ---- the frame that stands in the decoded tables
+
+  module _ (m : ℕ) (ts fs ps es : List ℕ) (em : m ≡ countM bs) (d : Decoded bs ts fs ps es) where
+    front : take (2 * m) ps ≡ manifoldsIn bs
+    front = rw (d .pairs, em) (take-at (manifoldsIn bs) (jointsIn bs) (2 * countM bs) (pairs-long bs (pairsAt bs) 4 (countM bs)))
+
+    rest : drop (2 * m) ps ≡ jointsIn bs
+    rest = rw (d .pairs, em) (drop-at (manifoldsIn bs) (jointsIn bs) (2 * countM bs) (pairs-long bs (pairsAt bs) 4 (countM bs)))
+
+    frame-is : frameOf ts (take (2 * m) ps) (drop (2 * m) ps) es ≡ f
+    unfolding decode
+    frame-is = rw (d .types, front, rest, d .enabled)
+
+    pub pairs-inside : 2 * m ≤ length ps
+    pairs-inside = omega (arith, ap length (d .pairs), length-append (manifoldsIn bs) (jointsIn bs), pairs-long bs (pairsAt bs) 4 (countM bs), em)
+
+    module _ (pa bi mi ji ns ks ss os cs : List ℕ) (room : Roomy bs pa bi mi ji ns ks ss os cs) where
+      abbrev rooms : Rooms
+      rooms = record { parents = length pa; bodies = length bi; manifolds = length mi; joints = length ji }
+
+      refusal-is : islandRefusal ts (take (2 * m) ps) (drop (2 * m) ps) es rooms ≡ soundness bs
+      unfolding islandRefusal soundness fewEach decode
+      refusal-is =
+          let lm = pairs-long bs (pairsAt bs) 4 (countM bs) in
+          let lj = pairs-long bs (jointsAt bs) 5 (countJ bs) in
+          rw (
+            front,
+            rest,
+            d .types,
+            d .enabled,
+            le-leb (length (typesIn bs)) 4096 (omega (arith, types-long, s .bodies)),
+            le-leb (length (manifoldsIn bs) / 2) 4096 (omega (arith, lm, s .manifolds)),
+            le-leb (length (jointsIn bs) / 2) 4096 (omega (arith, lj, s .joints)),
+            eq-eqb (length (manifoldsIn bs) % 2) 0 (omega (arith, lm)),
+            eq-eqb (length (jointsIn bs) % 2) 0 (omega (arith, lj)),
+            eq-eqb (length (enabledIn bs)) (length (jointsIn bs) / 2) (omega (arith, lj, enabled-long bs (jointsAt bs) (countJ bs))),
+            file-known,
+            le-leb (length (typesIn bs)) (length pa) (omega (arith, types-long, room .parents)),
+            le-leb (length (typesIn bs)) (length bi) (omega (arith, types-long, room .body-islands)),
+            le-leb (length (manifoldsIn bs) / 2) (length mi) (omega (arith, lm, room .manifold-islands)),
+            le-leb (length (jointsIn bs) / 2) (length ji) (omega (arith, lj, room .joint-islands)),
+          )
+
+      module _ (pa′ bi′ mi′ ji′ : List ℕ) (k n : ℕ)
+          (h : Built (frameOf ts (take (2 * m) ps) (drop (2 * m) ps) es) (islandRefusal ts (take (2 * m) ps) (drop (2 * m) ps) es rooms) pa bi mi ji pa′ bi′ mi′ ji′ k n) where
+        pub built : Built f (soundness bs) pa bi mi ji pa′ bi′ mi′ ji′ k n
+        built = rw (frame-is, refusal-is) at h
+
+        refusal-sound : k ≡ 0 → allSound f ≡ true
+        unfolding soundness
+        refusal-sound z = by-cases (allSound f) (λ t. t) (λ t. absurd (let y : 7 ≡ 0 = sym (rw t at (built .refusal)) ∙ z in omega arith))
+
+        pub countable : (c : ℕ) → c ≡ k → Countable c ts ps m es cs
+        countable c ec = record {
+          pairs = pairs-inside;
+          counts = omega (arith, ap length (d .types), types-long, room .counts);
+          sound = λ z. rw frame-is (refusal-sound (sym ec ∙ z));
+          few = subst (λ (g : Frame). length (constraints g) ≤ 8192) (sym frame-is) few-constraints;
+        }
+
+        pub degree-is : (c r : ℕ) → c ≡ k → r ≡ cond (eqb c 0) (degreeMax (frameOf ts (take (2 * m) ps) (drop (2 * m) ps) es)) 0 → r ≡ cond (allSound f) (degreeMax f) 0
+        unfolding soundness
+        degree-is c r ec er = er ∙ by-cases (allSound f)
+            (λ t. rw (frame-is, ec, rw t at (built .refusal), t))
+            (λ t. rw (ec, rw t at (built .refusal), t))
+
+        -- ---- the labels
+
+        front-labels : (old new labels : List ℕ) (c : ℕ) → length labels ≡ c → new ≡ labelsAfter (soundness bs) labels old → take c new ≡ cond (allSound f) labels (replicate c none)
+        unfolding soundness labelsAfter
+        front-labels old new labels c l en = by-cases (allSound f)
+            (λ t. rw t (ap (take c) (rw t at en) ∙ take-at labels (drop (length labels) old) c l))
+            (λ t. rw t (ap (take c) (rw t at en) ∙ ap (λ (x : ℕ). take c (replicate x none ++ drop (length (replicate x none)) old)) l ∙ take-at (replicate c none) (drop (length (replicate c none)) old) c (length-replicate c none)))
+
+        labels-are : labelsIn bs mi′ ji′ ≡ cond (allSound f) (map (label f) (constraints f)) (replicate (countM bs + countJ bs) none)
+        labels-are =
+            let a = front-labels mi mi′ (map (label f) (f .manifolds)) (countM bs) (length-map (f .manifolds) (label f) ∙ manifolds-count) (built .manifold-labels) in
+            let b = front-labels ji ji′ (map (label f) (f .joints)) (countJ bs) (length-map (f .joints) (label f) ∙ joints-count) (built .joint-labels) in
+            rw (a, b) (by-cases (allSound f)
+            (λ t. rw t (sym (map-append (label f) (f .manifolds) (f .joints))))
+            (λ t. rw t (replicate-more (countM bs) (countJ bs))))
+
+        file-accepted : allSound f ≡ true → Accepted f
+        unfolding frameRefusal
+        file-accepted t = accepted bs (asked-append (fileQuestions bs) (question 7 (allSound f) ∷ []) refl ∙ rw (e, t))
+
+        pub labels-sortable : Labels n (labelsIn bs mi′ ji′)
+        unfolding soundness
+        labels-sortable = rw labels-are (by-cases (allSound f)
+            (λ t. rw (t, rw t at (built .count)) (frame-labels f (file-accepted t)))
+            (λ t. rw (t, rw t at (built .count)) (none-labels (countM bs + countJ bs) (omega (arith, s .manifolds, s .joints)))))
+
+        -- ---- the last two steps
+
+        module _ (j c i : ℕ) (ej : j ≡ length es) (ec : c ≡ k) (ei : i ≡ n) where
+          joints-are : j ≡ countJ bs
+          joints-are = ej ∙ ap length (d .enabled) ∙ enabled-long bs (jointsAt bs) (countJ bs)
+
+          fronts : take m mi′ ++ take j ji′ ≡ labelsIn bs mi′ ji′
+          fronts = rw (em, joints-are)
+
+          pub sort-ready : length mi′ ≡ length mi → length ji′ ≡ length ji
+              → ((m ≤ length mi′) × (j ≤ length ji′) × (m + j ≤ length ks)) × (Labels i (take m mi′ ++ take j ji′) × Sortable (m + j) (take (m + j) ks) ss os ns)
+          sort-ready lm lj = (
+            (omega (arith, lm, em, room .manifold-islands), omega (arith, lj, joints-are, room .joint-islands), omega (arith, em, joints-are, room .keys)),
+            (
+              rw (fronts, ei) labels-sortable,
+              record {
+                keys = length-take-le (m + j) ks (omega (arith, em, joints-are, room .keys));
+                scratch = omega (arith, em, joints-are, room .scratch);
+                offsets = omega (arith, em, joints-are, room .offsets);
+                numbers = omega (arith, em, joints-are, room .numbers);
+              },
+            ),
+          )
+
+          pub filled : (r : ℕ) (ns′ : List ℕ) → r ≡ cond (eqb c 0) (degreeMax (frameOf ts (take (2 * m) ps) (drop (2 * m) ps) es)) 0 → ns′ ≡ byIsland i (take m mi′ ++ take j ji′)
+              → Fills bs ts fs ps es pa bi mi ji pa′ bi′ mi′ ji′ ns′ (record { refusal = c; islands = i; degree = r })
+          filled r ns′ er en = record {
+            decoded = d;
+            islands = rw (ec, ei) built;
+            degree = degree-is c r ec er;
+            numbers = en ∙ ap (byIsland i) fronts;
+          }
