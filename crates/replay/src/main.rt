@@ -181,7 +181,14 @@ fn bind_and_take(question: &[u8], types: &mut [u8], list: &mut [u16], out: &mut 
     let binding = bound.binding;
     let refused = put(out, 0, bound.refusal);
     let shown = put_binding(binding, out, refused);
-    take_all(binding, number_at(question, 2), question, after(question, listed, list.len()), out, shown)
+    take_all(
+        binding,
+        number_at(question, 2),
+        question,
+        after(question, listed, list.len()),
+        out,
+        shown,
+    )
 }
 
 fn answer_takes(question: &[u8], out: &mut [u8]) -> usize {
@@ -695,7 +702,13 @@ fn replay_next(tally: Tally) -> Tally {
     let q = least(half_at(&head, 1) as usize, 1024);
     let a = least(half_at(&head, 3) as usize, 2048);
     let started = summed(tally, &head);
-    replay_record(started, kind, &mut question[..q], &mut stored[..a], &mut out)
+    replay_record(
+        started,
+        kind,
+        &mut question[..q],
+        &mut stored[..a],
+        &mut out,
+    )
 }
 
 fn replay_all() -> Tally {
