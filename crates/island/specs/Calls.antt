@@ -1,13 +1,13 @@
 -- What an islands call answers, and what it leaves in its four tables.
 use Prim.Native.Nat.{ℕ, zero, suc, _≤_}
 use mathlib.Core.Path.{_≡_}
-use mathlib.Core.Bool.{Bool, true, false, _&&_, cond}
-use mathlib.Core.List.{List, [], _∷_, _++_, map}
+use mathlib.Core.Bool.{Bool, _&&_, cond}
+use mathlib.Core.List.{List, [], _∷_, map}
 use lib.Dec.{eqb, leb}
 use lib.ListN.{length, getD, take, drop, replicate}
-use Rattle.lists.specs.Basics.{over, range}
+use Rattle.lists.specs.Basics.{over}
 use Rattle.frame.specs.Frames.{Frame, frameOf, bodies, allSound, none}
-use Rattle.frame.specs.Questions.{Question, question, asked, fewEach, even, pairCount, typesKnown, bits}
+use Rattle.frame.specs.Questions.{question, asked, fewEach, even, pairCount, typesKnown, bits}
 use Rattle.island.specs.Islands.{lowest, islandCount, bodyLabel, label}
 
 -- ---- the lengths of the lent tables, and the questions 3 to 7

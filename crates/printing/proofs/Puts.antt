@@ -60,7 +60,7 @@ put-before i v text old h =
     ∙ ap (λ (k : ℕ). take i old ++ v ∷ (text ++ drop k old)) e
 
 pub put-nothing : (old : List ℕ) (at : ℕ) → Put [] old at old at
-put-nothing old at = record { buffer = sym (put-none at old); next = omega arith }
+put-nothing old at = record { buffer = sym (put-none at old); next = omega arith; within = λ h. h }
 
 -- the end of a copy
 pub paste-put : (old : List ℕ) (at : ℕ) (text : List ℕ) (n : ℕ) → n ≡ length text → paste old at text n ≡ put at text old
@@ -86,6 +86,7 @@ wrote-then a b old mid new at m r n k w q h = record {
     buffer =
         q .buffer ∙ ap (λ (i : ℕ). put i b mid) (w .put .next) ∙ ap (put (at + length a) b) (w .put .buffer) ∙ put-put at a b old (omega (arith, w .put .next, w .left));
     next = let e = length-append a b in omega (arith, w .put .next, q .next);
+    within = λ i. omega (arith, w .left, q .next);
   };
   kept = ap length (q .buffer) ∙ length-put m b mid (omega (arith, w .left, w .kept)) ∙ w .kept;
   left = omega (arith, w .left, q .next);

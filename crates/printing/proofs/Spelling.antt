@@ -60,4 +60,5 @@ module _ (old : List ℕ) (at n : ℕ) (out : List ℕ) (i rest : ℕ) (room : a
             ∙ put-before at (48 + rest) (s .done) old (omega (arith, spell-size))
             ∙ ap (λ (t : List ℕ). put at t old) (ap (λ (t : List ℕ). t ++ s .done) (sym e) ∙ s .text);
         next = w;
+        within = λ l. omega arith;
       }

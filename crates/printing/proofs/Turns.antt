@@ -173,7 +173,6 @@ pub record Gathering (bs turns : List ℕ) (first : ℕ) (old : List ℕ) (at : 
   pub past : first ≤ t
   pub put : Put (linesOf bs (turnsFrom turns first) (t - first)) old at out m
   pub kept : length out ≡ length old
-  pub within : at ≤ length old → m ≤ length old
   pub count : gathered bs (length old) at (turnsFrom turns first) ≡ (t - first) + gathered bs (length old) m (turnsFrom turns t)
 
 pub gather-first : (bs turns : List ℕ) (first : ℕ) (old : List ℕ) (at : ℕ) → Gathering bs turns first old at old at first
@@ -184,7 +183,6 @@ gather-first bs turns first old at =
       past = omega arith;
       put = rw e (put-nothing old at);
       kept = refl;
-      within = λ h. h;
       count = omega arith;
     }
 
@@ -195,7 +193,6 @@ module _ (bs turns : List ℕ) (first : ℕ) (old : List ℕ) (at : ℕ) (out : 
       let c : gathered bs (length old) at (turnsFrom turns first) ≡ t - first = omega (arith, g .count) in
       record {
         put = rw c (g .put);
-        within = g .within;
         turn = omega (arith, g .past);
       }
 
@@ -248,7 +245,6 @@ module _ (bs turns : List ℕ) (first : ℕ) (old : List ℕ) (at : ℕ) (out : 
           past = omega (arith, g .past);
           put = rw (q, l) (w .put);
           kept = w .kept;
-          within = λ b. omega (arith, w .left);
           count =
               g .count
               ∙ ap (λ (x : List ℕ). d + gathered bs (length old) m x) here
@@ -257,3 +253,12 @@ module _ (bs turns : List ℕ) (first : ℕ) (old : List ℕ) (at : ℕ) (out : 
               ∙ omega (arith, q);
         })
         (λ y. absurd (e (omega (arith, was-not y .next))))
+
+-- no more turns are gathered than there are
+pub gathered-few : (bs : List ℕ) (size at : ℕ) (turns : List ℕ) → 3 * gathered bs size at turns ≤ length turns
+unfolding gathered
+gathered-few bs size at [] = omega arith
+gathered-few bs size at (i ∷ []) = omega arith
+gathered-few bs size at (i ∷ k ∷ []) = omega arith
+gathered-few bs size at (i ∷ k ∷ n ∷ r) =
+    by-cases (ready bs size at n) (λ e. rw e (omega (arith, gathered-few bs size (at + length (lineOf bs i k n)) r))) (λ e. rw e (omega arith))

@@ -1,5 +1,5 @@
 -- Text put into a lent buffer from a place on.
-use Prim.Native.Nat.{ℕ, _+_}
+use Prim.Native.Nat.{ℕ, _+_, _≤_}
 use mathlib.Core.Path.{_≡_}
 use mathlib.Core.Bool.{cond}
 use mathlib.Core.List.{List, [], _++_}
@@ -10,10 +10,11 @@ use lib.ListN.{length, take, drop}
 unfoldable pub put : ℕ → List ℕ → List ℕ → List ℕ
 put at text old = take at old ++ (text ++ drop (at + length text) old)
 
--- the buffer `old` becomes `new`: the text stands from place `at` on, and r is the place after it
+-- the buffer `old` becomes `new`: the text stands from place `at` on, and r, in the buffer if `at` is, is the place after it
 pub record Put (text old : List ℕ) (at : ℕ) (new : List ℕ) (r : ℕ) : Type 0 where
   pub buffer : new ≡ put at text old
   pub next : r ≡ at + length text
+  pub within : at ≤ length old → r ≤ length old
 
 -- no line is longer: a head has 31 bytes of words, spaces and newline, and four numbers of at most 20 digits
 abbrev pub longest : ℕ

@@ -45,5 +45,4 @@ linesOf bs turns d = turnLines (decode bs) (take (3 * d) turns)
 -- from the buffer `old` to `new`: from turn `first` on, the lines of as many turns as are ready
 pub record Lines (bs turns : List ℕ) (first : ℕ) (old : List ℕ) (at : ℕ) (new : List ℕ) (r : Gathered) : Type 0 where
   pub put : Put (linesOf bs (turnsFrom turns first) (gathered bs (length old) at (turnsFrom turns first))) old at new (r .at)
-  pub within : at ≤ length old → r .at ≤ length old
   pub turn : r .turn ≡ first + gathered bs (length old) at (turnsFrom turns first)

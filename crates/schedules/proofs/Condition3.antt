@@ -187,7 +187,7 @@ unfolding frameRefusal runRefusal
 runs bs e = e
 
 -- ---- two plans that say the same make the same schedule
-same-calls : (p q : Plan) (ns : List ℕ) (i k : ℕ) → ((b : BodyBinding) (r : ℕ) → takeRank p b r ≡ takeRank q b r) → (b : BodyBinding) (rs : List ℕ) → callsFrom p ns i k b rs ≡ callsFrom q ns i k b rs
+pub same-calls : (p q : Plan) (ns : List ℕ) (i k : ℕ) → ((b : BodyBinding) (r : ℕ) → takeRank p b r ≡ takeRank q b r) → (b : BodyBinding) (rs : List ℕ) → callsFrom p ns i k b rs ≡ callsFrom q ns i k b rs
 unfolding callsFrom
 same-calls p q ns i k e b [] = refl
 same-calls p q ns i k e b (r ∷ rs) =
@@ -195,11 +195,11 @@ same-calls p q ns i k e b (r ∷ rs) =
     let c : Call = record { island = i; group = k; constraint = getD ns r 0; refusal = t .refusal; handed = t .handed } in
     rw (e b r) (ap (λ (cs : List Call). c ∷ cs) (same-calls p q ns i k e (t .after) rs))
 
-join-ext : {A : Type 0} (g h : ℕ → List A) (xs : List ℕ) → ((x : ℕ) → mem x xs ≡ true → g x ≡ h x) → joinMap g xs ≡ joinMap h xs
+pub join-ext : {A : Type 0} (g h : ℕ → List A) (xs : List ℕ) → ((x : ℕ) → mem x xs ≡ true → g x ≡ h x) → joinMap g xs ≡ joinMap h xs
 join-ext g h [] e = refl
 join-ext g h (x ∷ xs) e = ap₂ _++_ (e x (mem-self x xs)) (join-ext g h xs (λ y m. e y (or-right (eqb y x) (mem y xs) m)))
 
-same-schedule : (f : Frame) (ok : Accepted f) (p q : Plans) → ((i : ℕ) (l : i < islandCount f) → Stands f ok i l (p i)) → ((i : ℕ) (l : i < islandCount f) → Stands f ok i l (q i))
+pub same-schedule : (f : Frame) (ok : Accepted f) (p q : Plans) → ((i : ℕ) (l : i < islandCount f) → Stands f ok i l (p i)) → ((i : ℕ) (l : i < islandCount f) → Stands f ok i l (q i))
     → schedule f p (rising p) ≡ schedule f q (rising q)
 unfolding schedule groupCalls rising
 same-schedule f ok p q sp sq = join-ext _ _ (range (islandCount f))

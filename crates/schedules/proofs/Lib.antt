@@ -1,4 +1,5 @@
 pub mod Accepted
+pub mod Standing
 pub mod Plans
 pub mod Groups
 pub mod Condition3

@@ -1,20 +1,19 @@
 -- The update of an island is accepted, so its plan is the definition's for the frame's flags and the island's endpoint pairs, and the
 -- lookups hand back its groups' members and bodies and its constraints' positions.
-use mathlib.Core.List.{append-nil, [], _∷_, _++_, List, map}
-use lib.ListN.{drop, length, getD, length-map, length-append}
-use borrow.Author.Tests.{le-ltb, eqb-true, ltb-true, eq-eqb, le-leb}
-use Rattle.lists.proofs.Laws.{and-left, and-right, and-both, by-cases, any-in, any-out, in-range, all-intro, all-map, filter-mem, max-in, filter-length-le, length-range, getD-map-lt, getD-mem}
+use mathlib.Core.List.{[], _∷_, _++_, List, map}
+use lib.ListN.{length, getD, length-map, length-append}
+use borrow.Author.Tests.{eqb-true, eq-eqb, le-leb}
+use Rattle.lists.proofs.Laws.{and-left, and-right, and-both, by-cases, any-in, any-out, in-range, all-intro, all-map, filter-mem, max-in, filter-length-le, length-range, getD-map-lt}
 use Rattle.frame.specs.Questions.{pairCount, bits}
-use Rattle.groups.specs.Groups.{colorFrom, Plan, flatten, pairsOf, flagged, colorsOf, groupCount, members, groupBodies, positions, planOf}
-use Rattle.constraint_coloring.specs.declared.ConstraintColoring.{ConstraintColoring}
-use Rattle.constraint_coloring.specs.Plans.{roomy, updateRefusal, positionsRefusal, positionsAt, fresh, planFor}
-use Rattle.constraint_coloring.specs.Calls.{freshPlan, carried, holds, refusalWith, changesWith, written}
-use Rattle.schedules.specs.Condition.{standing, Planned}
+use Rattle.groups.specs.Groups.{Plan, pairsOf, flagged, colorsOf, groupCount, members, groupBodies, positions, planOf}
+use Rattle.constraint_coloring.specs.Plans.{roomy, updateRefusal, fresh, planFor}
+use Rattle.constraint_coloring.specs.Calls.{refusalWith}
+use Rattle.schedules.specs.Condition.{Planned}
 use mathlib.Core.Bool.{cond, Bool, true, false, _&&_}
 use lib.Dec.{ltb, leb, eqb}
 use Rattle.colored_bodies.specs.Bindings.{takeOf}
 use Prim.Native.Nat.{ℕ, _+_, _-_, _*_, _/_, _%_, _≤_, _<_}
-use mathlib.Core.Path.{_≡_, refl, sym, ap, _∙_, subst}
+use mathlib.Core.Path.{_≡_, refl, sym, ap, _∙_}
 use native.Mathlib.Omega.{arith}
 use Rattle.lists.specs.Basics.{one, any, all, count, mem, joinMap}
 use Rattle.lists.proofs.Sums.{sum-le, sum-map, sum-filter, sum-getD}
@@ -23,10 +22,10 @@ use Rattle.island.specs.Islands.{islandCount, label, ofIsland}
 use Rattle.island.proofs.Theorem.{dynamic-below, islands-few, island-touches}
 use Rattle.groups.proofs.Colors.{color-few, colors-length}
 use Rattle.constraint_coloring.proofs.Memory.{remembers}
-use Rattle.constraint_coloring.proofs.Lookups.{group-part, positions-asked, positions-found}
 use Rattle.colored_bodies.specs.declared.BodyBinding.{BodyBinding}
 use Rattle.schedules.specs.Runs.{flags, pairsFor, planAt, membersIn, bodiesIn, takeRank}
 use Rattle.schedules.proofs.Accepted.{Accepted, Live, live, flag-dynamic}
+use Rattle.schedules.proofs.Standing.{Lookups, plan-lookups, updated-lookups}
 
 abbrev pub endsAt : Frame → ℕ → List ℕ
 endsAt f n = constraintAt f n .ends
@@ -65,13 +64,6 @@ flag-bits (t ∷ ts) = and-both (leb (flagOf t) 1) (bits (map flagOf ts)) (bit (
     bit : (b : Bool) → leb (one b) 1 ≡ true
     bit true = refl
     bit false = refl
-
-no-length : (xs : List ℕ) → length xs ≡ 0 → xs ≡ []
-no-length [] e = refl
-no-length (x ∷ xs) e = absurd (omega arith)
-
-ltb-none : (r : ℕ) → ltb r 0 ≡ false
-ltb-none r = le-ltb r 0 (omega arith)
 
 module _ (f : Frame) (ok : Accepted f) where
   -- the constraints of an island touch a dynamic body
@@ -128,7 +120,7 @@ module _ (f : Frame) (ok : Accepted f) where
     all-fit = rw (pairs-apart, length-flags) (all-map (fits nb) (endsAt f) (ofIsland f i) ∙ all-intro (λ n. fits nb (endsAt f n)) (ofIsland f i) (λ n m. touch-live n (of-island i n l m .2) .fitting))
 
     -- so the update of an island is accepted
-    accepts : updateRefusal (flags f) (pairsFor f i) true ≡ 0
+    pub accepts : updateRefusal (flags f) (pairsFor f i) true ≡ 0
     unfolding updateRefusal flags
     accepts =
         rw (
@@ -143,16 +135,10 @@ module _ (f : Frame) (ok : Accepted f) where
     unfolding planAt
     plan-is = ap planFor (remembers fresh (flags f) (pairsFor f i) true accepts)
 
-    -- the endpoints of the constraint of rank r, and that it has two positions
+    -- the endpoints of the constraint of rank r
     pub ends-are : (r : ℕ) → r < length (ofIsland f i) → getD cs r [] ≡ endsAt f (getD (ofIsland f i) r 0)
     unfolding pairsAt
     ends-are r h = getD-map-lt (endsAt f) (ofIsland f i) r [] 0 h
-
-    two-positions : (r : ℕ) → r < length cs → length (positions nb cs colors r) ≡ 2
-    unfolding positions
-    two-positions r h =
-        let q : r < length (ofIsland f i) = omega (arith, length-pairs) in
-        length-map (getD cs r []) _ ∙ ap length (ends-are r q) ∙ ends-two (getD (ofIsland f i) r 0) (getD-mem (ofIsland f i) r q)
 
     -- what a plan says, as it stands in its tables: groups, members, bodies, and the take of a rank
     pub record Stands (p : Plan) : Type 0 where
@@ -161,109 +147,28 @@ module _ (f : Frame) (ok : Accepted f) where
       pub bodies : (k : ℕ) → k < p .groups → bodiesIn p k ≡ groupBodies nb cs colors k
       pub takes : (b : BodyBinding) (r : ℕ) → takeRank p b r ≡ cond (ltb r (length (ofIsland f i))) (takeOf b (positions nb cs colors r)) (record { refusal = 12; handed = []; after = b })
 
-    -- a plan whose tables hold the definition's in their used places, whatever stands behind
-    record Behind (p : Plan) : Type 0 where
-      q : Plan
-      is : q ≡ planOf (flags f) (pairsFor f i)
-      groups : p .groups ≡ q .groups
-      constraints : p .constraints ≡ q .constraints
-      v : List ℕ
-      w : List ℕ
-      x : List ℕ
-      y : List ℕ
-      z : List ℕ
-      color-offsets : p .color-offsets ≡ q .color-offsets ++ v
-      colored-constraints : p .colored-constraints ≡ q .colored-constraints ++ w
-      color-body-offsets : p .color-body-offsets ≡ q .color-body-offsets ++ x
-      color-bodies : p .color-bodies ≡ q .color-bodies ++ y
-      positions : p .positions ≡ q .positions ++ z
-
-    stands : (p : Plan) → Behind p → Stands p
-    unfolding membersIn bodiesIn takeRank planOf colorsAt
-    stands p h =
-        let g : p .groups ≡ groupCount (colorsOf (flags f) cs) = rw (h .groups, h .is, pairs-apart) in
-        record {
-          groups = g;
-          members = λ k l. rw (h .groups, h .color-offsets, h .colored-constraints, h .is, pairs-apart) (group-part (members (colorsOf (flags f) cs)) (groupCount (colorsOf (flags f) cs)) (h .v) (h .w) k (subst (λ (n : ℕ). k < n) g l));
-          bodies = λ k l. rw (h .groups, h .color-body-offsets, h .color-bodies, h .is, pairs-apart, length-flags) (group-part (groupBodies nb cs (colorsOf (flags f) cs)) (groupCount (colorsOf (flags f) cs)) (h .x) (h .y) k (subst (λ (n : ℕ). k < n) g l));
-          takes = λ b r. rw (h .constraints, h .positions, h .is, pairs-apart, length-flags) (take b r (h .z));
-        }
-      where
-        take : (b : BodyBinding) (r : ℕ) (z : List ℕ) →
-            (let q = positionsRefusal (length cs) (flatten (positions nb cs (colorsOf (flags f) cs)) (length cs) ++ z) r in
-            cond (eqb q 0) (takeOf b (positionsAt (flatten (positions nb cs (colorsOf (flags f) cs)) (length cs) ++ z) r)) (record { refusal = q; handed = []; after = b }))
-            ≡ cond (ltb r (length (ofIsland f i))) (takeOf b (positions nb cs (colorsOf (flags f) cs) r)) (record { refusal = 12; handed = []; after = b })
-        take b r z =
-            let g = positions nb cs (colorsOf (flags f) cs) in
-            by-cases (ltb r (length cs))
-            (λ t. rw (positions-asked g (length cs) two-positions z r (omega (arith, length-pairs, few-here)), ← length-pairs, t, positions-found g (length cs) two-positions z r (ltb-true r (length cs) t)))
-            (λ t. rw (positions-asked g (length cs) two-positions z r (omega (arith, length-pairs, few-here)), ← length-pairs, t))
+    -- it says what the lookups hand back for the island's flags and pairs
+    stands : (p : Plan) → Lookups (flags f) (pairsFor f i) p → Stands p
+    unfolding colorsAt
+    stands p h = record {
+      groups = h .groups ∙ ap (λ (xs : List (List ℕ)). groupCount (colorsOf (flags f) xs)) pairs-apart;
+      members = λ k l. h .members k l ∙ ap (λ (xs : List (List ℕ)). members (colorsOf (flags f) xs) k) pairs-apart;
+      bodies = λ k l. h .bodies k l ∙ rw (pairs-apart, length-flags);
+      takes = λ b r. h .takes b r ∙ rw (pairs-apart, length-flags, length-pairs);
+    }
 
     -- the definition's plan
     pub plan-stands : Stands (planAt f i)
-    plan-stands = stands (planAt f i) (record {
-      q = planAt f i;
-      is = plan-is;
-      groups = refl;
-      constraints = refl;
-      v = [];
-      w = [];
-      x = [];
-      y = [];
-      z = [];
-      color-offsets = sym (append-nil (planAt f i .color-offsets));
-      colored-constraints = sym (append-nil (planAt f i .colored-constraints));
-      color-body-offsets = sym (append-nil (planAt f i .color-body-offsets));
-      color-bodies = sym (append-nil (planAt f i .color-bodies));
-      positions = sym (append-nil (planAt f i .positions));
-    })
+    plan-stands = stands (planAt f i) (rw plan-is (plan-lookups (flags f) (pairsFor f i) (omega (arith, ap length pairs-apart, length-pairs, few-here))))
 
-    -- ---- the plan of an update, as its contract says
-
-    pairs-half : pairCount (pairsFor f i) ≡ length (ofIsland f i)
-    pairs-half = omega (arith, pairs-long)
-
-    -- an update with no bodies and no pairs is "unchanged", and its plan has no groups
-    empty : (p : Plan) (h : Planned f i p) → holds freshPlan (h .before) (flags f) (pairsFor f i) ≡ true → p ≡ standing freshPlan (h .after) → Stands p
-    unfolding holds pairsAt colorsAt colorsOf colorFrom groupCount takeRank positionsRefusal
-    empty p h same e =
-        let z : length (ofIsland f i) ≡ 0 = omega (arith, pairs-half, eqb-true (pairCount (pairsFor f i)) 0 (and-right (eqb (length (flags f)) 0) (eqb (pairCount (pairsFor f i)) 0) (and-left (eqb (length (flags f)) 0 && eqb (pairCount (pairsFor f i)) 0) _ (and-left (eqb (length (flags f)) 0 && eqb (pairCount (pairsFor f i)) 0 && _) _ same)))) in
-        let n : ofIsland f i ≡ [] = no-length (ofIsland f i) z in
-        let g : p .groups ≡ 0 = ap (λ (s : Plan). s .groups) e in
-        record {
-          groups = rw (e, n);
-          members = λ k l. absurd (omega (arith, l, g));
-          bodies = λ k l. absurd (omega (arith, l, g));
-          takes = λ b r. rw (e, n, ltb-none r, le-leb 0 (length (h .after .constraint-body-positions)) (omega arith));
-        }
-
+    -- the plan of an update, as its contract says
     pub planned-stands : (p : Plan) → Planned f i p → Stands p
-    unfolding changesWith refusalWith written
+    unfolding refusalWith
     planned-stands p h =
-        let q = planOf (flags f) (pairsFor f i) in
-        let r : roomy (length (flags f)) (pairCount (pairsFor f i)) (h .before) ≡ true = rw (length-flags, pairs-half) (h .room) in
-        let a : updateRefusal (flags f) (pairsFor f i) (roomy (length (flags f)) (pairCount (pairsFor f i)) (h .before)) ≡ 0 = rw r accepts in
-        by-cases (holds freshPlan (h .before) (flags f) (pairsFor f i))
-        (λ same. empty p h same (h .stands ∙ rw (a, same) at (ap (λ (c : ConstraintColoring). standing c (h .after)) (h .updated .plan))))
-        (λ new.
-        let ch : changesWith freshPlan (h .before) (flags f) (pairsFor f i) ≡ true = rw (a, new) in
-        let e : p ≡ standing (carried q) (h .after) = h .stands ∙ rw (a, new) at (ap (λ (c : ConstraintColoring). standing c (h .after)) (h .updated .plan)) in
-        stands p (record {
-          q = q;
-          is = refl;
-          groups = ap (λ (s : Plan). s .groups) e;
-          constraints = ap (λ (s : Plan). s .constraints) e;
-          v = drop (length (q .color-offsets)) (h .before .color-offsets);
-          w = drop (length (q .colored-constraints)) (h .before .colored-constraints);
-          x = drop (length (q .color-body-offsets)) (h .before .color-body-offsets);
-          y = drop (length (q .color-bodies)) (h .before .color-bodies);
-          z = drop (length (q .positions)) (h .before .constraint-body-positions);
-          color-offsets = ap (λ (s : Plan). s .color-offsets) e ∙ rw (a, new) at (h .updated .color-offsets);
-          colored-constraints = ap (λ (s : Plan). s .colored-constraints) e ∙ rw (a, new) at (h .updated .colored-constraints);
-          color-body-offsets = ap (λ (s : Plan). s .color-body-offsets) e ∙ rw (a, new) at (h .updated .color-body-offsets);
-          color-bodies = ap (λ (s : Plan). s .color-bodies) e ∙ rw (a, new) at (h .updated .color-bodies);
-          positions = ap (λ (s : Plan). s .positions) e ∙ rw (a, new) at (h .updated .constraint-body-positions);
-        }))
+        let half : pairCount (pairsFor f i) ≡ length (ofIsland f i) = omega (arith, pairs-long) in
+        let r : roomy (length (flags f)) (pairCount (pairsFor f i)) (h .before) ≡ true = rw (length-flags, half) (h .room) in
+        let ok : refusalWith (h .before) (flags f) (pairsFor f i) ≡ 0 = rw r accepts in
+        rw (h .stands) (stands _ (updated-lookups (flags f) (pairsFor f i) (h .before) (h .after) (h .answer) ok (h .updated)))
 
     -- ---- few groups
     degree-le : (b : ℕ) → dynamic f b ≡ true → count (on b) (constraints f) ≤ degreeMax f

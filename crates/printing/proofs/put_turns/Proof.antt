@@ -1,4 +1,5 @@
 -- `printing::put_turns` meets its contract. The invariant is `Gathering`: the lines so far stand in the buffer, and the rest is still to be gathered.
+use native.Mathlib.Omega.{arith}
 use Prim.Native.Nat.{_-_, _/_}
 use mathlib.Core.Path.{_∙_}
 use lib.ListN.{length}
@@ -74,7 +75,7 @@ loop-again c =
     let a = c .before .before .before .before .before .before .before .before .before .before .before .before .before .before .before .before .args in
     let l = c .before .before .before .before .before .before .before .before .before .before .before .before .loop in
     let p = c .before .before .before .put-turn in
-    gather-turn (a .frame .now) (a .turns .now) (a .first) (a .out .now) (a .at) (l .out) (l .place) (l .turn) (l .inv) (c .before .before .before .before .before .before .before .before .before .before .before .loop-test .taken)
+    gather-turn (a .frame .now) (a .turns .now) (a .first) (a .out .now) (a .at) (l .out) (l .place) (l .turn) (l .inv) (omega (arith, c .before .before .before .before .before .before .before .before .before .before .before .loop-test .taken))
     (c .before .before .before .before .before .before .before .before .before .wide .result) (c .before .before .before .before .before .before .before .wide2 .result) (c .before .before .before .before .before .wide3 .result) (c .before .before .before .before .before .before .before .before .before .wide .ensures) (c .before .before .before .before .before .before .before .wide2 .ensures) (c .before .before .before .before .before .wide3 .ensures) (p .last .0) (p .result) (p .ensures) (c .if1 .left)
 
 same-length : tie.Need-same-length Inv-loop μ-loop
@@ -94,7 +95,7 @@ returns-2 c =
     let a = c .before .before .before .before .before .before .before .before .before .before .before .before .before .before .before .before .args in
     let l = c .before .before .before .before .before .before .before .before .before .before .before .before .loop in
     let p = c .before .before .before .put-turn in
-    gather-stop (a .frame .now) (a .turns .now) (a .first) (a .out .now) (a .at) (l .out) (l .place) (l .turn) (l .inv) (c .before .before .before .before .before .before .before .before .before .before .before .loop-test .taken)
+    gather-stop (a .frame .now) (a .turns .now) (a .first) (a .out .now) (a .at) (l .out) (l .place) (l .turn) (l .inv) (omega (arith, c .before .before .before .before .before .before .before .before .before .before .before .loop-test .taken))
     (c .before .before .before .before .before .before .before .before .before .wide .result) (c .before .before .before .before .before .before .before .wide2 .result) (c .before .before .before .before .before .wide3 .result) (c .before .before .before .before .before .before .before .before .before .wide .ensures) (c .before .before .before .before .before .before .before .wide2 .ensures) (c .before .before .before .before .before .wide3 .ensures) (p .last .0) (p .result) (p .ensures) (c .if1 .taken)
 
 pub put-turns-spec : {M : Type 1} → statement M

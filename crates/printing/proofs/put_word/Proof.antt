@@ -64,6 +64,7 @@ returns c =
     record {
       buffer = l .inv .1 ∙ paste-put (a .out .now) (a .at) (a .word .now) (l .i) e;
       next = ap (λ (n : ℕ). a .at + n) e;
+      within = λ h. omega (arith, c .before .before .pre);
     }
 
 pub put-word-spec : {M : Type 1} → statement M

@@ -1,0 +1,153 @@
+-- Every loop of the run keeps one invariant: the calls done and those still to come are the whole, and what is done has been added. So a
+-- turn of a loop moves the next calls from the one list to the other, and at the end all are done.
+use Prim.Native.Nat.{ℕ, suc, _+_, _-_, _≤_, _<_}
+use mathlib.Core.Path.{_≡_, sym, ap, _∙_}
+use mathlib.Core.List.{List, [], _∷_, _++_, append-assoc, append-nil}
+use native.Mathlib.Omega.{arith}
+use native.Mathlib.Numerals.{add-one}
+use lib.Dec.{eqb}
+use lib.ListN.{length, take, drop, set, length-append, length-drop, take-append-drop}
+use lib.Seq.{length-take-le, take-at, drop-drop, drop-append-add, set-split}
+use Rattle.lists.specs.Basics.{count, joinMap, rangeFrom}
+use Rattle.lists.proofs.Ranges.{filter-append, joinMap-append}
+use Rattle.lists.proofs.Sums.{sum-append}
+use Rattle.schedules.specs.Runs.{Call, turnOf, turnsOf, takesOf}
+use Rattle.group_run.specs.declared.Tally.{Tally}
+use Rattle.group_run.specs.Appends.{Added, addedBy, put, Room, Appended}
+
+-- ---- writing over a table
+
+put-none : (n : ℕ) (old : List ℕ) → put n [] old ≡ old
+unfolding put
+put-none n old =
+    let e : n + length {A = ℕ} [] ≡ n = omega arith in
+    rw (append-nil (take n old), e) (take-append-drop n old)
+
+pub length-put : (n : ℕ) (new old : List ℕ) → n + length new ≤ length old → length (put n new old) ≡ length old
+unfolding put
+length-put n new old h =
+    let p : length (take n old) ≡ n = length-take-le n old (omega arith) in
+    simp (length-append, length-drop) (omega arith)
+
+-- writing b behind a is writing a ++ b
+put-put : (n : ℕ) (a b old : List ℕ) → n + length a + length b ≤ length old → put (n + length a) b (put n a old) ≡ put n (a ++ b) old
+unfolding put
+put-put n a b old h =
+    let front = take n old ++ a in
+    let rest = drop (n + length a) old in
+    let p : length (take n old) ≡ n = length-take-le n old (omega arith) in
+    let q : length front ≡ n + length a = length-append (take n old) a ∙ omega arith in
+    let ends : n + length a + length b ≡ n + length (a ++ b) = (let e = length-append a b in omega arith) in
+    let behind : drop (n + length a + length b) (front ++ rest) ≡ drop (n + length (a ++ b)) old =
+    ap (λ (m : ℕ). drop (m + length b) (front ++ rest)) (sym q)
+    ∙ drop-append-add front rest (length b)
+    ∙ drop-drop (length b) (n + length a) old
+    ∙ ap (λ (m : ℕ). drop m old) ends in
+    ap (λ (l : List ℕ). l ++ b ++ drop (n + length a + length b) (front ++ rest)) (take-at front rest (n + length a) q)
+    ∙ ap (λ (l : List ℕ). front ++ b ++ l) behind
+    ∙ ap (λ (l : List ℕ). l ++ drop (n + length (a ++ b)) old) (append-assoc (take n old) a b)
+
+set-put : (n v : ℕ) (old : List ℕ) → n < length old → set old n v ≡ put n (v ∷ []) old
+unfolding put
+set-put n v old h =
+    set-split old n v h ∙ ap (λ (m : ℕ). take n old ++ v ∷ drop m old) (sym (add-one n))
+    ∙ sym (append-assoc (take n old) (v ∷ []) (drop (n + 1) old))
+
+-- a turn: three stores
+pub set-turn : (n x y z : ℕ) (old : List ℕ) → n + 3 ≤ length old → set (set (set old n x) (n + 1) y) (n + 2) z ≡ put n (x ∷ y ∷ z ∷ []) old
+set-turn n x y z old h =
+    let a : set old n x ≡ put n (x ∷ []) old = set-put n x old (omega arith) in
+    let la : length (put n (x ∷ []) old) ≡ length old = length-put n (x ∷ []) old (omega arith) in
+    let b : set (put n (x ∷ []) old) (n + 1) y ≡ put n (x ∷ y ∷ []) old = set-put (n + 1) y (put n (x ∷ []) old) (omega arith) ∙ put-put n (x ∷ []) (y ∷ []) old (omega arith) in
+    let lb : length (put n (x ∷ y ∷ []) old) ≡ length old = length-put n (x ∷ y ∷ []) old (omega arith) in
+    let c : set (put n (x ∷ y ∷ []) old) (n + 2) z ≡ put n (x ∷ y ∷ z ∷ []) old = set-put (n + 2) z (put n (x ∷ y ∷ []) old) (omega arith) ∙ put-put n (x ∷ y ∷ []) (z ∷ []) old (omega arith) in
+    ap (λ (l : List ℕ). set (set l (n + 1) y) (n + 2) z) a ∙ ap (λ (l : List ℕ). set l (n + 2) z) b ∙ c
+
+-- ---- calls one after another
+
+pub added-turns : (a b : List Call) → addedBy (a ++ b) .turns ≡ addedBy a .turns ++ addedBy b .turns
+unfolding turnsOf
+added-turns a b = rw (filter-append (λ c. eqb (c .refusal) 0) a b) (joinMap-append turnOf (turnsOf a) (turnsOf b))
+
+pub added-takes : (a b : List Call) → addedBy (a ++ b) .takes ≡ addedBy a .takes + addedBy b .takes
+unfolding takesOf
+added-takes a b = sum-append (λ c. count (λ h. h .dynamic) (c .handed)) a b
+
+-- nothing is added
+pub appended-none : (t : List ℕ) (s : Tally) → Appended (record { turns = []; takes = 0 }) t s t s
+appended-none t s = record { table = sym (put-none (s .place) t); place = omega arith; takes = omega arith }
+
+-- what is added may be said in other words
+pub room-by : {a b : Added} {t : List ℕ} {s : Tally} → a ≡ b → Room a t s → Room b t s
+room-by e h = rw e at h
+
+pub appended-by : {a b : Added} {t t′ : List ℕ} {s s′ : Tally} → a ≡ b → Appended a t s t′ s′ → Appended b t s t′ s′
+appended-by e h = rw e at h
+
+-- ---- the invariant
+
+pub record Going (whole rest : List Call) (t₀ : List ℕ) (s₀ : Tally) (t : List ℕ) (s : Tally) : Type 0 where
+  pub done : List Call
+  pub both : done ++ rest ≡ whole
+  pub far : Appended (addedBy done) t₀ s₀ t s
+
+pub going-first : {whole rest : List Call} {t : List ℕ} {s : Tally} → rest ≡ whole → Going whole rest t s t s
+unfolding turnsOf takesOf
+going-first {t = t} {s = s} e = record { done = []; both = e; far = appended-none t s }
+
+module _ {whole rest : List Call} {t₀ t : List ℕ} {s₀ s : Tally} (room : Room (addedBy whole) t₀ s₀) (g : Going whole rest t₀ s₀ t s) where
+  turns-long : length (addedBy (g .done) .turns) + length (addedBy rest .turns) ≡ length (addedBy whole .turns)
+  turns-long = sym (length-append (addedBy (g .done) .turns) (addedBy rest .turns)) ∙ ap length (sym (added-turns (g .done) rest)) ∙ ap (λ (cs : List Call). length (addedBy cs .turns)) (g .both)
+
+  takes-sum : addedBy (g .done) .takes + addedBy rest .takes ≡ addedBy whole .takes
+  takes-sum = sym (added-takes (g .done) rest) ∙ ap (λ (cs : List Call). addedBy cs .takes) (g .both)
+
+  pub going-length : length t ≡ length t₀
+  going-length = ap length (g .far .table) ∙ length-put (s₀ .place) (addedBy (g .done) .turns) t₀ (omega (arith, room .places, turns-long))
+
+  -- room for the next part of the rest
+  pub going-room : (a b : List Call) → rest ≡ a ++ b → Room (addedBy a) t s
+  going-room a b e =
+      let lt = ap (λ (cs : List Call). length (addedBy cs .turns)) e ∙ ap length (added-turns a b) ∙ length-append (addedBy a .turns) (addedBy b .turns) in
+      let lk = ap (λ (cs : List Call). addedBy cs .takes) e ∙ added-takes a b in
+      record {
+        places = omega (arith, room .places, turns-long, going-length, g .far .place, lt);
+        count = omega (arith, room .count, takes-sum, g .far .takes, lk);
+      }
+
+  -- it was added
+  pub going-more : (a b : List Call) (t′ : List ℕ) (s′ : Tally) → rest ≡ a ++ b → Appended (addedBy a) t s t′ s′ → Going whole b t₀ s₀ t′ s′
+  going-more a b t′ s′ e h =
+      let d = g .done in
+      let lt = ap (λ (cs : List Call). length (addedBy cs .turns)) e ∙ ap length (added-turns a b) ∙ length-append (addedBy a .turns) (addedBy b .turns) in
+      record {
+        done = d ++ a;
+        both = append-assoc d a b ∙ ap (λ (cs : List Call). d ++ cs) (sym e) ∙ g .both;
+        far = record {
+          table =
+              h .table
+              ∙ ap (λ (n : ℕ). put n (addedBy a .turns) t) (g .far .place)
+              ∙ ap (put (s₀ .place + length (addedBy d .turns)) (addedBy a .turns)) (g .far .table)
+              ∙ put-put (s₀ .place) (addedBy d .turns) (addedBy a .turns) t₀ (omega (arith, room .places, turns-long, lt))
+              ∙ ap (λ (l : List ℕ). put (s₀ .place) l t₀) (sym (added-turns d a));
+          place = omega (arith, h .place, g .far .place, ap length (added-turns d a), length-append (addedBy d .turns) (addedBy a .turns));
+          takes = omega (arith, h .takes, g .far .takes, added-takes d a);
+        };
+      }
+
+  -- nothing is left
+  pub going-last : rest ≡ [] → Appended (addedBy whole) t₀ s₀ t s
+  going-last e = rw (sym (g .both) ∙ ap (λ (cs : List Call). g .done ++ cs) e ∙ append-nil (g .done)) (g .far)
+
+-- ---- a loop over numbers, each with its calls
+
+module _ (g : ℕ → List Call) (k n : ℕ) where
+  pub parts-next : k < n → joinMap g (rangeFrom k (n - k)) ≡ g k ++ joinMap g (rangeFrom (k + 1) (n - (k + 1)))
+  parts-next h =
+      let e : n - k ≡ suc (n - (k + 1)) = omega arith in
+      rw (e, add-one)
+
+  pub parts-end : n ≤ k → joinMap g (rangeFrom k (n - k)) ≡ []
+  parts-end h =
+      let e : n - k ≡ 0 = omega arith in
+      rw e

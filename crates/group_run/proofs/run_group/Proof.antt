@@ -1,0 +1,22 @@
+-- `run_group`: what the takes add does not depend on the bodies in the binding, so its marks and its count say all.
+use mathlib.Core.Path.{sym}
+use Rattle.group_run.proofs.Appends.{room-by, appended-by}
+use Rattle.group_run.proofs.Takes.{bound-added}
+use borrow.Author.Needs.{needs}
+use Rattle.group_run.proofs.run_group.Statement.{statement}
+use Rattle.group_run.proofs.run_group.Tie as tie
+
+bind-requires : tie.Need-bind-requires
+bind-requires c κs = search needs
+
+take-members-requires : tie.Need-take-members-requires
+take-members-requires c κs = room-by (bound-added _ _ _ _ _ _ _ _ (c .before .before .before .bind .ensures .binding)) (c .before .before .before .before .before .before .before .before .before .before .pre)
+
+same-length : tie.Need-same-length
+same-length c = search needs
+
+returns : tie.Need-returns
+returns c = appended-by (sym (bound-added _ _ _ _ _ _ _ _ (c .before .before .before .before .before .before .bind .ensures .binding))) (c .before .before .take-members .ensures)
+
+pub run-group-spec : {M : Type 1} → statement M
+run-group-spec = tie.close (tie.spec bind-requires take-members-requires same-length returns)

@@ -1,0 +1,87 @@
+-- What a part of the run adds to the turn table and to the takes.
+use Prim.Native.Nat.{ℕ, _+_, _*_, _≤_}
+use mathlib.Core.Path.{_≡_}
+use mathlib.Core.List.{List, [], _∷_, _++_, map}
+use lib.ListN.{length, take, drop}
+use Rattle.lists.specs.Basics.{one, joinMap, range}
+use Rattle.groups.specs.Groups.{Plan}
+use Rattle.constraint_coloring.specs.declared.ConstraintColoring.{ConstraintColoring}
+use Rattle.colored_bodies.specs.declared.BodyBinding.{BodyBinding}
+use Rattle.colored_bodies.specs.declared.Marked.{Marked}
+use Rattle.colored_bodies.specs.declared.Marked.the-variants as marked
+use Rattle.colored_bodies.specs.Bindings.{bindOf}
+use Rattle.colored_bodies.specs.Answers.{markedNumber, markedDynamic}
+use Rattle.schedules.specs.Runs.{Call, membersIn, bodiesIn, takeRank, callsFrom, turnOf, turnsOf, takesOf}
+use Rattle.group_run.specs.declared.Tally.{Tally}
+
+-- ---- the calls
+
+-- a plan as its lookups see it: what it carries, and the five tables that they read
+abbrev pub seen : ConstraintColoring → List ℕ → List ℕ → List ℕ → List ℕ → List ℕ → Plan
+seen p color-offsets colored-constraints color-body-offsets color-bodies positions = record {
+  bodies = p .«body_count»;
+  constraints = p .«constraint_count»;
+  groups = p .«color_count»;
+  largest = p .«max_color_constraint_count»;
+  colors = [];
+  color-offsets = color-offsets;
+  colored-constraints = colored-constraints;
+  color-body-offsets = color-body-offsets;
+  color-bodies = color-bodies;
+  positions = positions;
+}
+
+-- the takes of group k, with its members as the plan lists them; `ns` numbers the ranks of island i
+unfoldable pub callsIn : Plan → List ℕ → List ℕ → ℕ → ℕ → List Call
+callsIn p types ns i k = callsFrom p ns i k (bindOf types (bodiesIn p k)) (membersIn p k)
+
+-- the takes of all groups of a plan, in order
+unfoldable pub planCalls : Plan → List ℕ → List ℕ → ℕ → List Call
+planCalls p types ns i = joinMap (callsIn p types ns i) (range (p .groups))
+
+-- ---- what they add
+
+-- entries of the turn table, and takes of dynamic bodies
+pub record Added : Type 0 where
+  pub turns : List ℕ
+  pub takes : ℕ
+
+abbrev pub addedBy : List Call → Added
+addedBy cs = record { turns = joinMap turnOf (turnsOf cs); takes = takesOf cs }
+
+-- the same of one take of marks
+abbrev pub addedByTake : ℕ → ℕ → ℕ → Marked → Added
+addedByTake i k n (marked.Taken p q) = record { turns = i ∷ k ∷ n ∷ []; takes = one p + one q }
+addedByTake i k n (marked.Refused r) = record { turns = []; takes = 0 }
+
+-- the list `new` written over `old` from place n on
+unfoldable pub put : ℕ → List ℕ → List ℕ → List ℕ
+put n new old = take n old ++ new ++ drop (n + length new) old
+
+-- there is room for it: places of the turn table, and takes of 4,096 bodies by 8,192 constraints at most
+pub record Room (a : Added) (t : List ℕ) (s : Tally) : Type 0 where
+  pub places : s .place + length (a .turns) ≤ length t
+  pub count : s .takes + a .takes ≤ 4096 * 8192
+
+-- it is added: from the table t and the tally s to t′ and s′
+pub record Appended (a : Added) (t : List ℕ) (s : Tally) (t′ : List ℕ) (s′ : Tally) : Type 0 where
+  pub table : t′ ≡ put (s .place) (a .turns) t
+  pub place : s′ .place ≡ s .place + length (a .turns)
+  pub takes : s′ .takes ≡ s .takes + a .takes
+
+-- ---- a take by its marks
+
+-- a binding of these marks; what a take adds does not depend on its bodies
+abbrev pub marksOnly : List ℕ → ℕ → BodyBinding
+marksOnly marks count = record { bodies = []; marks = marks; count = count }
+
+-- the take of a rank: its answer, and the marks that it leaves
+pub record RankTaken (p : Plan) (marks : List ℕ) (count rank : ℕ) (r : Marked) (left : List ℕ) : Type 0 where
+  pub refusal : markedNumber r ≡ takeRank p (marksOnly marks count) rank .refusal
+  pub dynamic : markedDynamic r ≡ map (λ h. h .dynamic) (takeRank p (marksOnly marks count) rank .handed)
+  pub after : marksOnly left count ≡ takeRank p (marksOnly marks count) rank .after
+
+-- a member taken: what it adds, and the marks that it leaves
+pub record MemberTaken (p : Plan) (ns : List ℕ) (i k : ℕ) (marks : List ℕ) (count rank : ℕ) (t : List ℕ) (s : Tally) (left t′ : List ℕ) (s′ : Tally) : Type 0 where
+  pub added : Appended (addedBy (callsFrom p ns i k (marksOnly marks count) (rank ∷ []))) t s t′ s′
+  pub after : marksOnly left count ≡ takeRank p (marksOnly marks count) rank .after

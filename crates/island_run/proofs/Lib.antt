@@ -1,0 +1,3 @@
+pub mod Islands
+pub mod Rooms
+pub mod Loop
