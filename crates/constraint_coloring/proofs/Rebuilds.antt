@@ -20,7 +20,7 @@ use Rattle.painting.proofs.Used.{colors-low}
 use Rattle.gathering.specs.Gathers.{Colored, bodiesIn}
 use Rattle.constraint_coloring.specs.Plans.{Tables}
 use Rattle.constraint_coloring.specs.Calls.{carried}
-use Rattle.constraint_coloring.specs.Stages.{Listed}
+use Rattle.constraint_coloring.specs.Stages.{Scheduled}
 use Rattle.constraint_coloring.specs.declared.ConstraintColoring.{ConstraintColoring}
 use Rattle.constraint_coloring.proofs.Accepted.{Accepted}
 
@@ -60,7 +60,7 @@ module _ {flags pairs : List ℕ} {t : Tables} (ok : Accepted flags pairs t) {co
   unfolding planOf
   colors-planned = painted .colors-are
 
-  module _ {bodies₀ starts constraints body-starts bodies positions′ : List ℕ} {largest : ℕ} (l : Listed (length flags) pairs colors k bodies₀ starts constraints body-starts bodies positions′ largest) where
+  module _ {bodies₀ starts constraints body-starts bodies positions′ : List ℕ} {largest : ℕ} (l : Scheduled (length flags) pairs colors k bodies₀ starts constraints body-starts bodies positions′ largest) where
     pub plan-is : _≡_ {A = ConstraintColoring} (record { «body_count» = length flags; «constraint_count» = length pairs / 2; «color_count» = k; «max_color_constraint_count» = largest }) (carried (planOf flags pairs))
     unfolding planOf
     plan-is =

@@ -11,7 +11,7 @@ use Rattle.constraint_coloring.specs.Calls.{carried}
 use Rattle.constraint_coloring.specs.declared.ConstraintColoring.{ConstraintColoring}
 
 -- colored constraints can be listed: tables of these lengths
-pub record Listable (body-count : ℕ) (endpoints constraint-colors : List ℕ) (color-count : ℕ) (scratch-offsets body-stamps color-offsets colored-constraints color-body-offsets color-bodies constraint-body-positions : List ℕ) : Type 0 where
+pub record Schedulable (body-count : ℕ) (endpoints constraint-colors : List ℕ) (color-count : ℕ) (scratch-offsets body-stamps color-offsets colored-constraints color-body-offsets color-bodies constraint-body-positions : List ℕ) : Type 0 where
   pub colored : Colored body-count endpoints constraint-colors color-count
   pub scratch-colors : color-count ≤ length scratch-offsets
   pub scratch-bodies : body-count ≤ length scratch-offsets
@@ -23,7 +23,7 @@ pub record Listable (body-count : ℕ) (endpoints constraint-colors : List ℕ) 
   pub positions : length constraint-body-positions ≡ length endpoints
 
 -- they are listed: members and bodies of all groups, positions of all constraints; the answer is the size of the largest group
-pub record Listed (body-count : ℕ) (endpoints constraint-colors : List ℕ) (color-count : ℕ) (color-bodies color-offsets′ colored-constraints′ color-body-offsets′ color-bodies′ constraint-body-positions′ : List ℕ) (answer : ℕ) : Type 0 where
+pub record Scheduled (body-count : ℕ) (endpoints constraint-colors : List ℕ) (color-count : ℕ) (color-bodies color-offsets′ colored-constraints′ color-body-offsets′ color-bodies′ constraint-body-positions′ : List ℕ) (answer : ℕ) : Type 0 where
   pub largest : answer ≡ largestGroup constraint-colors
   pub starts : color-offsets′ ≡ offsets (members constraint-colors) color-count
   pub constraints : colored-constraints′ ≡ flatten (members constraint-colors) color-count

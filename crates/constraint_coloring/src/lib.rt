@@ -8,7 +8,7 @@ ghost use lib.ListN.{length, take};
 ghost use Rattle.lists.specs.Basics.{over, same};
 ghost use Rattle.constraint_coloring.specs.Plans.{updateRefusal, part, groupPart};
 ghost use Rattle.constraint_coloring.specs.Calls.{freshPlan, refusalWith, Updated, Located};
-ghost use Rattle.constraint_coloring.specs.Stages.{Listable, Listed, Rebuilt};
+ghost use Rattle.constraint_coloring.specs.Stages.{Schedulable, Scheduled, Rebuilt};
 
 // What a plan carries by value; the rest stands in the tables that its caller lends.
 pub struct ConstraintColoring {
@@ -29,29 +29,6 @@ pub enum Update {
 pub enum Positions {
     At(u16, u16),
     Refused(u8),
-}
-
-// The part of a table from `start` to `end`; empty if these don't lie in order inside it.
-fn part_of<'a>(table: &'a [u16], start: usize, end: usize) -> &'a [u16]
-    ensures { λ r. ⌜ now r ≡ part start end (now (table .entry)) ⌝ }
-{
-    if (start <= end) & (end <= table.len()) {
-        return &table[start..end];
-    }
-    &table[0..0]
-}
-
-// The part of a group; empty if there is no such group or its offsets are missing.
-fn group_part<'a>(color_count: usize, offsets: &[u16], table: &'a [u16], group: usize) -> &'a [u16]
-    ensures { λ r. ⌜ now r ≡ groupPart «color_count» (now (offsets .entry)) (now (table .entry)) group ⌝ }
-{
-    if color_count <= group {
-        return &table[0..0];
-    }
-    if offsets.len() <= group + 1 {
-        return &table[0..0];
-    }
-    part_of(table, offsets[group] as usize, offsets[group + 1] as usize)
 }
 
 // Question 6: is there room for `b` bodies and `c` constraints in tables of these lengths?
@@ -117,53 +94,57 @@ fn update_refusal(dynamic_bodies: &[u8], endpoints: &[u16], room: bool) -> u8
     0
 }
 
+// Whether two lists of flags are the same, place by place.
 fn same_flags(a: &[u8], b: &[u8]) -> bool
     requires { ⌜ length (now b) ≡ length (now a) ⌝ }
     ensures { λ r. ⌜ r ≡ same (now (a .entry)) (now (b .entry)) ⌝ }
 {
-    let mut i = 0;
-    while i < a.len() {
-        if a[i] != b[i] {
+    let mut body = 0;
+    while body < a.len() {
+        if a[body] != b[body] {
             return false;
         }
-        i += 1;
+        body += 1;
     }
     true
 }
 
+// The same of endpoint pairs.
 fn same_pairs(a: &[u16], b: &[u16]) -> bool
     requires { ⌜ length (now b) ≡ length (now a) ⌝ }
     ensures { λ r. ⌜ r ≡ same (now (a .entry)) (now (b .entry)) ⌝ }
 {
-    let mut i = 0;
-    while i < a.len() {
-        if a[i] != b[i] {
+    let mut entry = 0;
+    while entry < a.len() {
+        if a[entry] != b[entry] {
             return false;
         }
-        i += 1;
+        entry += 1;
     }
     true
 }
 
+// Flags over the first places of a table.
 fn copy_flags(from: &[u8], to: &mut [u8])
     requires { ⌜ length (now from) ≤ length (now to) ⌝ }
     ensures { λ _. ⌜ now (to .exit) ≡ over (now (from .entry)) (now (to .entry)) ⌝ }
 {
-    let mut i = 0;
-    while i < from.len() {
-        to[i] = from[i];
-        i += 1;
+    let mut body = 0;
+    while body < from.len() {
+        to[body] = from[body];
+        body += 1;
     }
 }
 
+// The same of endpoint pairs.
 fn copy_pairs(from: &[u16], to: &mut [u16])
     requires { ⌜ length (now from) ≤ length (now to) ⌝ }
     ensures { λ _. ⌜ now (to .exit) ≡ over (now (from .entry)) (now (to .entry)) ⌝ }
 {
-    let mut i = 0;
-    while i < from.len() {
-        to[i] = from[i];
-        i += 1;
+    let mut entry = 0;
+    while entry < from.len() {
+        to[entry] = from[entry];
+        entry += 1;
     }
 }
 
@@ -182,8 +163,8 @@ fn list_groups(
     color_bodies: &mut [u16],
     constraint_body_positions: &mut [u16],
 ) -> usize
-    requires { ⌜ Listable «body_count» (now endpoints) (now «constraint_colors») «color_count» (now «scratch_offsets») (now «body_stamps») (now «color_offsets») (now «colored_constraints») (now «color_body_offsets») (now «color_bodies») (now «constraint_body_positions») ⌝ }
-    ensures { λ r. ⌜ Listed «body_count» (now (endpoints .entry)) (now («constraint_colors» .entry)) «color_count» (now («color_bodies» .entry)) (now («color_offsets» .exit)) (now («colored_constraints» .exit)) (now («color_body_offsets» .exit)) (now («color_bodies» .exit)) (now («constraint_body_positions» .exit)) r ⌝ }
+    requires { ⌜ Schedulable «body_count» (now endpoints) (now «constraint_colors») «color_count» (now «scratch_offsets») (now «body_stamps») (now «color_offsets») (now «colored_constraints») (now «color_body_offsets») (now «color_bodies») (now «constraint_body_positions») ⌝ }
+    ensures { λ r. ⌜ Scheduled «body_count» (now (endpoints .entry)) (now («constraint_colors» .entry)) «color_count» (now («color_bodies» .entry)) (now («color_offsets» .exit)) (now («colored_constraints» .exit)) (now («color_body_offsets» .exit)) (now («color_bodies» .exit)) (now («constraint_body_positions» .exit)) r ⌝ }
 {
     let largest = grouping::group(
         constraint_colors,
@@ -234,41 +215,106 @@ fn rebuild(
     color_bodies: &mut [u16],
     constraint_body_positions: &mut [u16],
 ) -> ConstraintColoring
-    requires { ⌜ refusalWith (record { dynamic-bodies = now «dynamic_bodies»; endpoints = now endpoints; body-offsets = now «body_offsets»; body-constraints = now «body_constraints»; scratch-offsets = now «scratch_offsets»; constraint-colors = now «constraint_colors»; color-stamps = now «color_stamps»; body-stamps = now «body_stamps»; color-offsets = now «color_offsets»; colored-constraints = now «colored_constraints»; color-body-offsets = now «color_body_offsets»; color-bodies = now «color_bodies»; constraint-body-positions = now «constraint_body_positions» }) (now flags) (now pairs) ≡ 0 ⌝ }
-    ensures { λ r. ⌜ Rebuilt (now (flags .entry)) (now (pairs .entry)) (record { dynamic-bodies = now («dynamic_bodies» .entry); endpoints = now (endpoints .entry); body-offsets = now («body_offsets» .entry); body-constraints = now («body_constraints» .entry); scratch-offsets = now («scratch_offsets» .entry); constraint-colors = now («constraint_colors» .entry); color-stamps = now («color_stamps» .entry); body-stamps = now («body_stamps» .entry); color-offsets = now («color_offsets» .entry); colored-constraints = now («colored_constraints» .entry); color-body-offsets = now («color_body_offsets» .entry); color-bodies = now («color_bodies» .entry); constraint-body-positions = now («constraint_body_positions» .entry) }) (record { dynamic-bodies = now («dynamic_bodies» .exit); endpoints = now (endpoints .exit); body-offsets = now («body_offsets» .exit); body-constraints = now («body_constraints» .exit); scratch-offsets = now («scratch_offsets» .exit); constraint-colors = now («constraint_colors» .exit); color-stamps = now («color_stamps» .exit); body-stamps = now («body_stamps» .exit); color-offsets = now («color_offsets» .exit); colored-constraints = now («colored_constraints» .exit); color-body-offsets = now («color_body_offsets» .exit); color-bodies = now («color_bodies» .exit); constraint-body-positions = now («constraint_body_positions» .exit) }) r ⌝ }
+    requires { ⌜ refusalWith (record {
+      dynamic-bodies = now «dynamic_bodies»;
+      endpoints = now endpoints;
+      body-offsets = now «body_offsets»;
+      body-constraints = now «body_constraints»;
+      scratch-offsets = now «scratch_offsets»;
+      constraint-colors = now «constraint_colors»;
+      color-stamps = now «color_stamps»;
+      body-stamps = now «body_stamps»;
+      color-offsets = now «color_offsets»;
+      colored-constraints = now «colored_constraints»;
+      color-body-offsets = now «color_body_offsets»;
+      color-bodies = now «color_bodies»;
+      constraint-body-positions = now «constraint_body_positions»;
+    }) (now flags) (now pairs) ≡ 0 ⌝ }
+    ensures { λ r. ⌜ Rebuilt (now (flags .entry)) (now (pairs .entry)) (record {
+      dynamic-bodies = now («dynamic_bodies» .entry);
+      endpoints = now (endpoints .entry);
+      body-offsets = now («body_offsets» .entry);
+      body-constraints = now («body_constraints» .entry);
+      scratch-offsets = now («scratch_offsets» .entry);
+      constraint-colors = now («constraint_colors» .entry);
+      color-stamps = now («color_stamps» .entry);
+      body-stamps = now («body_stamps» .entry);
+      color-offsets = now («color_offsets» .entry);
+      colored-constraints = now («colored_constraints» .entry);
+      color-body-offsets = now («color_body_offsets» .entry);
+      color-bodies = now («color_bodies» .entry);
+      constraint-body-positions = now («constraint_body_positions» .entry);
+    }) (record {
+      dynamic-bodies = now («dynamic_bodies» .exit);
+      endpoints = now (endpoints .exit);
+      body-offsets = now («body_offsets» .exit);
+      body-constraints = now («body_constraints» .exit);
+      scratch-offsets = now («scratch_offsets» .exit);
+      constraint-colors = now («constraint_colors» .exit);
+      color-stamps = now («color_stamps» .exit);
+      body-stamps = now («body_stamps» .exit);
+      color-offsets = now («color_offsets» .exit);
+      colored-constraints = now («colored_constraints» .exit);
+      color-body-offsets = now («color_body_offsets» .exit);
+      color-bodies = now («color_bodies» .exit);
+      constraint-body-positions = now («constraint_body_positions» .exit);
+    }) r ⌝ }
 {
-    let b = flags.len();
-    let c = pairs.len() / 2;
+    let body_count = flags.len();
+    let constraint_count = pairs.len() / 2;
     copy_flags(flags, dynamic_bodies);
     copy_pairs(pairs, endpoints);
     let color_count = painting::paint(
         flags,
         pairs,
-        &mut body_offsets[..b + 1],
+        &mut body_offsets[..body_count + 1],
         body_constraints,
         scratch_offsets,
-        &mut constraint_colors[..c],
-        &mut color_stamps[..c],
+        &mut constraint_colors[..constraint_count],
+        &mut color_stamps[..constraint_count],
     );
     let largest = list_groups(
-        b,
+        body_count,
         pairs,
-        &constraint_colors[..c],
+        &constraint_colors[..constraint_count],
         color_count,
         scratch_offsets,
-        &mut body_stamps[..b],
+        &mut body_stamps[..body_count],
         &mut color_offsets[..color_count + 1],
-        &mut colored_constraints[..c],
+        &mut colored_constraints[..constraint_count],
         &mut color_body_offsets[..color_count + 1],
-        &mut color_bodies[..2 * c],
-        &mut constraint_body_positions[..2 * c],
+        &mut color_bodies[..2 * constraint_count],
+        &mut constraint_body_positions[..2 * constraint_count],
     );
     ConstraintColoring {
-        body_count: b,
-        constraint_count: c,
+        body_count: body_count,
+        constraint_count: constraint_count,
         color_count: color_count,
         max_color_constraint_count: largest,
     }
+}
+
+// The part of a table from `start` to `end`; empty if these don't lie in order inside it.
+fn part_of<'a>(table: &'a [u16], start: usize, end: usize) -> &'a [u16]
+    ensures { λ r. ⌜ now r ≡ part start end (now (table .entry)) ⌝ }
+{
+    if (start <= end) & (end <= table.len()) {
+        return &table[start..end];
+    }
+    &table[0..0]
+}
+
+// The part of a group; empty if there is no such group or its offsets are missing.
+fn group_part<'a>(color_count: usize, offsets: &[u16], table: &'a [u16], group: usize) -> &'a [u16]
+    ensures { λ r. ⌜ now r ≡ groupPart «color_count» (now (offsets .entry)) (now (table .entry)) group ⌝ }
+{
+    if color_count <= group {
+        return &table[0..0];
+    }
+    if offsets.len() <= group + 1 {
+        return &table[0..0];
+    }
+    part_of(table, offsets[group] as usize, offsets[group + 1] as usize)
 }
 
 impl ConstraintColoring {
@@ -328,7 +374,35 @@ impl ConstraintColoring {
         color_bodies: &mut [u16],
         constraint_body_positions: &mut [u16],
     ) -> Update
-        ensures { λ r. ⌜ Updated self (now («dynamic_bodies_in» .entry)) (now («endpoints_in» .entry)) (record { dynamic-bodies = now («dynamic_bodies» .entry); endpoints = now (endpoints .entry); body-offsets = now («body_offsets» .entry); body-constraints = now («body_constraints» .entry); scratch-offsets = now («scratch_offsets» .entry); constraint-colors = now («constraint_colors» .entry); color-stamps = now («color_stamps» .entry); body-stamps = now («body_stamps» .entry); color-offsets = now («color_offsets» .entry); colored-constraints = now («colored_constraints» .entry); color-body-offsets = now («color_body_offsets» .entry); color-bodies = now («color_bodies» .entry); constraint-body-positions = now («constraint_body_positions» .entry) }) (record { dynamic-bodies = now («dynamic_bodies» .exit); endpoints = now (endpoints .exit); body-offsets = now («body_offsets» .exit); body-constraints = now («body_constraints» .exit); scratch-offsets = now («scratch_offsets» .exit); constraint-colors = now («constraint_colors» .exit); color-stamps = now («color_stamps» .exit); body-stamps = now («body_stamps» .exit); color-offsets = now («color_offsets» .exit); colored-constraints = now («colored_constraints» .exit); color-body-offsets = now («color_body_offsets» .exit); color-bodies = now («color_bodies» .exit); constraint-body-positions = now («constraint_body_positions» .exit) }) r ⌝ }
+        ensures { λ r. ⌜ Updated self (now («dynamic_bodies_in» .entry)) (now («endpoints_in» .entry)) (record {
+          dynamic-bodies = now («dynamic_bodies» .entry);
+          endpoints = now (endpoints .entry);
+          body-offsets = now («body_offsets» .entry);
+          body-constraints = now («body_constraints» .entry);
+          scratch-offsets = now («scratch_offsets» .entry);
+          constraint-colors = now («constraint_colors» .entry);
+          color-stamps = now («color_stamps» .entry);
+          body-stamps = now («body_stamps» .entry);
+          color-offsets = now («color_offsets» .entry);
+          colored-constraints = now («colored_constraints» .entry);
+          color-body-offsets = now («color_body_offsets» .entry);
+          color-bodies = now («color_bodies» .entry);
+          constraint-body-positions = now («constraint_body_positions» .entry);
+        }) (record {
+          dynamic-bodies = now («dynamic_bodies» .exit);
+          endpoints = now (endpoints .exit);
+          body-offsets = now («body_offsets» .exit);
+          body-constraints = now («body_constraints» .exit);
+          scratch-offsets = now («scratch_offsets» .exit);
+          constraint-colors = now («constraint_colors» .exit);
+          color-stamps = now («color_stamps» .exit);
+          body-stamps = now («body_stamps» .exit);
+          color-offsets = now («color_offsets» .exit);
+          colored-constraints = now («colored_constraints» .exit);
+          color-body-offsets = now («color_body_offsets» .exit);
+          color-bodies = now («color_bodies» .exit);
+          constraint-body-positions = now («constraint_body_positions» .exit);
+        }) r ⌝ }
     {
         let room = roomy(
             dynamic_bodies_in.len(),

@@ -3,3 +3,4 @@ pub mod Digits
 pub mod Spelling
 pub mod Lines
 pub mod Turns
+pub mod Whole

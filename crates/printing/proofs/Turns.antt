@@ -14,6 +14,7 @@ use Rattle.lists.proofs.Laws.{by-cases, and-left, and-right}
 use Rattle.frame.specs.Frames.{Constraint, Frame, nothing, constraintsOf, constraintAt}
 use Rattle.frame.specs.Files.{half, countB, countM, countJ, pairsAt, jointsAt, pairsFrom, manifoldsIn, jointsIn, enabledIn, decode}
 use Rattle.schedules.specs.Print.{decimal, spaced, turnLine, turnLines}
+use Rattle.schedules.proofs.Accepted.{pairs-count}
 use Rattle.printing.specs.Puts.{put, Put, longest, ifRoom}
 use Rattle.printing.specs.Turns.{endsAt, lineOf, ready, ifReady, gathered, turnsFrom, linesOf, Lines}
 use Rattle.printing.proofs.Puts.{put-none, put-nothing, wrote-then}
@@ -40,12 +41,6 @@ module _ (bs : List ℕ) (step : ℕ) where
   pair-at s (suc m) (e ∷ es) zero h = first-pair s
   pair-at s (suc m) [] (suc n) h = pair-at (s + step) m [] n (omega arith) ∙ next-pair s n
   pair-at s (suc m) (e ∷ es) (suc n) h = pair-at (s + step) m es n (omega arith) ∙ next-pair s n
-
-pairs-count : (bs : List ℕ) (s step m : ℕ) (es : List ℕ) → length (constraintsOf (pairsFrom bs s step m) es) ≡ m
-unfolding pairsFrom
-pairs-count bs s step zero es = refl
-pairs-count bs s step (suc m) [] = ap suc (pairs-count bs (s + step) step m [])
-pairs-count bs s step (suc m) (e ∷ es) = ap suc (pairs-count bs (s + step) step m es)
 
 -- where the code finds a manifold's endpoints, and a joint's
 module _ (bs : List ℕ) (n m p : ℕ) (em : m ≡ countM bs) (ep : p ≡ countB bs) where
@@ -124,7 +119,7 @@ module _ (bs : List ℕ) (size at i k n : ℕ) where
 -- ---- the turns
 
 -- the lines of two turn tables, one after the other
-lines-append : (f : Frame) (d : ℕ) (xs ys : List ℕ) → length xs ≡ 3 * d → turnLines f (xs ++ ys) ≡ turnLines f xs ++ turnLines f ys
+pub lines-append : (f : Frame) (d : ℕ) (xs ys : List ℕ) → length xs ≡ 3 * d → turnLines f (xs ++ ys) ≡ turnLines f xs ++ turnLines f ys
 unfolding turnLines
 lines-append f d [] ys e = refl
 lines-append f zero (i ∷ xs) ys e = absurd (omega arith)

@@ -1,6 +1,7 @@
 // The bytes that the program `turns` prints, appended to a lent buffer: a head, a line of a turn, a refusal, and the
 // lines of a turn table as far as the buffer goes. The public functions answer every buffer and every place: where
 // fewer than `MAX_LINE` bytes are left they write nothing. Each answers the place after what it wrote.
+// What a program writes that gathers its lines by `put_turns`, piece after piece, is the whole print (proofs/Whole.antt).
 ghost use mathlib.Core.Path.{_≡_};
 ghost use mathlib.Core.List.{_∷_, [], _++_};
 ghost use Prim.Native.Nat.{_+_, _*_, _≤_, _<_};
@@ -18,6 +19,12 @@ pub const MAX_LINE: usize = 111;
 pub struct Gathered {
     pub at: usize,
     pub turn: usize,
+}
+
+fn wide(x: u16) -> usize
+    ensures { λ r. ⌜ r ≡ x ⌝ }
+{
+    x as usize
 }
 
 fn digit(d: usize) -> u8
@@ -207,12 +214,6 @@ fn put_turn(
     let a = half_at(frame, ends);
     let b = half_at(frame, ends + 2);
     put_turn_line(out, at, island, group, constraint, a, b)
-}
-
-fn wide(x: u16) -> usize
-    ensures { λ r. ⌜ r ≡ x ⌝ }
-{
-    x as usize
 }
 
 // The lines of a file's turn table from turn `first` on, as far as there is room.

@@ -25,7 +25,7 @@ pub record Accepted (f : Frame) : Type 0 where
   pub all-sound : allSound f ≡ true
 
 -- n pairs of a file are n constraints
-pairs-count : (bs : List ℕ) (s step n : ℕ) (es : List ℕ) → length (constraintsOf (pairsFrom bs s step n) es) ≡ n
+pub pairs-count : (bs : List ℕ) (s step n : ℕ) (es : List ℕ) → length (constraintsOf (pairsFrom bs s step n) es) ≡ n
 unfolding pairsFrom
 pairs-count bs s step zero es = refl
 pairs-count bs s step (suc n) [] = ap suc (pairs-count bs (s + step) step n [])

@@ -1,5 +1,7 @@
 -- Condition 3, proved. What a schedule sums over its takes is a sum over constraint numbers of [touches] times the summand: each rank has
 -- one color, and each touching constraint one island. From this follow "once", the turns and the takes; the rest is every group's takes.
+use Rattle.schedules.specs.Runs.{turnOf, runCalls, Call, Plans, Orders, planAt, membersIn, bodiesIn, takeRank, callsFrom, groupCalls, schedule, rising, turnsOf, takesOf, runRefusal, runOf}
+use Rattle.frame.specs.Frames.{turnCount, degreeSum, degreeMax, Constraint, Frame, constraints, numbers, bodies, constraintAt, nothing, conflicts, dynamic, on, touches, none, degree}
 use Rattle.groups.specs.Groups.{Plan, groupCount, members}
 use Rattle.colored_bodies.specs.Bindings.{bindOf, Handed}
 use mathlib.Core.Path.{ap₂, _≡_, refl, sym, ap, _∙_}
@@ -13,13 +15,11 @@ use borrow.Author.Tests.{eqb-true, ne-eqb, leb-true, leb-false}
 use Rattle.lists.specs.Basics.{one, any, all, sumOf, maxOf, count, joinMap, rangeFrom, range, mem}
 use Rattle.lists.proofs.Sums.{collapse, sum-swap, sum-ext, sum-null, sum-zero, sum-map, sum-filter, sum-joinMap, sum-getD, filter-all}
 use Rattle.lists.proofs.Laws.{and-left, or-right, by-cases, clashes, mem-self, range-high, max-in, getD-mem, same-sum, sum-ext-in, eqb-sym, sum-one, sum-distinct, all-map, count-any}
-use Rattle.frame.specs.Frames.{Constraint, Frame, constraints, numbers, bodies, constraintAt, nothing, conflicts, dynamic, on, touches, none, turnCount, degree, degreeSum}
 use Rattle.frame.specs.Questions.{question}
 use Rattle.frame.specs.Files.{decode, frameRefusal}
 use Rattle.island.specs.Islands.{islandCount, label, ofIsland}
 use Rattle.island.proofs.Theorem.{islands-few, label-below-at}
 use Rattle.colored_bodies.specs.declared.BodyBinding.{BodyBinding}
-use Rattle.schedules.specs.Runs.{Call, Plans, Orders, planAt, membersIn, bodiesIn, takeRank, callsFrom, groupCalls, schedule, rising, turnsOf, takesOf, runRefusal, runOf}
 use Rattle.schedules.specs.Condition.{SameNumbers, due, takesOn, Claim}
 use Rattle.schedules.proofs.Accepted.{Accepted, accepted, live, live-number}
 use Rattle.schedules.proofs.Plans.{endsAt, colorsAt, Stands, plan-stands, planned-stands, groups-few, length-colors}
@@ -221,14 +221,40 @@ rising-ordered : (f : Frame) (p : Plans) (i k : ℕ) → i < islandCount f → k
 unfolding rising
 rising-ordered f p i k l h n = refl
 
+-- ---- the run itself
+module _ (bs : List ℕ) (e : frameRefusal bs ≡ 0) where
+  abbrev own : (i : ℕ) (l : i < islandCount (decode bs)) → Stands (decode bs) (accepted bs e) i l (planAt (decode bs) i)
+  own i l = plan-stands (decode bs) (accepted bs e) i l
+
+  pub run-once : (n : ℕ) → takesOn n (runCalls (decode bs)) ≡ one (touches (decode bs) (constraintAt (decode bs) n))
+  run-once = all-once (decode bs) (accepted bs e) (planAt (decode bs)) own (rising (planAt (decode bs))) (rising-ordered (decode bs) (planAt (decode bs)))
+
+  -- its report: the numbers read from the frame, and a turn for each take
+  pub run-report : runOf bs true ≡ record {
+    refusal = 0;
+    islands = islandCount (decode bs);
+    turns = turnCount (decode bs);
+    takes = degreeSum (decode bs);
+    degree = degreeMax (decode bs);
+    table = joinMap turnOf (runCalls (decode bs));
+  }
+  unfolding runOf
+  run-report =
+      let f = decode bs in
+      let ok = accepted bs e in
+      let rise = rising-ordered f (planAt f) in
+      rw (
+        runs bs e,
+        count-turns f ok (planAt f) own (rising (planAt f)) rise,
+        count-takes f ok (planAt f) own (rising (planAt f)) rise,
+        all-turns f ok (planAt f) own (rising (planAt f)) rise,
+      )
+
 pub condition3 : Claim
-unfolding runOf
 condition3 bs p o e sch =
     let f = decode bs in
     let ok = accepted bs e in
     let st : (i : ℕ) (l : i < islandCount f) → Stands f ok i l (p i) = λ i l. planned-stands f ok i l (p i) (sch .plans i l) in
-    let run : (i : ℕ) (l : i < islandCount f) → Stands f ok i l (planAt f i) = λ i l. plan-stands f ok i l in
-    let rise = rising-ordered f (planAt f) in
     let ord = sch .orders in
     record {
       succeed = all-succeed f ok p st o ord;
@@ -243,12 +269,5 @@ condition3 bs p o e sch =
         untouched f (constraintAt f n) (dead-touches f (constraintAt f n) q),
         all-once f ok p st o ord n ∙ ap one (dead-touches f (constraintAt f n) q),
       );
-      report =
-          rw (
-            runs bs e,
-            count-turns f ok (planAt f) run (rising (planAt f)) rise,
-            count-takes f ok (planAt f) run (rising (planAt f)) rise,
-            all-turns f ok (planAt f) run (rising (planAt f)) rise,
-            same-schedule f ok p (planAt f) st run,
-          );
+      report = rw (same-schedule f ok p (planAt f) st (own bs e)) (run-report bs e);
     }

@@ -18,7 +18,22 @@ use Rattle.constraint_coloring.proofs.rebuild.Tie as tie
 
 -- the tables at entry, and what the questions have shown of them
 abbrev entry : tie.Start → Tables
-entry s = record { dynamic-bodies = now (s .args .dynamic-bodies); endpoints = now (s .args .endpoints); body-offsets = now (s .args .body-offsets); body-constraints = now (s .args .body-constraints); scratch-offsets = now (s .args .scratch-offsets); constraint-colors = now (s .args .constraint-colors); color-stamps = now (s .args .color-stamps); body-stamps = now (s .args .body-stamps); color-offsets = now (s .args .color-offsets); colored-constraints = now (s .args .colored-constraints); color-body-offsets = now (s .args .color-body-offsets); color-bodies = now (s .args .color-bodies); constraint-body-positions = now (s .args .constraint-body-positions) }
+entry s =
+    record {
+      dynamic-bodies = now (s .args .dynamic-bodies);
+      endpoints = now (s .args .endpoints);
+      body-offsets = now (s .args .body-offsets);
+      body-constraints = now (s .args .body-constraints);
+      scratch-offsets = now (s .args .scratch-offsets);
+      constraint-colors = now (s .args .constraint-colors);
+      color-stamps = now (s .args .color-stamps);
+      body-stamps = now (s .args .body-stamps);
+      color-offsets = now (s .args .color-offsets);
+      colored-constraints = now (s .args .colored-constraints);
+      color-body-offsets = now (s .args .color-body-offsets);
+      color-bodies = now (s .args .color-bodies);
+      constraint-body-positions = now (s .args .constraint-body-positions);
+    }
 
 ok : (s : tie.Start) → Accepted (now (s .args .flags)) (now (s .args .pairs)) (entry s)
 ok s = accepted (now (s .args .flags)) (now (s .args .pairs)) (entry s) (s .pre)
@@ -27,8 +42,14 @@ ok s = accepted (now (s .args .flags)) (now (s .args .pairs)) (entry s) (s .pre)
 abbrev start : tie.After-paint → tie.Start
 start p = p .before .before .before .before .before .before .before .before .before .before .before .before .before .before .before .before .before .before .before .before .before .before .before .before .before .before .before .before .before
 
+abbrev before-paint : tie.After-slice-known15 → tie.Start
+before-paint c = c .before .before .before .before .before .before .before .before .before .before .before .before .before .before .before .before .before .before .before .before .before .before .before
+
+abbrev before-list : tie.After-slice-known20 → tie.After-paint
+before-list c = c .before .before .before .before .before .before .before .before .before .before
+
 abbrev after-paint : tie.After-list-groups-arg8 → tie.After-paint
-after-paint c = c .before .before .before .before .before .before .before .before .before .before .before .before .before .before .before .before .before .before
+after-paint c = before-list (c .before .before .before .before .before .before .before .before)
 
 abbrev after-list : tie.After-slice-known27 → tie.After-list-groups
 after-list c = c .before .before .before .before .before .before .before .before .before .before .before .before .before .before
@@ -56,29 +77,29 @@ copy-pairs-requires : tie.Need-copy-pairs-requires
 copy-pairs-requires c κs = let o = ok (c .before .before .before .before .before .before .before .before .before .before .before .before .before .before .before .before .before .before .before .before) in omega (arith, o .even, o .endpoints)
 
 add-paint : tie.Need-add-paint
-add-paint c = omega (arith, ok (c .before .before .before .before .before .before .before .before .before .before .before .before .before .before .before .before .before .before .before .before .before .before .before) .few-bodies)
+add-paint c = omega (arith, ok (before-paint c) .few-bodies)
 
 slice-relend-prefix-paint : tie.Need-slice-relend-prefix-paint
-slice-relend-prefix-paint c = ok (c .before .before .before .before .before .before .before .before .before .before .before .before .before .before .before .before .before .before .before .before .before .before .before) .body-offsets
+slice-relend-prefix-paint c = ok (before-paint c) .body-offsets
 
 slice-aggregate-paint : tie.Need-slice-aggregate-paint
-slice-aggregate-paint c = sym (length-take-le _ _ (ok (c .before .before .before .before .before .before .before .before .before .before .before .before .before .before .before .before .before .before .before .before .before .before .before .before) .body-offsets))
+slice-aggregate-paint c = sym (length-take-le _ _ (ok (before-paint (c .before)) .body-offsets))
 
 slice-relend-prefix-paint-2 : tie.Need-slice-relend-prefix-paint-2
-slice-relend-prefix-paint-2 c = ok (c .before .before .before .before .before .before .before .before .before .before .before .before .before .before .before .before .before .before .before .before .before .before .before .before .before .before) .constraint-colors
+slice-relend-prefix-paint-2 c = ok (before-paint (c .before .before .before)) .constraint-colors
 
 slice-aggregate-paint-2 : tie.Need-slice-aggregate-paint-2
-slice-aggregate-paint-2 c = sym (length-take-le _ _ (ok (c .before .before .before .before .before .before .before .before .before .before .before .before .before .before .before .before .before .before .before .before .before .before .before .before .before .before .before) .constraint-colors))
+slice-aggregate-paint-2 c = sym (length-take-le _ _ (ok (before-paint (c .before .before .before .before)) .constraint-colors))
 
 slice-relend-prefix-paint-3 : tie.Need-slice-relend-prefix-paint-3
-slice-relend-prefix-paint-3 c = ok (c .before .before .before .before .before .before .before .before .before .before .before .before .before .before .before .before .before .before .before .before .before .before .before .before .before .before .before) .color-stamps
+slice-relend-prefix-paint-3 c = ok (before-paint (c .before .before .before .before)) .color-stamps
 
 slice-aggregate-paint-3 : tie.Need-slice-aggregate-paint-3
-slice-aggregate-paint-3 c = sym (length-take-le _ _ (ok (c .before .before .before .before .before .before .before .before .before .before .before .before .before .before .before .before .before .before .before .before .before .before .before .before .before .before .before .before) .color-stamps))
+slice-aggregate-paint-3 c = sym (length-take-le _ _ (ok (before-paint (c .before .before .before .before .before)) .color-stamps))
 
 paint-requires : tie.Need-paint-requires
 paint-requires c κs =
-    let s = c .before .before .before .before .before .before .before .before .before .before .before .before .before .before .before .before .before .before .before .before .before .before .before .before .before .before .before .before in
+    let s = before-paint (c .before .before .before .before .before) in
     let o = ok s in
     let colors = length-take-le (length (now (s .args .pairs)) / 2) (now (s .args .constraint-colors)) (o .constraint-colors) in
     record {
@@ -93,58 +114,58 @@ paint-requires c κs =
     }
 
 slice-reshare-prefix-list-groups : tie.Need-slice-reshare-prefix-list-groups
-slice-reshare-prefix-list-groups c = colors-back (c .before .before .before .before .before .before .before .before .before .before)
+slice-reshare-prefix-list-groups c = colors-back (before-list c)
 
 slice-aggregate-list-groups : tie.Need-slice-aggregate-list-groups
-slice-aggregate-list-groups c = sym (length-take-le _ _ (colors-back (c .before .before .before .before .before .before .before .before .before .before .before)))
+slice-aggregate-list-groups c = sym (length-take-le _ _ (colors-back (before-list (c .before))))
 
 slice-relend-prefix-list-groups : tie.Need-slice-relend-prefix-list-groups
-slice-relend-prefix-list-groups c = ok (start (c .before .before .before .before .before .before .before .before .before .before .before .before)) .body-stamps
+slice-relend-prefix-list-groups c = ok (start (before-list (c .before .before))) .body-stamps
 
 slice-aggregate-list-groups-2 : tie.Need-slice-aggregate-list-groups-2
-slice-aggregate-list-groups-2 c = sym (length-take-le _ _ (ok (start (c .before .before .before .before .before .before .before .before .before .before .before .before .before)) .body-stamps))
+slice-aggregate-list-groups-2 c = sym (length-take-le _ _ (ok (start (before-list (c .before .before .before))) .body-stamps))
 
 add-list-groups : tie.Need-add-list-groups
-add-list-groups c = omega (arith, groups-in (c .before .before .before .before .before .before .before .before .before .before .before .before .before), ok (start (c .before .before .before .before .before .before .before .before .before .before .before .before .before)) .few-pairs)
+add-list-groups c = omega (arith, groups-in (before-list (c .before .before .before)), ok (start (before-list (c .before .before .before))) .few-pairs)
 
 slice-relend-prefix-list-groups-2 : tie.Need-slice-relend-prefix-list-groups-2
-slice-relend-prefix-list-groups-2 c = omega (arith, groups-in (c .before .before .before .before .before .before .before .before .before .before .before .before .before), ok (start (c .before .before .before .before .before .before .before .before .before .before .before .before .before)) .color-offsets)
+slice-relend-prefix-list-groups-2 c = omega (arith, groups-in (before-list (c .before .before .before)), ok (start (before-list (c .before .before .before))) .color-offsets)
 
 slice-aggregate-list-groups-3 : tie.Need-slice-aggregate-list-groups-3
-slice-aggregate-list-groups-3 c = sym (length-take-le _ _ (omega (arith, groups-in (c .before .before .before .before .before .before .before .before .before .before .before .before .before .before), ok (start (c .before .before .before .before .before .before .before .before .before .before .before .before .before .before)) .color-offsets)))
+slice-aggregate-list-groups-3 c = sym (length-take-le _ _ (omega (arith, groups-in (before-list (c .before .before .before .before)), ok (start (before-list (c .before .before .before .before))) .color-offsets)))
 
 slice-relend-prefix-list-groups-3 : tie.Need-slice-relend-prefix-list-groups-3
-slice-relend-prefix-list-groups-3 c = ok (start (c .before .before .before .before .before .before .before .before .before .before .before .before .before .before)) .colored-constraints
+slice-relend-prefix-list-groups-3 c = ok (start (before-list (c .before .before .before .before))) .colored-constraints
 
 slice-aggregate-list-groups-4 : tie.Need-slice-aggregate-list-groups-4
-slice-aggregate-list-groups-4 c = sym (length-take-le _ _ (ok (start (c .before .before .before .before .before .before .before .before .before .before .before .before .before .before .before)) .colored-constraints))
+slice-aggregate-list-groups-4 c = sym (length-take-le _ _ (ok (start (before-list (c .before .before .before .before .before))) .colored-constraints))
 
 add-list-groups-2 : tie.Need-add-list-groups-2
-add-list-groups-2 c = omega (arith, groups-in (c .before .before .before .before .before .before .before .before .before .before .before .before .before .before .before), ok (start (c .before .before .before .before .before .before .before .before .before .before .before .before .before .before .before)) .few-pairs)
+add-list-groups-2 c = omega (arith, groups-in (before-list (c .before .before .before .before .before)), ok (start (before-list (c .before .before .before .before .before))) .few-pairs)
 
 slice-relend-prefix-list-groups-4 : tie.Need-slice-relend-prefix-list-groups-4
-slice-relend-prefix-list-groups-4 c = omega (arith, groups-in (c .before .before .before .before .before .before .before .before .before .before .before .before .before .before .before), ok (start (c .before .before .before .before .before .before .before .before .before .before .before .before .before .before .before)) .color-body-offsets)
+slice-relend-prefix-list-groups-4 c = omega (arith, groups-in (before-list (c .before .before .before .before .before)), ok (start (before-list (c .before .before .before .before .before))) .color-body-offsets)
 
 slice-aggregate-list-groups-5 : tie.Need-slice-aggregate-list-groups-5
-slice-aggregate-list-groups-5 c = sym (length-take-le _ _ (omega (arith, groups-in (c .before .before .before .before .before .before .before .before .before .before .before .before .before .before .before .before), ok (start (c .before .before .before .before .before .before .before .before .before .before .before .before .before .before .before .before)) .color-body-offsets)))
+slice-aggregate-list-groups-5 c = sym (length-take-le _ _ (omega (arith, groups-in (before-list (c .before .before .before .before .before .before)), ok (start (before-list (c .before .before .before .before .before .before))) .color-body-offsets)))
 
 mul-list-groups : tie.Need-mul-list-groups
-mul-list-groups c = omega (arith, ok (start (c .before .before .before .before .before .before .before .before .before .before .before .before .before .before .before .before)) .few-pairs)
+mul-list-groups c = omega (arith, ok (start (before-list (c .before .before .before .before .before .before))) .few-pairs)
 
 slice-relend-prefix-list-groups-5 : tie.Need-slice-relend-prefix-list-groups-5
-slice-relend-prefix-list-groups-5 c = ok (start (c .before .before .before .before .before .before .before .before .before .before .before .before .before .before .before .before)) .color-bodies
+slice-relend-prefix-list-groups-5 c = ok (start (before-list (c .before .before .before .before .before .before))) .color-bodies
 
 slice-aggregate-list-groups-6 : tie.Need-slice-aggregate-list-groups-6
-slice-aggregate-list-groups-6 c = sym (length-take-le _ _ (ok (start (c .before .before .before .before .before .before .before .before .before .before .before .before .before .before .before .before .before)) .color-bodies))
+slice-aggregate-list-groups-6 c = sym (length-take-le _ _ (ok (start (before-list (c .before .before .before .before .before .before .before))) .color-bodies))
 
 mul-list-groups-2 : tie.Need-mul-list-groups-2
-mul-list-groups-2 c = omega (arith, ok (start (c .before .before .before .before .before .before .before .before .before .before .before .before .before .before .before .before .before)) .few-pairs)
+mul-list-groups-2 c = omega (arith, ok (start (before-list (c .before .before .before .before .before .before .before))) .few-pairs)
 
 slice-relend-prefix-list-groups-6 : tie.Need-slice-relend-prefix-list-groups-6
-slice-relend-prefix-list-groups-6 c = ok (start (c .before .before .before .before .before .before .before .before .before .before .before .before .before .before .before .before .before)) .constraint-body-positions
+slice-relend-prefix-list-groups-6 c = ok (start (before-list (c .before .before .before .before .before .before .before))) .constraint-body-positions
 
 slice-aggregate-list-groups-7 : tie.Need-slice-aggregate-list-groups-7
-slice-aggregate-list-groups-7 c = sym (length-take-le _ _ (ok (start (c .before .before .before .before .before .before .before .before .before .before .before .before .before .before .before .before .before .before)) .constraint-body-positions))
+slice-aggregate-list-groups-7 c = sym (length-take-le _ _ (ok (start (before-list (c .before .before .before .before .before .before .before .before))) .constraint-body-positions))
 
 list-groups-requires : tie.Need-list-groups-requires
 list-groups-requires c κs =
