@@ -3,6 +3,7 @@
 use crate::calls::*;
 use crate::frames::{self, Random};
 use crate::scope;
+use std::collections::BTreeMap;
 
 /// How much is compared, and what was found.
 #[derive(Default)]
@@ -12,6 +13,14 @@ pub struct Tally {
     pub prints: usize,
     pub agree: usize,
     pub differ: usize,
+    /// how often each call met each refusal, or 0
+    pub met: BTreeMap<(&'static str, u8), usize>,
+}
+
+impl Tally {
+    fn meets(&mut self, call: &'static str, refusal: u8) {
+        *self.met.entry((call, refusal)).or_default() += 1;
+    }
 }
 
 pub struct Agree<'a, L: Calls, R: Calls> {
@@ -87,6 +96,7 @@ impl<'a, L: Calls, R: Calls> Agree<'a, L, R> {
         let left = self.left.islands(frame, &mut l);
         let right = self.right.islands(frame, &mut r);
         self.tally.calls += 1;
+        self.tally.meets("islands", left.0);
         let fall = left.0 != 0 || {
             let b = frame.types.len();
             follow(&mut l.parents[..b]) & follow(&mut r.parents[..b])
@@ -128,6 +138,7 @@ impl<'a, L: Calls, R: Calls> Agree<'a, L, R> {
         let left = self.left.update(&mut l.0, &step.flags, &step.pairs, &mut l.1);
         let right = self.right.update(&mut r.0, &step.flags, &step.pairs, &mut r.1);
         self.tally.calls += 1;
+        self.tally.meets("update", if let Update::Refused(n) = left { n } else { 0 });
         let kept = left == Update::Changed || l.1 == l0 && r.1 == r0;
         let (lc, rc) = (self.left.carried(&l.0), self.right.carried(&r.0));
         let same = left == right && lc == rc && kept && l.1.flags == r.1.flags && fixed(&l.1) == fixed(&r.1);
@@ -168,6 +179,7 @@ impl<'a, L: Calls, R: Calls> Agree<'a, L, R> {
             let left = self.left.positions(&l.0, &l.1, constraint);
             let right = self.right.positions(&r.0, &r.1, constraint);
             self.tally.calls += 1;
+            self.tally.meets("positions", left.err().unwrap_or(0));
             self.check(left == right, || format!("positions of {constraint} in {carried:?}: {left:?} and {right:?}"));
         }
     }
@@ -259,6 +271,11 @@ impl<'a, L: Calls, R: Calls> Agree<'a, L, R> {
         for (i, (left, right)) in l.0.iter().zip(&r.0).enumerate() {
             let places = i * BODIES..(i + 1) * BODIES;
             let same = left == right && l.1[places.clone()] == r.1[places] && (i > 0 || l.2 == r.2);
+            match left.0 {
+                Answer::Bound(n) => self.tally.meets("bind", n),
+                Answer::Took(Take::Refused(n)) => self.tally.meets("take", n),
+                Answer::Took(_) => self.tally.meets("take", 0),
+            }
             self.check(same, || {
                 let asked = i.checked_sub(1).map(|t| takes[t]);
                 format!("{asked:?} of a binding of {} of {} bodies: {left:?} and {right:?}", list.len(), types.len())
@@ -327,6 +344,7 @@ impl<'a, L: Calls, R: Calls> Agree<'a, L, R> {
         });
         let left = self.left.forged_positions(constraints, &table, group);
         let right = self.right.forged_positions(constraints, &table, group);
+        self.tally.meets("positions", left.err().unwrap_or(0));
         self.check(left == right, || {
             format!("positions {group} of {constraints} in {table:?}: {left:?} and {right:?}")
         });
@@ -340,6 +358,7 @@ impl<'a, L: Calls, R: Calls> Agree<'a, L, R> {
         let left = self.left.run(file, &mut l);
         let right = self.right.run(file, &mut r);
         self.tally.calls += 1;
+        self.tally.meets("run", left.refusal);
         let free = left.refusal == 0 || left.refusal == 7;
         let fall = left.refusal != 0 || {
             let b = scope::read(file).unwrap().types.len();
@@ -390,6 +409,8 @@ impl<'a, L: Calls, R: Calls> Agree<'a, L, R> {
     pub fn print(&mut self, file: &[u8]) {
         let (left, right) = (self.left.print(file), self.right.print(file));
         self.tally.prints += 1;
+        let refused = String::from_utf8_lossy(&left).strip_prefix("refused ").map(|n| n.trim().parse().unwrap());
+        self.tally.meets("print", refused.unwrap_or(0));
         let text = |b: &[u8]| String::from_utf8_lossy(&b[..b.len().min(400)]).to_string();
         self.check(left == right, || format!("print of {}:\n{}and\n{}", shorten(file), text(&left), text(&right)));
     }

@@ -51,6 +51,17 @@ fn samples<L: Calls, R: Calls>(agree: &mut Agree<L, R>) {
     agree.binding(&[2, 2, 2], &[0, 1, 2], &[[1, 2], [0, 2], [0, 1]]);
 }
 
+/// The refusals that each call can answer, and 0; a comparison is to meet them all.
+const REFUSALS: &[(&str, &[u8])] = &[
+    ("islands", &[0, 3, 4, 5, 6, 7]),
+    ("update", &[0, 3, 4, 5, 6, 7]),
+    ("positions", &[0, 3, 6, 12]),
+    ("bind", &[0, 3, 5, 8]),
+    ("take", &[0, 9, 10, 11]),
+    ("run", &[0, 1, 2, 3, 4, 5, 6, 7]),
+    ("print", &[0, 1, 2, 3, 4, 5, 7]),
+];
+
 /// Compares and exits: 0 only if nothing differs. `more` multiplies the random part.
 pub fn compare<L: Calls, R: Calls>(left: &L, right: &R, more: usize) -> ! {
     let mut agree = Agree::new(left, right, 2026);
@@ -109,13 +120,24 @@ pub fn compare<L: Calls, R: Calls>(left: &L, right: &R, more: usize) -> ! {
         frames::damaged(&mut random, &file, 100, |file| {
             agree.file(file);
             count += 1;
-            if count % (10 * every) == 0 {
+            if count % every == 0 {
                 agree.print(file);
             }
         });
     }
 
     let tally = agree.tally;
+    let mut all_met = true;
+    for (call, refusals) in REFUSALS {
+        let times: Vec<usize> = refusals.iter().map(|n| *tally.met.get(&(*call, *n)).unwrap_or(&0)).collect();
+        let shown: Vec<String> = refusals.iter().zip(&times).map(|(n, t)| format!("{n}: {t}")).collect();
+        println!("{call}: {}", shown.join(", "));
+        all_met &= times.iter().all(|t| *t > 0);
+    }
+    if !all_met {
+        println!("a refusal was never met");
+        exit(1)
+    }
     println!("frames {} calls {} prints {}", tally.frames, tally.calls, tally.prints);
     println!("{} agree, {} differ", tally.agree, tally.differ);
     exit((tally.differ != 0) as i32)

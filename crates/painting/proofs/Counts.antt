@@ -16,7 +16,7 @@ use Rattle.lists.proofs.Laws.{and-left, and-right, by-cases, sum-one, at-most-o
 use Rattle.lists.proofs.Sums.{sum-le, sum-ext, sum-swap, sum-shift}
 use Rattle.frame.specs.Frames.{fits}
 use Rattle.groups.specs.Groups.{pairsOf, flagged, clash}
-use Rattle.painting.specs.Painting.{entries, Counted, upTo, degree, startOf}
+use Rattle.painting.specs.Painting.{entries, Counted, upTo, Copies, degree, startOf}
 use Rattle.painting.proofs.Pairs.{Pair, fits-pair}
 
 -- ---- the counts
@@ -97,38 +97,34 @@ sum-up g m (suc n) h = by-cases (eqb m (suc n)) (λ e. rw (eqb-true m (suc n) e)
 up-more : (t : List ℕ) (x : ℕ) → upTo t (x + 1) ≡ upTo t x + getD t (x + 1) 0
 up-more t x = rw add-one (sum-below (λ j. getD t j 0) (suc x))
 
-pub record Summing (k : ℕ) (old offsets scratch : List ℕ) : Type 0 where
+pub record Summing (k : ℕ) (old offsets : List ℕ) : Type 0 where
   pub sums : (x : ℕ) → x ≤ k → getD offsets x 0 ≡ upTo old x
   pub rest : (x : ℕ) → k < x → getD offsets x 0 ≡ getD old x 0
-  pub copies : (x : ℕ) → x < k → getD scratch x 0 ≡ upTo old x
 
-pub summing-none : (old scratch : List ℕ) → Summing 0 old old scratch
-summing-none old scratch =
-    record {
-      sums = λ x h. let e : x ≡ 0 = omega arith in rw e (omega arith);
-      rest = λ x h. refl;
-      copies = λ x h. absurd (omega arith);
-    }
+pub summing-none : (old : List ℕ) → Summing 0 old old
+summing-none old = record { sums = λ x h. let e : x ≡ 0 = omega arith in rw e (omega arith); rest = λ x h. refl }
 
-module _ (k : ℕ) (old offsets scratch : List ℕ) (v : Summing k old offsets scratch) where
+module _ (k : ℕ) (old offsets : List ℕ) (v : Summing k old offsets) where
   pub summing-next : getD offsets (k + 1) 0 + getD offsets k 0 ≡ upTo old (k + 1)
   summing-next = omega (arith, v .sums k (omega arith), v .rest (k + 1) (omega arith), up-more old k)
 
   pub summing-le : (n : ℕ) → k < n → getD offsets (k + 1) 0 + getD offsets k 0 ≤ upTo old n
   summing-le n h = omega (arith, summing-next, sum-up (λ j. getD old j 0) (suc (k + 1)) (suc n) (omega arith))
 
-  pub summing-more : k + 1 < length offsets → k < length scratch
-      → Summing (k + 1) old (set offsets (k + 1) (getD offsets (k + 1) 0 + getD offsets k 0)) (set scratch k (getD offsets k 0))
-  summing-more l m =
+  pub summing-more : k + 1 < length offsets → Summing (k + 1) old (set offsets (k + 1) (getD offsets (k + 1) 0 + getD offsets k 0))
+  summing-more l =
       record {
         sums = λ x h. by-cases (eqb x (k + 1))
             (λ e. rw (eqb-true x (k + 1) e) (getD-set-same offsets (k + 1) (getD offsets (k + 1) 0 + getD offsets k 0) 0 l ∙ summing-next))
             (λ e. getD-set-other offsets (k + 1) x (getD offsets (k + 1) 0 + getD offsets k 0) 0 (eqb-false x (k + 1) e) ∙ v .sums x (omega (arith, eqb-false x (k + 1) e)));
         rest = λ x h. getD-set-other offsets (k + 1) x (getD offsets (k + 1) 0 + getD offsets k 0) 0 (λ e. omega arith) ∙ v .rest x (omega arith);
-        copies = λ x h. by-cases (eqb x k)
-            (λ e. rw (eqb-true x k e) (getD-set-same scratch k (getD offsets k 0) 0 m ∙ v .sums k (omega arith)))
-            (λ e. getD-set-other scratch k x (getD offsets k 0) 0 (eqb-false x k e) ∙ v .copies x (omega (arith, eqb-false x k e)));
       }
+
+-- one place more is copied
+pub copies-more : (k : ℕ) (from to : List ℕ) → Copies k from to → k < length to → Copies (k + 1) from (set to k (getD from k 0))
+copies-more k from to h l x m = by-cases (eqb x k)
+    (λ e. rw (eqb-true x k e) (getD-set-same to k (getD from k 0) 0 l))
+    (λ e. getD-set-other to k x (getD from k 0) 0 (eqb-false x k e) ∙ h x (omega (arith, eqb-false x k e)))
 
 -- ---- the starts
 module _ (flags : List ℕ) where

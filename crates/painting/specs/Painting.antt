@@ -40,9 +40,17 @@ pub record Counted (flags pairs offsets : List ℕ) : Type 0 where
 abbrev pub upTo : List ℕ → ℕ → ℕ
 upTo t x = sumOf (λ j. getD t j 0) (range (suc x))
 
--- the sums up to places 0 to n of the table `old`; all but the last stand in `scratch` too
+-- the sums up to places 0 to n of the table `old`
+abbrev pub Sums : ℕ → List ℕ → List ℕ → Type 0
+Sums n old offsets = (x : ℕ) → x ≤ n → getD offsets x 0 ≡ upTo old x
+
+-- the first n places of a table, in another
+abbrev pub Copies : ℕ → List ℕ → List ℕ → Type 0
+Copies n from to = (x : ℕ) → x < n → getD to x 0 ≡ getD from x 0
+
+-- the sums; all but the last stand in `scratch` too
 pub record Summed (n : ℕ) (old offsets scratch : List ℕ) : Type 0 where
-  pub sums : (x : ℕ) → x ≤ n → getD offsets x 0 ≡ upTo old x
+  pub sums : Sums n old offsets
   pub copies : (x : ℕ) → x < n → getD scratch x 0 ≡ upTo old x
 
 -- ---- the least free color

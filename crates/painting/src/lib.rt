@@ -7,7 +7,7 @@ ghost use Prim.Native.Nat.{_+_, _-_, _*_, _<_, _≤_, max};
 ghost use lib.Dec.{ltb};
 ghost use lib.ListN.{length, getD, replicate};
 ghost use Rattle.lists.specs.Basics.{all};
-ghost use Rattle.painting.specs.Painting.{Ready, Painted, Counted, upTo, Summed};
+ghost use Rattle.painting.specs.Painting.{Ready, Painted, Counted, upTo, Sums, Copies, Summed};
 ghost use Rattle.painting.specs.Painting.{neighbors, neighborAt, Fresh, Freed};
 ghost use Rattle.painting.specs.Painting.{bodyA, bodyB, listedBoth, Listed, nextAfter, listsAfter, Room, Done};
 
@@ -24,16 +24,35 @@ fn count_entries(dynamic_bodies: &[u8], endpoints: &[u16], body_offsets: &mut [u
     }
 }
 
-// Sums the counts up: the list of a body starts where the one before ends, and its first entry goes there.
+// Sums the counts up: the list of a body starts where the one before ends.
+fn sum_counts(body_offsets: &mut [u16], body_count: usize)
+    requires { ⌜ length (now «body_offsets») ≡ «body_count» + 1 ⌝ }
+    requires { ⌜ upTo (now «body_offsets») «body_count» ≤ 16384 ⌝ }
+    ensures { λ _. ⌜ Sums «body_count» (now («body_offsets» .entry)) (now («body_offsets» .exit)) ⌝ }
+{
+    for body in 0..body_count {
+        body_offsets[body + 1] += body_offsets[body];
+    }
+}
+
+// The first entry of a body goes where its list starts.
+fn copy_starts(body_offsets: &[u16], scratch_offsets: &mut [u16], body_count: usize)
+    requires { ⌜ («body_count» ≤ length (now «body_offsets»)) × («body_count» ≤ length (now «scratch_offsets»)) ⌝ }
+    ensures { λ _. ⌜ Copies «body_count» (now («body_offsets» .entry)) (now («scratch_offsets» .exit)) ⌝ }
+{
+    for body in 0..body_count {
+        scratch_offsets[body] = body_offsets[body];
+    }
+}
+
+// The starts of the bodies' lists, by two loops: the sum is a chain of additions, the copy is none.
 fn sum_offsets(body_offsets: &mut [u16], scratch_offsets: &mut [u16], body_count: usize)
     requires { ⌜ (length (now «body_offsets») ≡ «body_count» + 1) × («body_count» ≤ length (now «scratch_offsets»)) ⌝ }
     requires { ⌜ upTo (now «body_offsets») «body_count» ≤ 16384 ⌝ }
     ensures { λ _. ⌜ Summed «body_count» (now («body_offsets» .entry)) (now («body_offsets» .exit)) (now («scratch_offsets» .exit)) ⌝ }
 {
-    for body in 0..body_count {
-        scratch_offsets[body] = body_offsets[body];
-        body_offsets[body + 1] += body_offsets[body];
-    }
+    sum_counts(body_offsets, body_count);
+    copy_starts(body_offsets, scratch_offsets, body_count);
 }
 
 // The color of a neighbor, by its number.

@@ -1,108 +1,27 @@
--- The places up to the one reached hold sums, copied below it; the later ones hold counts still (`Summing`, proofs/Counts).
-use borrow.Author.Needs.{needs}
+-- The sums, and a copy of all but the last.
+use mathlib.Core.Path.{_∙_}
 use native.Mathlib.Omega.{arith}
-use Prim.Native.Nat.{_-_, _≤_}
-use mathlib.Core.Path.{_≡_, refl}
-use lib.ListN.{length, length-set}
-use denote.Ref.{now}
-use Rattle.painting.proofs.Counts.{Summing, summing-none, summing-le, summing-more}
+use borrow.Author.Needs.{needs}
 use Rattle.painting.proofs.sum_offsets.Statement.{statement}
 use Rattle.painting.proofs.sum_offsets.Tie as tie
 
-abbrev Inv-loop : tie.InvT-loop
-Inv-loop body-offsets₀ scratch-offsets₀ body-count body₀ body-offsets scratch-offsets body =
-    (body ≤ body-count) × (length body-offsets ≡ length body-offsets₀) × (length scratch-offsets ≡ length scratch-offsets₀) × Summing body body-offsets₀ body-offsets scratch-offsets
+sum-counts-requires : tie.Need-sum-counts-requires
+sum-counts-requires c κs = search needs
 
-abbrev μ-loop : tie.MeasureT-loop
-μ-loop body-offsets₀ scratch-offsets₀ body-count body₀ body-offsets scratch-offsets body = body-count - body
+copy-starts-requires : tie.Need-copy-starts-requires
+copy-starts-requires c κs = search needs
 
-loop-holds : tie.Need-loop-holds Inv-loop μ-loop
-loop-holds c = (omega arith, refl, refl, summing-none (now (c .args .body-offsets)) (now (c .args .scratch-offsets)))
+same-length : tie.Need-same-length
+same-length c = search needs
 
-mul-scratch-offsets : tie.Need-mul-scratch-offsets Inv-loop μ-loop
-mul-scratch-offsets c = search needs
+same-length-2 : tie.Need-same-length-2
+same-length-2 c = search needs
 
-slice-read-scratch-offsets : tie.Need-slice-read-scratch-offsets Inv-loop μ-loop
-slice-read-scratch-offsets c = search needs
-
-mul-scratch-offsets-2 : tie.Need-mul-scratch-offsets-2 Inv-loop μ-loop
-mul-scratch-offsets-2 c = search needs
-
-slice-write-scratch-offsets : tie.Need-slice-write-scratch-offsets Inv-loop μ-loop
-slice-write-scratch-offsets c = search needs
-
-mul-body-offsets : tie.Need-mul-body-offsets Inv-loop μ-loop
-mul-body-offsets c = search needs
-
-slice-read-body-offsets : tie.Need-slice-read-body-offsets Inv-loop μ-loop
-slice-read-body-offsets c = search needs
-
-add-body-offsets : tie.Need-add-body-offsets Inv-loop μ-loop
-add-body-offsets c = search needs
-
-mul-body-offsets-2 : tie.Need-mul-body-offsets-2 Inv-loop μ-loop
-mul-body-offsets-2 c = search needs
-
-slice-read-body-offsets-2 : tie.Need-slice-read-body-offsets-2 Inv-loop μ-loop
-slice-read-body-offsets-2 c = search needs
-
-add-body-offsets-2 : tie.Need-add-body-offsets-2 Inv-loop μ-loop
-add-body-offsets-2 c =
-    let l = c .before .before .before .before in
-    let s = l .before in
-    omega (arith, summing-le (l .loop .body) (now (s .args .body-offsets)) (l .loop .body-offsets) (l .loop .scratch-offsets) (l .loop .inv .3) (s .args .body-count) (omega arith))
-
-slice-write-body-offsets : tie.Need-slice-write-body-offsets Inv-loop μ-loop
-slice-write-body-offsets c = search needs
-
-add-body : tie.Need-add-body Inv-loop μ-loop
-add-body c = search needs
-
-loop-less : tie.Need-loop-less Inv-loop μ-loop
-loop-less c = search needs
-
-loop-again : tie.Need-loop-again Inv-loop μ-loop
-loop-again c =
-    let l = c .before .before .before .before in
-    let s = l .before in (
-      omega arith,
-      simp length-set (l .loop .inv .1),
-      simp length-set (l .loop .inv .2),
-      summing-more (l .loop .body) (now (s .args .body-offsets)) (l .loop .body-offsets) (l .loop .scratch-offsets) (l .loop .inv .3) (omega arith) (omega arith),
-    )
-
-same-length : tie.Need-same-length Inv-loop μ-loop
-same-length c = c .before .loop .inv .1
-
-same-length-2 : tie.Need-same-length-2 Inv-loop μ-loop
-same-length-2 c = c .before .loop .inv .2
-
-returns : tie.Need-returns Inv-loop μ-loop
+returns : tie.Need-returns
 returns c =
-    let v = c .before .loop in
-    record { sums = λ x h. v .inv .3 .sums x (omega arith); copies = λ x h. v .inv .3 .copies x (omega arith) }
+    let sums = c .before .before .before .before .before .before .before .sum-counts .ensures in
+    record { sums = sums; copies = λ x h. c .before .before .copy-starts .ensures x h ∙ sums x (omega arith) }
 
 pub sum-offsets-spec : {M : Type 1} → statement M
 sum-offsets-spec =
-    tie.close
-    (tie.spec
-    Inv-loop
-    μ-loop
-    loop-holds
-    mul-scratch-offsets
-    slice-read-scratch-offsets
-    mul-scratch-offsets-2
-    slice-write-scratch-offsets
-    mul-body-offsets
-    slice-read-body-offsets
-    add-body-offsets
-    mul-body-offsets-2
-    slice-read-body-offsets-2
-    add-body-offsets-2
-    slice-write-body-offsets
-    add-body
-    loop-less
-    loop-again
-    same-length
-    same-length-2
-    returns)
+    tie.close (tie.spec sum-counts-requires copy-starts-requires same-length same-length-2 returns)

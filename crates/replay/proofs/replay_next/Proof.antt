@@ -5,100 +5,70 @@ use native.Mathlib.Omega.{arith}
 use borrow.Author.Needs.{needs}
 use Rattle.replay.proofs.replay_next.Statement.{statement}
 use Rattle.replay.proofs.replay_next.Tie as tie
-use Rattle.replay.proofs.replay_next.Reads as reads
-use Rattle.replay.proofs.replay_next.Lts as lts
-use Rattle.io.proofs.read_full.Reads as read-full-reads
-use Rattle.replay.proofs.ended.Reads as ended-reads
-use Rattle.replay.proofs.half_at.Reads as half-at-reads
-use Rattle.replay.proofs.least.Reads as least-reads
-use Rattle.replay.proofs.replay_record.Reads as replay-record-reads
-use Rattle.replay.proofs.summed.Reads as summed-reads
 
--- src/main.rt:690:22
 slice-aggregate-read-full : tie.Need-slice-aggregate-read-full
 slice-aggregate-read-full c = search needs
 
--- src/main.rt:690:5
 read-full-requires : tie.Need-read-full-requires
 read-full-requires c κs = search needs
 
--- src/main.rt:691:16
 array-read-kind : tie.Need-array-read-kind
 array-read-kind c = search needs
 
--- src/main.rt:693:9
 ended-requires : tie.Need-ended-requires
 ended-requires c κs = search needs
 
--- src/main.rt:693:9
 returns : tie.Need-returns
 returns c = search needs
 
--- src/main.rt:695:27
 slice-aggregate-half-at : tie.Need-slice-aggregate-half-at
 slice-aggregate-half-at c = search needs
 
--- src/main.rt:695:19
 half-at-requires : tie.Need-half-at-requires
 half-at-requires c κs = search needs
 
--- src/main.rt:695:19
 cast-least : tie.Need-cast-least
 cast-least c = search needs
 
--- src/main.rt:695:9
 least-requires : tie.Need-least-requires
 least-requires c κs = search needs
 
--- src/main.rt:696:27
 slice-aggregate-half-at-2 : tie.Need-slice-aggregate-half-at-2
 slice-aggregate-half-at-2 c = search needs
 
--- src/main.rt:696:19
 half-at-requires-2 : tie.Need-half-at-requires-2
 half-at-requires-2 c κs = search needs
 
--- src/main.rt:696:19
 cast-least-2 : tie.Need-cast-least-2
 cast-least-2 c = search needs
 
--- src/main.rt:696:9
 least-requires-2 : tie.Need-least-requires-2
 least-requires-2 c κs = search needs
 
--- src/main.rt:697:33
 slice-aggregate-summed : tie.Need-slice-aggregate-summed
 slice-aggregate-summed c = search needs
 
--- src/main.rt:697:9
 summed-requires : tie.Need-summed-requires
 summed-requires c κs = search needs
 
--- src/main.rt:698:34
 array-borrow-prefix-question : tie.Need-array-borrow-prefix-question
 array-borrow-prefix-question c = search needs
 
--- src/main.rt:698:34
 slice-aggregate-replay-record : tie.Need-slice-aggregate-replay-record
 slice-aggregate-replay-record c = sym (length-take-le _ _ (omega (arith, c .before .before .before .before .before .before .least .ensures .1)))
 
--- src/main.rt:698:54
 array-borrow-prefix-stored : tie.Need-array-borrow-prefix-stored
 array-borrow-prefix-stored c = search needs
 
--- src/main.rt:698:54
 slice-aggregate-replay-record-2 : tie.Need-slice-aggregate-replay-record-2
 slice-aggregate-replay-record-2 c = sym (length-take-le _ _ (omega (arith, c .before .before .before .before .least2 .ensures .1)))
 
--- src/main.rt:698:72
 slice-aggregate-replay-record-3 : tie.Need-slice-aggregate-replay-record-3
 slice-aggregate-replay-record-3 c = search needs
 
--- src/main.rt:698:5
 replay-record-requires : tie.Need-replay-record-requires
 replay-record-requires c κs = search needs
 
--- src/main.rt:685:1
 returns-2 : tie.Need-returns-2
 returns-2 c = search needs
 

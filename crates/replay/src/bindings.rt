@@ -1,0 +1,110 @@
+// A binding with takes: types, a list, then pairs of positions, one byte each.
+use crate::answers::put;
+use crate::answers::put_half;
+use crate::questions::after;
+use crate::questions::copy_bytes;
+use crate::questions::copy_numbers;
+use crate::questions::least;
+use crate::questions::number_at;
+use colored_bodies::BodyBinding;
+use colored_bodies::Take;
+ghost use Prim.Native.Nat.{_≤_};
+
+fn put_take(take: Take, out: &mut [u8], at: usize) -> usize {
+    match take {
+        Take::Taken {
+            first,
+            first_dynamic,
+            second,
+            second_dynamic,
+        } => {
+            let number = put(out, at, 0);
+            let one = put_half(out, number, first);
+            let marked = put(out, one, first_dynamic as u8);
+            let two = put_half(out, marked, second);
+            put(out, two, second_dynamic as u8)
+        }
+        Take::Refused(n) => put(out, at, n),
+    }
+}
+
+// The bodies and marks of the first places of a binding.
+fn put_places(
+    bodies: &[u16; 4096],
+    marks: &[u8; 4096],
+    shown: usize,
+    out: &mut [u8],
+    at: usize,
+) -> usize
+    requires { ⌜ shown ≤ 4096 ⌝ }
+{
+    let mut next = at;
+    let mut i = 0;
+    while i < shown {
+        next = put_half(out, next, bodies[i]);
+        next = put(out, next, marks[i]);
+        i += 1;
+    }
+    next
+}
+
+// The count, and the bodies and marks of its places and of the one past them.
+fn put_binding(binding: BodyBinding, out: &mut [u8], at: usize) -> usize {
+    let last = least(binding.count, 4095);
+    let counted = put_half(out, at, last as u16);
+    let bodies = binding.bodies;
+    let marks = binding.marks;
+    put_places(&bodies, &marks, last + 1, out, counted)
+}
+
+fn take_all(
+    bound: BodyBinding,
+    takes: usize,
+    question: &[u8],
+    from: usize,
+    out: &mut [u8],
+    at: usize,
+) -> usize {
+    let mut binding = bound;
+    let mut place = from;
+    let mut next = at;
+    let mut left = takes;
+    while 0 < left {
+        let a = number_at(question, place);
+        let b = number_at(question, after(question, place, 1));
+        let step = binding.pair_at(a, b);
+        let take = step.take;
+        next = put_take(take, out, next);
+        binding = step.binding;
+        next = put_binding(binding, out, next);
+        place = after(question, place, 2);
+        left -= 1;
+    }
+    next
+}
+
+fn bind_and_take(question: &[u8], types: &mut [u8], list: &mut [u16], out: &mut [u8]) -> usize {
+    copy_bytes(question, 3, types);
+    let listed = after(question, 3, types.len());
+    copy_numbers(question, listed, list);
+    let bound = BodyBinding::bind(types, list);
+    let binding = bound.binding;
+    let refused = put(out, 0, bound.refusal);
+    let shown = put_binding(binding, out, refused);
+    take_all(
+        binding,
+        number_at(question, 2),
+        question,
+        after(question, listed, list.len()),
+        out,
+        shown,
+    )
+}
+
+pub fn answer_takes(question: &[u8], out: &mut [u8]) -> usize {
+    let mut types = [0u8; 40];
+    let mut list = [0u16; 40];
+    let b = least(number_at(question, 0), 40);
+    let n = least(number_at(question, 1), 40);
+    bind_and_take(question, &mut types[..b], &mut list[..n], out)
+}
