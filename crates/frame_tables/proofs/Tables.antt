@@ -26,12 +26,12 @@ use Rattle.frame_tables.proofs.Labels.{frame-labels, none-labels}
 
 -- ---- the lengths of a file's parts
 
-pairs-long : (bs : List ℕ) (s step n : ℕ) → length (pairsFrom bs s step n) ≡ 2 * n
+pub pairs-long : (bs : List ℕ) (s step n : ℕ) → length (pairsFrom bs s step n) ≡ 2 * n
 unfolding pairsFrom
 pairs-long bs s step zero = refl
 pairs-long bs s step (suc n) = omega (arith, pairs-long bs (s + step) step n)
 
-enabled-long : (bs : List ℕ) (s n : ℕ) → length (enabledFrom bs s n) ≡ n
+pub enabled-long : (bs : List ℕ) (s n : ℕ) → length (enabledFrom bs s n) ≡ n
 unfolding enabledFrom
 enabled-long bs s zero = refl
 enabled-long bs s (suc n) = ap suc (enabled-long bs (s + 5) n)
@@ -54,19 +54,46 @@ module _ (bs : List ℕ) (e : asked (fileQuestions bs) ≡ 0) where
       (λ z. let y : 0 ≡ 5 = sym e ∙ asked-append (sizeQuestions bs) (question 5 (typesKnown (typesIn bs) && bits (enabledIn bs)) ∷ []) refl ∙ rw (z, t) in omega arith)
       (λ z. clashes (eqb (asked (sizeQuestions bs)) 0) (eq-eqb (asked (sizeQuestions bs)) 0 (sym (asked-append (sizeQuestions bs) (question 5 (typesKnown (typesIn bs) && bits (enabledIn bs)) ∷ []) refl ∙ rw z) ∙ e)) z)))
 
-  types-long : length (typesIn bs) ≡ countB bs
+  pub types-long : length (typesIn bs) ≡ countB bs
   types-long = length-take-le (countB bs) (drop 11 bs) (omega (arith, length-drop 11 bs, s .bytes))
 
-  manifolds-count : length (f .manifolds) ≡ countM bs
+  pub manifolds-count : length (f .manifolds) ≡ countM bs
   unfolding decode
   manifolds-count = pairs-count bs (pairsAt bs) 4 (countM bs) []
 
-  joints-count : length (f .joints) ≡ countJ bs
+  pub joints-count : length (f .joints) ≡ countJ bs
   unfolding decode
   joints-count = pairs-count bs (jointsAt bs) 5 (countJ bs) (enabledIn bs)
 
   pub few-constraints : length (constraints f) ≤ 8192
   few-constraints = omega (arith, length-append (f .manifolds) (f .joints), manifolds-count, joints-count, s .manifolds, s .joints)
+
+  pub file-accepted : allSound f ≡ true → Accepted f
+  unfolding frameRefusal
+  file-accepted t = accepted bs (asked-append (fileQuestions bs) (question 7 (allSound f) ∷ []) refl ∙ rw (e, t))
+
+  -- ---- the labels that an islands call leaves
+
+  module _ (pa bi mi ji pa′ bi′ mi′ ji′ : List ℕ) (k n : ℕ) (built : Built f (soundness bs) pa bi mi ji pa′ bi′ mi′ ji′ k n) where
+    front-labels : (old new labels : List ℕ) (c : ℕ) → length labels ≡ c → new ≡ labelsAfter (soundness bs) labels old → take c new ≡ cond (allSound f) labels (replicate c none)
+    unfolding soundness labelsAfter
+    front-labels old new labels c l en = by-cases (allSound f)
+        (λ t. rw t (ap (take c) (rw t at en) ∙ take-at labels (drop (length labels) old) c l))
+        (λ t. rw t (ap (take c) (rw t at en) ∙ ap (λ (x : ℕ). take c (replicate x none ++ drop (length (replicate x none)) old)) l ∙ take-at (replicate c none) (drop (length (replicate c none)) old) c (length-replicate c none)))
+
+    pub labels-are : labelsIn bs mi′ ji′ ≡ cond (allSound f) (map (label f) (constraints f)) (replicate (countM bs + countJ bs) none)
+    labels-are =
+        let a = front-labels mi mi′ (map (label f) (f .manifolds)) (countM bs) (length-map (f .manifolds) (label f) ∙ manifolds-count) (built .manifold-labels) in
+        let b = front-labels ji ji′ (map (label f) (f .joints)) (countJ bs) (length-map (f .joints) (label f) ∙ joints-count) (built .joint-labels) in
+        rw (a, b) (by-cases (allSound f)
+        (λ t. rw t (sym (map-append (label f) (f .manifolds) (f .joints))))
+        (λ t. rw t (replicate-more (countM bs) (countJ bs))))
+
+    pub labels-sortable : Labels n (labelsIn bs mi′ ji′)
+    unfolding soundness
+    labels-sortable = rw labels-are (by-cases (allSound f)
+        (λ t. rw (t, rw t at (built .count)) (frame-labels f (file-accepted t)))
+        (λ t. rw (t, rw t at (built .count)) (none-labels (countM bs + countJ bs) (omega (arith, s .manifolds, s .joints)))))
 
   -- ---- the frame that stands in the decoded tables
 
@@ -134,32 +161,6 @@ module _ (bs : List ℕ) (e : asked (fileQuestions bs) ≡ 0) where
             (λ t. rw (frame-is, ec, rw t at (built .refusal), t))
             (λ t. rw (ec, rw t at (built .refusal), t))
 
-        -- ---- the labels
-
-        front-labels : (old new labels : List ℕ) (c : ℕ) → length labels ≡ c → new ≡ labelsAfter (soundness bs) labels old → take c new ≡ cond (allSound f) labels (replicate c none)
-        unfolding soundness labelsAfter
-        front-labels old new labels c l en = by-cases (allSound f)
-            (λ t. rw t (ap (take c) (rw t at en) ∙ take-at labels (drop (length labels) old) c l))
-            (λ t. rw t (ap (take c) (rw t at en) ∙ ap (λ (x : ℕ). take c (replicate x none ++ drop (length (replicate x none)) old)) l ∙ take-at (replicate c none) (drop (length (replicate c none)) old) c (length-replicate c none)))
-
-        labels-are : labelsIn bs mi′ ji′ ≡ cond (allSound f) (map (label f) (constraints f)) (replicate (countM bs + countJ bs) none)
-        labels-are =
-            let a = front-labels mi mi′ (map (label f) (f .manifolds)) (countM bs) (length-map (f .manifolds) (label f) ∙ manifolds-count) (built .manifold-labels) in
-            let b = front-labels ji ji′ (map (label f) (f .joints)) (countJ bs) (length-map (f .joints) (label f) ∙ joints-count) (built .joint-labels) in
-            rw (a, b) (by-cases (allSound f)
-            (λ t. rw t (sym (map-append (label f) (f .manifolds) (f .joints))))
-            (λ t. rw t (replicate-more (countM bs) (countJ bs))))
-
-        file-accepted : allSound f ≡ true → Accepted f
-        unfolding frameRefusal
-        file-accepted t = accepted bs (asked-append (fileQuestions bs) (question 7 (allSound f) ∷ []) refl ∙ rw (e, t))
-
-        pub labels-sortable : Labels n (labelsIn bs mi′ ji′)
-        unfolding soundness
-        labels-sortable = rw labels-are (by-cases (allSound f)
-            (λ t. rw (t, rw t at (built .count)) (frame-labels f (file-accepted t)))
-            (λ t. rw (t, rw t at (built .count)) (none-labels (countM bs + countJ bs) (omega (arith, s .manifolds, s .joints)))))
-
         -- ---- the last two steps
 
         module _ (j c i : ℕ) (ej : j ≡ length es) (ec : c ≡ k) (ei : i ≡ n) where
@@ -174,7 +175,7 @@ module _ (bs : List ℕ) (e : asked (fileQuestions bs) ≡ 0) where
           sort-ready lm lj = (
             (omega (arith, lm, em, room .manifold-islands), omega (arith, lj, joints-are, room .joint-islands), omega (arith, em, joints-are, room .keys)),
             (
-              rw (fronts, ei) labels-sortable,
+              rw (fronts, ei) (labels-sortable pa bi mi ji pa′ bi′ mi′ ji′ k n built),
               record {
                 keys = length-take-le (m + j) ks (omega (arith, em, joints-are, room .keys));
                 scratch = omega (arith, em, joints-are, room .scratch);

@@ -1,0 +1,47 @@
+-- A run on tables of the frame's sizes, once questions 1 to 6 are passed.
+use Prim.Native.Nat.{ℕ, _+_, _*_, _/_, _≤_}
+use mathlib.Core.Path.{_≡_}
+use mathlib.Core.Bool.{true, cond}
+use mathlib.Core.List.{List}
+use lib.Dec.{eqb}
+use lib.ListN.{length}
+use Rattle.lists.specs.Basics.{over}
+use Rattle.frame.specs.Files.{countB, countM, countJ, decode}
+use Rattle.island.specs.Calls.{Built}
+use Rattle.constraint_coloring.specs.Plans.{Tables, roomy}
+use Rattle.schedules.specs.Runs.{runOf}
+use Rattle.group_run.specs.declared.Tally.{Tally}
+use Rattle.frame_tables.specs.declared.Filling.{Filling}
+use Rattle.frame_tables.specs.Filled.{soundness}
+use Rattle.frame_run.specs.declared.Run.{Run}
+use Rattle.frame_run.specs.Calls.{runNumber, runReport}
+
+-- the report of a filling and a tally, three entries a turn
+pub record Told (f : Filling) (t : Tally) (r : Run) : Type 0 where
+  pub refusal : runNumber r ≡ f .refusal
+  pub report : runReport r ≡ cond (eqb (f .refusal) 0)
+      (record { islands = f .islands; turns = t .place / 3; takes = t .takes; degree = f .degree })
+      (record { islands = 0; turns = 0; takes = 0; degree = 0 })
+
+-- room in the tables that are not cut to size, and as many numbers as constraints
+pub record Spacious (bs pa bi mi ji ts ip ns : List ℕ) (t : Tables) : Type 0 where
+  pub parents : countB bs ≤ length pa
+  pub body-islands : countB bs ≤ length bi
+  pub manifold-islands : countM bs ≤ length mi
+  pub joint-islands : countJ bs ≤ length ji
+  pub turns : 3 * (countM bs + countJ bs) ≤ length ts
+  pub island-pairs : 2 * (countM bs + countJ bs) ≤ length ip
+  pub numbers : length ns ≡ countM bs + countJ bs
+  pub tables : roomy (countB bs) (countM bs + countJ bs) t ≡ true
+
+-- the island tables and the turn table at entry and at exit, and the answer
+pub record RanSized (bs pa bi mi ji ts pa′ bi′ mi′ ji′ ts′ : List ℕ) (r : Run) : Type 0 where
+  pub refusal : runNumber r ≡ soundness bs
+  pub report : runReport r ≡ record {
+    islands = runOf bs true .islands;
+    turns = runOf bs true .turns;
+    takes = runOf bs true .takes;
+    degree = runOf bs true .degree;
+  }
+  pub turns : ts′ ≡ over (runOf bs true .table) ts
+  pub islands : Built (decode bs) (soundness bs) pa bi mi ji pa′ bi′ mi′ ji′ (runNumber r) (runReport r .islands)
