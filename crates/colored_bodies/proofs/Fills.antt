@@ -1,4 +1,4 @@
--- The loop of `bind` fills both tables from the front: after i turns they are the first i bodies and their marks, padded. An accepted
+-- The loops of a bind fill its tables from the front: after i turns they are the first i bodies and their marks, padded. An accepted
 -- list is no longer than the types and stays below them, so each turn finds its type and its place.
 use Prim.Native.Nat.{ℕ, suc, _+_, _-_, _≤_, _<_}
 use mathlib.Core.Path.{_≡_, refl, sym, ap, _∙_}
@@ -15,6 +15,7 @@ use Rattle.lists.specs.Basics.{one, rises}
 use Rattle.frame.specs.Frames.{conflicts}
 use Rattle.frame.specs.Questions.{typesKnown}
 use Rattle.colored_bodies.specs.Bindings.{lastBelow, bindRefusal, markOf, padded, boundOf, bindOf}
+use Rattle.colored_bodies.specs.Answers.{Fillable}
 use Rattle.colored_bodies.specs.declared.BodyBinding.{BodyBinding}
 use Rattle.colored_bodies.proofs.Rises.{risesFrom, rises-is, rises-room, rises-under}
 
@@ -48,64 +49,53 @@ accepted : (types indices : List ℕ) → bindRefusal types indices ≡ 0 → (l
 unfolding bindRefusal
 accepted types indices h = accepted-by _ (typesKnown types) _ types indices refl refl h
 
--- what the loop holds at place i
-pub record Filling (types indices : List ℕ) (refusal count : ℕ) (bodies marks : List ℕ) (i : ℕ) : Type 0 where
-  pub asked : refusal ≡ bindRefusal types indices
-  pub counted : count ≡ cond (eqb refusal 0) (length indices) 0
-  pub inside : i ≤ count
-  pub bodies-are : bodies ≡ padded (take i indices)
-  pub marks-are : marks ≡ padded (map (markOf types) (take i indices))
-
--- what a turn finds: the body is listed, there is a place for it, and it has a type
-pub record Turn (types indices : List ℕ) (i : ℕ) : Type 0 where
-  pub listed : i < length indices
-  pub room : i < 4096
-  pub typed : getD indices i 0 < length types
-
-module _ (types indices : List ℕ) (refusal count : ℕ) (bodies marks : List ℕ) (i : ℕ) (f : Filling types indices refusal count bodies marks i) where
-  turn-by : (t : Bool) → eqb refusal 0 ≡ t → i < count → Turn types indices i
-  turn-by true e h =
-      let all : count ≡ length indices = f .counted ∙ rw e in
-      let ok = accepted types indices (sym (f .asked) ∙ eqb-true refusal 0 e) in
-      let listed : i < length indices = omega arith in
+-- a bind fills as many places as its list has bodies, and none if it is refused
+module _ (types indices : List ℕ) (refusal count : ℕ) (asked : refusal ≡ bindRefusal types indices) (counted : count ≡ cond (eqb refusal 0) (length indices) 0) where
+  fillable-by : (t : Bool) → eqb refusal 0 ≡ t → Fillable types indices count
+  fillable-by true e =
+      let all : count ≡ length indices = counted ∙ rw e in
+      let ok = accepted types indices (sym asked ∙ eqb-true refusal 0 e) in
       record {
-        listed = listed;
+        listed = omega arith;
         room = omega (arith, ok .0, rises-room 0 (length types) indices (ok .1));
-        typed = rises-under 0 (length types) indices i (ok .1) listed;
+        typed = λ i h. rises-under 0 (length types) indices i (ok .1) (omega arith);
       }
-  turn-by false e h = let none : count ≡ 0 = f .counted ∙ rw e in absurd (omega arith)
+  fillable-by false e =
+      let none : count ≡ 0 = counted ∙ rw e in
+      record { listed = omega arith; room = omega arith; typed = λ i h. absurd (omega arith) }
 
-  pub fill-turn : i < count → Turn types indices i
-  fill-turn h = turn-by (eqb refusal 0) refl h
+  pub fillable : Fillable types indices count
+  fillable = fillable-by (eqb refusal 0) refl
 
-  pub fill-next : i < count → Filling types indices refusal count (set bodies i (getD indices i 0)) (set marks i (boolByte (conflicts (getD types (getD indices i 0) 0)))) (i + 1)
-  fill-next h =
-      let t = fill-turn h in
-      let mark : ℕ = boolByte (conflicts (getD types (getD indices i 0) 0)) in
-      let len : length (take i indices) ≡ i = length-take-le i indices (omega (arith, t .listed)) in
-      let more : take (i + 1) indices ≡ take i indices ++ (getD indices i 0 ∷ []) = taken-more indices i (t .listed) in
-      record {
-        asked = f .asked;
-        counted = f .counted;
-        inside = omega arith;
-        bodies-are = ap (λ (l : List ℕ). set l i (getD indices i 0)) (f .bodies-are) ∙ pad-step (take i indices) i (getD indices i 0) len (t .room) ∙ ap padded (sym more);
-        marks-are =
-            ap (λ (l : List ℕ). set l i mark) (f .marks-are)
-            ∙ pad-step (map (markOf types) (take i indices)) i mark (length-map (take i indices) (markOf types) ∙ len) (t .room)
-            ∙ ap (λ (v : ℕ). padded (map (markOf types) (take i indices) ++ (v ∷ []))) (byte-of (conflicts (getD types (getD indices i 0) 0)))
-            ∙ ap padded (sym (map-append (markOf types) (take i indices) (getD indices i 0 ∷ [])) ∙ ap (map (markOf types)) (sym more));
-      }
+  abbrev filled : BodyBinding
+  filled = record { bodies = padded (take count indices); marks = padded (map (markOf types) (take count indices)); count = count }
 
-  end-by : (t : Bool) → eqb refusal 0 ≡ t → i ≡ count → _≡_ {A = BodyBinding} record { bodies = bodies; marks = marks; count = count } (bindOf types indices)
+  bound-by : (t : Bool) → eqb refusal 0 ≡ t → filled ≡ bindOf types indices
   unfolding bindOf boundOf
-  end-by true e h =
-      let all : count ≡ length indices = f .counted ∙ rw e in
-      let whole : take i indices ≡ indices = take-all i indices (omega arith) in
-      simp (← f .asked, e, f .bodies-are, f .marks-are, whole, all)
-  end-by false e h =
-      let none : count ≡ 0 = f .counted ∙ rw e in
-      let none-yet : i ≡ 0 = h ∙ none in
-      simp (← f .asked, e, f .bodies-are, f .marks-are, none-yet, none)
+  bound-by true e =
+      let all : count ≡ length indices = counted ∙ rw e in
+      let whole : take (length indices) indices ≡ indices = take-all (length indices) indices (omega arith) in
+      simp (← asked, e, all, whole)
+  bound-by false e =
+      let none : count ≡ 0 = counted ∙ rw e in
+      simp (← asked, e, none)
 
-  pub fill-end : count ≤ i → _≡_ {A = BodyBinding} record { bodies = bodies; marks = marks; count = count } (bindOf types indices)
-  fill-end h = let inside = f .inside in end-by (eqb refusal 0) refl (omega arith)
+  pub bound-is : filled ≡ bindOf types indices
+  bound-is = bound-by (eqb refusal 0) refl
+
+-- one body more, and its mark
+pub list-next : (indices : List ℕ) (i : ℕ) → i < length indices → i < 4096 → set (padded (take i indices)) i (getD indices i 0) ≡ padded (take (i + 1) indices)
+list-next indices i h room = pad-step (take i indices) i (getD indices i 0) (length-take-le i indices (omega arith)) room ∙ ap padded (sym (taken-more indices i h))
+
+pub mark-next : (types indices : List ℕ) (i : ℕ) → i < length indices → i < 4096
+    → set (padded (map (markOf types) (take i indices))) i (boolByte (conflicts (getD types (getD indices i 0) 0))) ≡ padded (map (markOf types) (take (i + 1) indices))
+mark-next types indices i h room =
+    let mark : ℕ = boolByte (conflicts (getD types (getD indices i 0) 0)) in
+    pad-step (map (markOf types) (take i indices)) i mark (length-map (take i indices) (markOf types) ∙ length-take-le i indices (omega arith)) room
+    ∙ ap (λ (v : ℕ). padded (map (markOf types) (take i indices) ++ (v ∷ []))) (byte-of (conflicts (getD types (getD indices i 0) 0)))
+    ∙ ap padded (sym (map-append (markOf types) (take i indices) (getD indices i 0 ∷ [])) ∙ ap (map (markOf types)) (sym (taken-more indices i h)))
+
+-- nothing filled yet
+pub none-filled : padded [] ≡ replicate 4096 0
+unfolding padded
+none-filled = refl

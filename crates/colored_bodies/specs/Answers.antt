@@ -1,9 +1,9 @@
 -- What the answers of the calls say: document 01's number and values for each case, and the parts of each contract.
-use Prim.Native.Nat.{ℕ, _<_}
+use Prim.Native.Nat.{ℕ, _≤_, _<_}
 use mathlib.Core.Path.{_≡_}
 use mathlib.Core.Bool.{Bool}
 use mathlib.Core.List.{List, [], _∷_, map}
-use lib.ListN.{getD}
+use lib.ListN.{length, getD}
 use Rattle.colored_bodies.specs.Bindings.{Handed, bindRefusal, bindOf, takeOf}
 use Rattle.colored_bodies.specs.declared.BodyBinding.{BodyBinding}
 use Rattle.colored_bodies.specs.declared.Bound.{Bound}
@@ -39,6 +39,12 @@ withBodies bodies a b (marked.Refused n) = take.Refused n
 -- where it is taken, both positions are places
 abbrev pub Placed : ℕ → ℕ → Marked → Type 0
 Placed a b m = (p q : Bool) → m ≡ marked.Taken p q → (a < 4096) × (b < 4096)
+
+-- the first `count` bodies of a list have places and types
+pub record Fillable (types indices : List ℕ) (count : ℕ) : Type 0 where
+  pub listed : count ≤ length indices
+  pub room : count ≤ 4096
+  pub typed : (i : ℕ) → i < count → getD indices i 0 < length types
 
 -- a bind answers its refusal or 0, and the binding
 pub record Binds (types indices : List ℕ) (r : Bound) : Type 0 where

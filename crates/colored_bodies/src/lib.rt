@@ -5,13 +5,14 @@
 // list that does not rise inside them (8); a take refuses bad positions (9) and bodies that are gone (10, 11).
 ghost use mathlib.Core.Path.{_≡_};
 ghost use mathlib.Core.Bool.{_&&_, cond};
-ghost use mathlib.Core.List.{List, [], _∷_};
-ghost use Prim.Native.Nat.{ℕ, _<_};
-ghost use lib.Dec.{leb};
+ghost use mathlib.Core.List.{List, [], _∷_, map};
+ghost use Prim.Native.Nat.{ℕ, _≤_, _<_};
+ghost use lib.Dec.{leb, eqb};
+ghost use lib.ListN.{length, take, replicate};
 ghost use Rattle.lists.specs.Basics.{rises};
 ghost use Rattle.frame.specs.Questions.{typesKnown};
-ghost use Rattle.colored_bodies.specs.Bindings.{lastBelow, bindRefusal, placed, spend, refusalFrom, marksFrom};
-ghost use Rattle.colored_bodies.specs.Answers.{withBodies, Placed, Binds, Takes, Marks};
+ghost use Rattle.colored_bodies.specs.Bindings.{lastBelow, bindRefusal, markOf, padded, bindOf, placed, spend, refusalFrom, marksFrom};
+ghost use Rattle.colored_bodies.specs.Answers.{withBodies, Placed, Fillable, Binds, Takes, Marks};
 
 // For each place a body number and a mark: 0 read-only, 1 held, and any other number taken.
 pub struct BodyBinding {
@@ -85,22 +86,59 @@ fn bind_refusal(types: &[u8], indices: &[u16]) -> u8
     0
 }
 
+// How many places a bind fills: none if it is refused.
+fn bound_count(refusal: u8, listed: usize) -> usize
+    ensures { λ r. ⌜ r ≡ cond (eqb refusal 0) listed 0 ⌝ }
+{
+    if refusal == 0 { listed } else { 0 }
+}
+
+// The first bodies of a list, into a table of zeros.
+fn list_bodies(indices: &[u16], count: usize, bodies: &mut [u16; 4096])
+    requires { ⌜ (count ≤ length (now indices)) × (count ≤ 4096) × (now bodies ≡ replicate 4096 0) ⌝ }
+    ensures { λ _. ⌜ now (bodies .exit) ≡ padded (take count (now (indices .entry))) ⌝ }
+{
+    let mut i = 0;
+    while i < count {
+        bodies[i] = indices[i];
+        i += 1;
+    }
+}
+
+// Their marks, into a table of zeros: dynamic bodies are held, others read-only.
+fn mark_bodies(types: &[u8], indices: &[u16], count: usize, marks: &mut [u8; 4096])
+    requires { ⌜ Fillable (now types) (now indices) count × (now marks ≡ replicate 4096 0) ⌝ }
+    ensures { λ _. ⌜ now (marks .exit) ≡ padded (map (markOf (now (types .entry))) (take count (now (indices .entry)))) ⌝ }
+{
+    let mut i = 0;
+    while i < count {
+        let x = indices[i] as usize;
+        marks[i] = (types[x] == 2) as u8;
+        i += 1;
+    }
+}
+
+// All that a bind does to marks, whatever stood in the table, with no copy: what a loop over groups calls. Answers the binding's count.
+pub fn bind_marks(types: &[u8], indices: &[u16], marks: &mut [u8; 4096]) -> usize
+    ensures { λ r. ⌜ (r ≡ bindOf (now (types .entry)) (now (indices .entry)) .count) × (now (marks .exit) ≡ bindOf (now (types .entry)) (now (indices .entry)) .marks) ⌝ }
+{
+    let count = bound_count(bind_refusal(types, indices), indices.len());
+    *marks = [0u8; 4096];
+    mark_bodies(types, indices, count, marks);
+    count
+}
+
 impl BodyBinding {
     // Binds the listed bodies: dynamic ones are held, others read-only. A refused bind binds nothing.
     pub fn bind(types: &[u8], indices: &[u16]) -> Bound
         ensures { λ r. ⌜ Binds (now (types .entry)) (now (indices .entry)) r ⌝ }
     {
         let refusal = bind_refusal(types, indices);
-        let count = if refusal == 0 { indices.len() } else { 0 };
+        let count = bound_count(refusal, indices.len());
         let mut bodies = [0u16; 4096];
         let mut marks = [0u8; 4096];
-        let mut i = 0;
-        while i < count {
-            let x = indices[i] as usize;
-            bodies[i] = indices[i];
-            marks[i] = (types[x] == 2) as u8;
-            i += 1;
-        }
+        list_bodies(indices, count, &mut bodies);
+        mark_bodies(types, indices, count, &mut marks);
         let binding = BodyBinding {
             bodies: bodies,
             marks: marks,

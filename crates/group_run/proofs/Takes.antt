@@ -179,9 +179,11 @@ bodies-apart p ns i k b (r ∷ rs) =
     rw (bare-refusal p b r, ← bare-after p b r)
     (one-call i k (getD ns r 0) _ _ _ _ _ (bare-dynamic p b r) (bodies-apart p ns i k (takeRank p b r .after) rs))
 
-pub bound-added : (p : Plan) (ns : List ℕ) (i k : ℕ) (b : BodyBinding) (types bodies rs : List ℕ) → b ≡ bindOf types bodies
-    → addedBy (callsFrom p ns i k (bindOf types bodies) rs) ≡ addedBy (callsFrom p ns i k (marksOnly (b .marks) (b .count)) rs)
-bound-added p ns i k b types bodies rs e = ap (λ (c : BodyBinding). addedBy (callsFrom p ns i k c rs)) (sym e) ∙ bodies-apart p ns i k b rs
+pub bound-added : (p : Plan) (ns : List ℕ) (i k count : ℕ) (marks types bodies rs : List ℕ) → count ≡ bindOf types bodies .count → marks ≡ bindOf types bodies .marks
+    → addedBy (callsFrom p ns i k (bindOf types bodies) rs) ≡ addedBy (callsFrom p ns i k (marksOnly marks count) rs)
+bound-added p ns i k count marks types bodies rs c m = bodies-apart p ns i k (bindOf types bodies) rs
+    ∙ ap (λ (n : ℕ). addedBy (callsFrom p ns i k (marksOnly (bindOf types bodies .marks) n) rs)) (sym c)
+    ∙ ap (λ (ms : List ℕ). addedBy (callsFrom p ns i k (marksOnly ms count) rs)) (sym m)
 
 -- all groups of a plan are those from 0 on
 pub groups-first : (p : Plan) (types ns : List ℕ) (i : ℕ) → joinMap (callsIn p types ns i) (rangeFrom 0 (p .groups - 0)) ≡ planCalls p types ns i

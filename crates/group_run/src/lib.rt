@@ -1,6 +1,5 @@
 // The groups of one island's plan, internal to the frame run: for each group in order its bodies are bound and its members taken, and
 // each take that is not refused appends a turn: island, group, constraint number.
-use colored_bodies::BodyBinding;
 use colored_bodies::Marked;
 use constraint_coloring::ConstraintColoring;
 use constraint_coloring::Positions;
@@ -145,7 +144,7 @@ fn take_members(
     sum
 }
 
-// One group: its bodies are bound, and its members taken from that binding.
+// One group: its bodies are bound, and its members taken from that binding. The marks are a table to work in.
 fn run_group(
     island: u16,
     group: u16,
@@ -155,15 +154,14 @@ fn run_group(
     types: &[u8],
     bodies: &[u16],
     members: &[u16],
+    marks: &mut [u8; 4096],
     turns: &mut [u16],
     tally: Tally,
 ) -> Tally
     requires { ⌜ Room (addedBy (callsFrom (seen plan [] [] [] [] (now positions)) (now numbers) island group (bindOf (now types) (now bodies)) (now members))) (now turns) tally ⌝ }
     ensures { λ r. ⌜ Appended (addedBy (callsFrom (seen plan [] [] [] [] (now (positions .entry))) (now (numbers .entry)) island group (bindOf (now (types .entry)) (now (bodies .entry))) (now (members .entry)))) (now (turns .entry)) tally (now (turns .exit)) r ⌝ }
 {
-    let bound = BodyBinding::bind(types, bodies);
-    let mut binding = bound.binding;
-    let count = binding.count;
+    let count = colored_bodies::bind_marks(types, bodies, marks);
     take_members(
         island,
         group,
@@ -171,7 +169,7 @@ fn run_group(
         plan,
         positions,
         members,
-        &mut binding.marks,
+        marks,
         count,
         turns,
         tally,
@@ -196,6 +194,7 @@ pub fn run_groups(
     requires { ⌜ Room (addedBy (planCalls (seen plan (now «color_offsets») (now «colored_constraints») (now «color_body_offsets») (now «color_bodies») (now positions)) (now types) (now numbers) island)) (now turns) tally ⌝ }
     ensures { λ r. ⌜ Appended (addedBy (planCalls (seen plan (now («color_offsets» .entry)) (now («colored_constraints» .entry)) (now («color_body_offsets» .entry)) (now («color_bodies» .entry)) (now (positions .entry))) (now (types .entry)) (now (numbers .entry)) island)) (now (turns .entry)) tally (now (turns .exit)) r ⌝ }
 {
+    let mut marks = [0u8; 4096];
     let mut sum = tally;
     let mut group = 0;
     while group < plan.color_count {
@@ -210,6 +209,7 @@ pub fn run_groups(
             types,
             bodies,
             members,
+            &mut marks,
             turns,
             sum,
         );

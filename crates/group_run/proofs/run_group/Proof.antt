@@ -6,17 +6,21 @@ use borrow.Author.Needs.{needs}
 use Rattle.group_run.proofs.run_group.Statement.{statement}
 use Rattle.group_run.proofs.run_group.Tie as tie
 
-bind-requires : tie.Need-bind-requires
-bind-requires c κs = search needs
+bind-marks-requires : tie.Need-bind-marks-requires
+bind-marks-requires c κs = search needs
 
 take-members-requires : tie.Need-take-members-requires
-take-members-requires c κs = room-by (bound-added _ _ _ _ _ _ _ _ (c .before .before .before .bind .ensures .binding)) (c .before .before .before .before .before .before .before .before .before .before .pre)
+take-members-requires c κs =
+    let bound = c .before .before .bind-marks .ensures in
+    room-by (bound-added _ _ _ _ _ _ _ _ _ (bound .0) (bound .1)) (c .before .before .before .before .before .before .before .before .before .before .pre)
 
 same-length : tie.Need-same-length
 same-length c = search needs
 
 returns : tie.Need-returns
-returns c = appended-by (sym (bound-added _ _ _ _ _ _ _ _ (c .before .before .before .before .before .before .bind .ensures .binding))) (c .before .before .take-members .ensures)
+returns c =
+    let bound = c .before .before .before .before .before .bind-marks .ensures in
+    appended-by (sym (bound-added _ _ _ _ _ _ _ _ _ (bound .0) (bound .1))) (c .before .before .take-members .ensures)
 
 pub run-group-spec : {M : Type 1} → statement M
-run-group-spec = tie.close (tie.spec bind-requires take-members-requires same-length returns)
+run-group-spec = tie.close (tie.spec bind-marks-requires take-members-requires same-length returns)

@@ -9,13 +9,13 @@ use Rattle.group_run.proofs.run_groups.Statement.{statement}
 use Rattle.group_run.proofs.run_groups.Tie as tie
 
 abbrev Inv-loop : tie.InvT-loop
-Inv-loop island numbers types plan color-offsets colored-constraints color-body-offsets color-bodies positions turns₀ sum₀ group₀ turns sum group =
+Inv-loop island numbers types plan color-offsets colored-constraints color-body-offsets color-bodies positions turns₀ marks₀ sum₀ group₀ turns marks sum group =
     (group ≤ plan .«color_count»)
     × Going (planCalls (seen plan color-offsets colored-constraints color-body-offsets color-bodies positions) types numbers island)
     (joinMap (callsIn (seen plan color-offsets colored-constraints color-body-offsets color-bodies positions) types numbers island) (rangeFrom group (plan .«color_count» - group))) turns₀ sum₀ turns sum
 
 abbrev μ-loop : tie.MeasureT-loop
-μ-loop island numbers types plan color-offsets colored-constraints color-body-offsets color-bodies positions turns₀ sum₀ group₀ turns sum group = plan .«color_count» - group
+μ-loop island numbers types plan color-offsets colored-constraints color-body-offsets color-bodies positions turns₀ marks₀ sum₀ group₀ turns marks sum group = plan .«color_count» - group
 
 loop-holds : tie.Need-loop-holds Inv-loop μ-loop
 loop-holds c = (search needs, going-first (groups-first _ _ _ _))
@@ -31,7 +31,7 @@ cast-run-group : tie.Need-cast-run-group Inv-loop μ-loop
 cast-run-group c = search needs
 
 run-group-requires : tie.Need-run-group-requires Inv-loop μ-loop
-run-group-requires c κs = going-room (c .before .before .before .before .before .before .before .before .before .before .before .before .before .before .pre .1) (c .before .before .before .before .before .loop .inv .1) _ _ (group-next _ _ _ _ _ _ _ _ _ _ _ _ (c .before .before .before .if1 .taken) (c .before .before .constraints-in-schedule-group .ensures) (c .before .bodies-in-schedule-group .ensures))
+run-group-requires c κs = going-room (c .before .before .before .before .before .before .before .before .before .before .before .before .before .before .before .pre .1) (c .before .before .before .before .before .before .loop .inv .1) _ _ (group-next _ _ _ _ _ _ _ _ _ _ _ _ (c .before .before .before .before .if1 .taken) (c .before .before .before .constraints-in-schedule-group .ensures) (c .before .before .bodies-in-schedule-group .ensures))
 
 add-group : tie.Need-add-group Inv-loop μ-loop
 add-group c = search needs
@@ -40,7 +40,7 @@ loop-less : tie.Need-loop-less Inv-loop μ-loop
 loop-less c = search needs
 
 loop-again : tie.Need-loop-again Inv-loop μ-loop
-loop-again c = (search needs, going-more (c .before .before .before .before .before .before .before .before .before .before .before .before .before .before .before .before .before .pre .1) (c .before .before .before .before .before .before .before .before .loop .inv .1) _ _ _ _ (group-next _ _ _ _ _ _ _ _ _ _ _ _ (c .before .before .before .before .before .before .if1 .taken) (c .before .before .before .before .before .constraints-in-schedule-group .ensures) (c .before .before .before .before .bodies-in-schedule-group .ensures)) (c .before .before .run-group .ensures))
+loop-again c = (search needs, going-more (c .before .before .before .before .before .before .before .before .before .before .before .before .before .before .before .before .before .before .pre .1) (c .before .before .before .before .before .before .before .before .before .loop .inv .1) _ _ _ _ (group-next _ _ _ _ _ _ _ _ _ _ _ _ (c .before .before .before .before .before .before .before .if1 .taken) (c .before .before .before .before .before .before .constraints-in-schedule-group .ensures) (c .before .before .before .before .before .bodies-in-schedule-group .ensures)) (c .before .before .run-group .ensures))
 
 same-length : tie.Need-same-length Inv-loop μ-loop
 same-length c = going-length (c .before .before .before .before .before .before .before .before .before .before .before .pre .1) (c .before .before .loop .inv .1)
