@@ -10,7 +10,6 @@ ghost use Prim.Native.Nat.{ℕ, _≤_, _<_};
 ghost use lib.Dec.{leb, eqb};
 ghost use lib.ListN.{length, take, replicate};
 ghost use Rattle.lists.specs.Basics.{rises};
-ghost use Rattle.frame.specs.Questions.{typesKnown};
 ghost use Rattle.colored_bodies.specs.Bindings.{lastBelow, bindRefusal, markOf, padded, bindOf, placed, spend, refusalFrom, marksFrom};
 ghost use Rattle.colored_bodies.specs.Answers.{withBodies, Placed, Fillable, Binds, Takes, Marks};
 

@@ -8,7 +8,7 @@ use native.Mathlib.Omega.{arith}
 use lib.Dec.{eqb}
 use lib.ListN.{length, take, drop, length-map}
 use lib.Seq.{length-take-le}
-use Rattle.lists.specs.Basics.{over, joinMap}
+use Rattle.lists.specs.Basics.{over, put, joinMap}
 use Rattle.lists.proofs.Laws.{by-cases}
 use Rattle.frame.specs.Frames.{Frame, constraints, allSound, flagOf}
 use Rattle.frame.specs.Questions.{question, asked}
@@ -23,7 +23,7 @@ use Rattle.schedules.specs.Runs.{Call, turnOf, turnsOf, takesOf, runCalls, runR
 use Rattle.schedules.proofs.Accepted.{Accepted}
 use Rattle.island_numbers.specs.Numbers.{pairsAmong}
 use Rattle.group_run.specs.declared.Tally.{Tally}
-use Rattle.group_run.specs.Appends.{addedBy, put, Room, Appended}
+use Rattle.group_run.specs.Appends.{addedBy, Room, Appended}
 use Rattle.island_run.specs.Islands.{callsOf, Prepared, none}
 use Rattle.island_run.proofs.Rooms.{SameLengths, room-kept}
 use Rattle.frame_tables.specs.declared.Filling.{Filling}

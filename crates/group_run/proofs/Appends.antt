@@ -6,52 +6,16 @@ use mathlib.Core.List.{List, [], _∷_, _++_, append-assoc, append-nil}
 use native.Mathlib.Omega.{arith}
 use native.Mathlib.Numerals.{add-one}
 use lib.Dec.{eqb}
-use lib.ListN.{length, take, drop, set, length-append, length-drop, take-append-drop}
-use lib.Seq.{length-take-le, take-at, drop-drop, drop-append-add, set-split}
-use Rattle.lists.specs.Basics.{count, joinMap, rangeFrom}
+use lib.ListN.{length, set, length-append}
+use Rattle.lists.specs.Basics.{count, put, joinMap, rangeFrom}
+use Rattle.lists.proofs.Puts.{put-none, length-put, put-put, set-put}
 use Rattle.lists.proofs.Ranges.{filter-append, joinMap-append}
 use Rattle.lists.proofs.Sums.{sum-append}
 use Rattle.schedules.specs.Runs.{Call, turnOf, turnsOf, takesOf}
 use Rattle.group_run.specs.declared.Tally.{Tally}
-use Rattle.group_run.specs.Appends.{Added, addedBy, put, Room, Appended}
+use Rattle.group_run.specs.Appends.{Added, addedBy, Room, Appended}
 
 -- ---- writing over a table
-
-put-none : (n : ℕ) (old : List ℕ) → put n [] old ≡ old
-unfolding put
-put-none n old =
-    let e : n + length {A = ℕ} [] ≡ n = omega arith in
-    rw (append-nil (take n old), e) (take-append-drop n old)
-
-pub length-put : (n : ℕ) (new old : List ℕ) → n + length new ≤ length old → length (put n new old) ≡ length old
-unfolding put
-length-put n new old h =
-    let p : length (take n old) ≡ n = length-take-le n old (omega arith) in
-    simp (length-append, length-drop) (omega arith)
-
--- writing b behind a is writing a ++ b
-put-put : (n : ℕ) (a b old : List ℕ) → n + length a + length b ≤ length old → put (n + length a) b (put n a old) ≡ put n (a ++ b) old
-unfolding put
-put-put n a b old h =
-    let front = take n old ++ a in
-    let rest = drop (n + length a) old in
-    let p : length (take n old) ≡ n = length-take-le n old (omega arith) in
-    let q : length front ≡ n + length a = length-append (take n old) a ∙ omega arith in
-    let ends : n + length a + length b ≡ n + length (a ++ b) = (let e = length-append a b in omega arith) in
-    let behind : drop (n + length a + length b) (front ++ rest) ≡ drop (n + length (a ++ b)) old =
-    ap (λ (m : ℕ). drop (m + length b) (front ++ rest)) (sym q)
-    ∙ drop-append-add front rest (length b)
-    ∙ drop-drop (length b) (n + length a) old
-    ∙ ap (λ (m : ℕ). drop m old) ends in
-    ap (λ (l : List ℕ). l ++ b ++ drop (n + length a + length b) (front ++ rest)) (take-at front rest (n + length a) q)
-    ∙ ap (λ (l : List ℕ). front ++ b ++ l) behind
-    ∙ ap (λ (l : List ℕ). l ++ drop (n + length (a ++ b)) old) (append-assoc (take n old) a b)
-
-set-put : (n v : ℕ) (old : List ℕ) → n < length old → set old n v ≡ put n (v ∷ []) old
-unfolding put
-set-put n v old h =
-    set-split old n v h ∙ ap (λ (m : ℕ). take n old ++ v ∷ drop m old) (sym (add-one n))
-    ∙ sym (append-assoc (take n old) (v ∷ []) (drop (n + 1) old))
 
 -- a turn: three stores
 pub set-turn : (n x y z : ℕ) (old : List ℕ) → n + 3 ≤ length old → set (set (set old n x) (n + 1) y) (n + 2) z ≡ put n (x ∷ y ∷ z ∷ []) old

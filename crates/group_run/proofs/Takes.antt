@@ -10,7 +10,7 @@ use lib.ListN.{length, length-map, getD, drop, drop-of-length-le}
 use lib.Seq.{drop-cons}
 use mir.Val.{boolByte}
 use borrow.Author.Tests.{eqb-false, ne-eqb}
-use Rattle.lists.specs.Basics.{one, count, sumOf, joinMap, rangeFrom}
+use Rattle.lists.specs.Basics.{one, count, sumOf, put, joinMap, rangeFrom}
 use Rattle.lists.proofs.Laws.{by-cases}
 use Rattle.lists.proofs.Fills.{whole}
 use Rattle.lists.proofs.Sums.{sum-map}
@@ -28,7 +28,7 @@ use Rattle.colored_bodies.specs.Answers.{markedNumber, markedDynamic, Marks}
 use Rattle.schedules.specs.Runs.{Call, membersIn, bodiesIn, takeRank, callsFrom, turnsOf, takesOf}
 use Rattle.schedules.proofs.Condition3.{same-calls}
 use Rattle.group_run.specs.declared.Tally.{Tally}
-use Rattle.group_run.specs.Appends.{seen, callsIn, planCalls, Added, addedBy, addedByTake, put, Room, Appended, marksOnly, RankTaken, MemberTaken}
+use Rattle.group_run.specs.Appends.{seen, callsIn, planCalls, Added, addedBy, addedByTake, Room, Appended, marksOnly, RankTaken, MemberTaken}
 use Rattle.group_run.proofs.Appends.{appended-none, parts-next}
 
 -- ---- a take of a rank, from the answers of the lookup and of the take of marks

@@ -1,9 +1,9 @@
 -- What a part of the run adds to the turn table and to the takes.
 use Prim.Native.Nat.{ℕ, _+_, _*_, _≤_}
 use mathlib.Core.Path.{_≡_}
-use mathlib.Core.List.{List, [], _∷_, _++_, map}
-use lib.ListN.{length, take, drop}
-use Rattle.lists.specs.Basics.{one, joinMap, range}
+use mathlib.Core.List.{List, [], _∷_, map}
+use lib.ListN.{length}
+use Rattle.lists.specs.Basics.{one, put, joinMap, range}
 use Rattle.groups.specs.Groups.{Plan}
 use Rattle.constraint_coloring.specs.declared.ConstraintColoring.{ConstraintColoring}
 use Rattle.colored_bodies.specs.declared.BodyBinding.{BodyBinding}
@@ -53,10 +53,6 @@ addedBy cs = record { turns = joinMap turnOf (turnsOf cs); takes = takesOf cs }
 abbrev pub addedByTake : ℕ → ℕ → ℕ → Marked → Added
 addedByTake i k n (marked.Taken p q) = record { turns = i ∷ k ∷ n ∷ []; takes = one p + one q }
 addedByTake i k n (marked.Refused r) = record { turns = []; takes = 0 }
-
--- the list `new` written over `old` from place n on
-unfoldable pub put : ℕ → List ℕ → List ℕ → List ℕ
-put n new old = take n old ++ new ++ drop (n + length new) old
 
 -- there is room for it: places of the turn table, and takes of 4,096 bodies by 8,192 constraints at most
 pub record Room (a : Added) (t : List ℕ) (s : Tally) : Type 0 where

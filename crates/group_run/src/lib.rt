@@ -7,9 +7,10 @@ ghost use mathlib.Core.Path.{_≡_};
 ghost use mathlib.Core.List.{[], _∷_};
 ghost use Prim.Native.Nat.{_+_, _≤_};
 ghost use lib.ListN.{length, getD};
+ghost use Rattle.lists.specs.Basics.{put};
 ghost use Rattle.colored_bodies.specs.Bindings.{bindOf};
 ghost use Rattle.schedules.specs.Runs.{callsFrom};
-ghost use Rattle.group_run.specs.Appends.{seen, planCalls, addedBy, addedByTake, put, Room, Appended, marksOnly, RankTaken, MemberTaken};
+ghost use Rattle.group_run.specs.Appends.{seen, planCalls, addedBy, addedByTake, Room, Appended, marksOnly, RankTaken, MemberTaken};
 
 // The next place of the turn table, and how many dynamic bodies were taken.
 pub struct Tally {

@@ -1,50 +1,13 @@
--- Laws of `put`: a put keeps the buffer's length, two puts one behind the other are one, and a store is a put of one byte.
-use Prim.Native.Nat.{ℕ, suc, _+_, _≤_, _<_}
+-- Texts put into a buffer, one behind another or one byte before the rest.
+use Prim.Native.Nat.{ℕ, suc, _+_, _≤_}
 use mathlib.Core.Path.{_≡_, refl, sym, ap, _∙_}
 use mathlib.Core.List.{List, [], _∷_, _++_, append-assoc}
 use native.Mathlib.Omega.{arith}
-use native.Mathlib.Numerals.{add-one}
-use lib.ListN.{length, take, drop, set, length-append, length-drop, take-append-drop}
-use lib.Seq.{length-take-le, take-append-le, take-take, take-at, drop-at, drop-drop, drop-append-add, set-split, take-length, paste}
-use Rattle.printing.specs.Puts.{put, Put}
-
-pub put-none : (at : ℕ) (old : List ℕ) → put at [] old ≡ old
-unfolding put
-put-none at old =
-    let e : at + length {A = ℕ} [] ≡ at = omega arith in
-    rw e (take-append-drop at old)
-
-pub length-put : (at : ℕ) (text old : List ℕ) → at + length text ≤ length old → length (put at text old) ≡ length old
-unfolding put
-length-put at text old h =
-    let p : length (take at old) ≡ at = length-take-le at old (omega arith) in
-    simp (length-append, length-drop) (omega arith)
-
--- writing b behind a is writing a ++ b
-pub put-put : (at : ℕ) (a b old : List ℕ) → at + length a + length b ≤ length old → put (at + length a) b (put at a old) ≡ put at (a ++ b) old
-unfolding put
-put-put at a b old h =
-    let p : length (take at old) ≡ at = length-take-le at old (omega arith) in
-    let q : length (take at old ++ a) ≡ at + length a = length-append (take at old) a ∙ omega arith in
-    let d = drop (at + length a) old in
-    let s : take at old ++ (a ++ d) ≡ (take at old ++ a) ++ d = sym (append-assoc (take at old) a d) in
-    let f : take (at + length a) (take at old ++ (a ++ d)) ≡ take at old ++ a = ap (take (at + length a)) s ∙ take-at (take at old ++ a) d (at + length a) q in
-    let j : at + length a + length b ≡ at + length (a ++ b) = (let e = length-append a b in omega arith) in
-    let g : drop (at + length a + length b) (take at old ++ (a ++ d)) ≡ drop (at + length (a ++ b)) old =
-    ap (drop (at + length a + length b)) s
-    ∙ ap (λ (n : ℕ). drop (n + length b) ((take at old ++ a) ++ d)) (sym q)
-    ∙ drop-append-add (take at old ++ a) d (length b)
-    ∙ drop-drop (length b) (at + length a) old
-    ∙ ap (λ (n : ℕ). drop n old) j in
-    ap (λ (l : List ℕ). l ++ (b ++ drop (at + length a + length b) (take at old ++ (a ++ d)))) f
-    ∙ ap (λ (l : List ℕ). (take at old ++ a) ++ (b ++ l)) g
-    ∙ append-assoc (take at old) a (b ++ drop (at + length (a ++ b)) old)
-    ∙ ap (λ (l : List ℕ). take at old ++ l) (sym (append-assoc a b (drop (at + length (a ++ b)) old)))
-
--- a store
-pub set-put : (at v : ℕ) (old : List ℕ) → at < length old → set old at v ≡ put at (v ∷ []) old
-unfolding put
-set-put at v old h = set-split old at v h ∙ ap (λ (n : ℕ). take at old ++ v ∷ drop n old) (sym (add-one at))
+use lib.ListN.{length, take, drop, set, length-append}
+use lib.Seq.{length-take-le, take-append-le, take-take, drop-at, set-split, take-length, paste}
+use Rattle.lists.specs.Basics.{put}
+use Rattle.lists.proofs.Puts.{put-none, length-put, put-put}
+use Rattle.printing.specs.Puts.{Put}
 
 -- a store just before what was put
 pub put-before : (i v : ℕ) (text old : List ℕ) → suc i + length text ≤ length old → set (put (suc i) text old) i v ≡ put i (v ∷ text) old

@@ -6,8 +6,10 @@ use mathlib.Core.List.{List, [], _∷_, _++_, append-assoc, append-nil}
 use native.Mathlib.Omega.{arith}
 use lib.ListN.{length, set, length-append}
 use Rattle.schedules.specs.Print.{decimal}
-use Rattle.printing.specs.Puts.{put, Put}
-use Rattle.printing.proofs.Puts.{put-none, length-put, put-before}
+use Rattle.lists.specs.Basics.{put}
+use Rattle.lists.proofs.Puts.{put-none, length-put}
+use Rattle.printing.specs.Puts.{Put}
+use Rattle.printing.proofs.Puts.{put-before}
 use Rattle.printing.proofs.Digits.{decimal-last, decimal-one, decimal-some}
 
 pub record Spelling (old : List ℕ) (at n : ℕ) (out : List ℕ) (i rest : ℕ) : Type 0 where

@@ -11,13 +11,14 @@ use lib.Seq.{drop-cons, drop-drop, take-add, length-take-le, getD-append-add}
 use native.Mathlib.Nat.{mul-suc}
 use borrow.Author.Tests.{lt-ltb, le-ltb, ltb-true, ltb-false, leb-true}
 use Rattle.lists.proofs.Laws.{by-cases, and-left, and-right}
+use Rattle.lists.proofs.Puts.{put-none}
 use Rattle.frame.specs.Frames.{Constraint, Frame, nothing, constraintsOf, constraintAt}
 use Rattle.frame.specs.Files.{half, countB, countM, countJ, pairsAt, jointsAt, pairsFrom, manifoldsIn, jointsIn, enabledIn, decode}
 use Rattle.schedules.specs.Print.{decimal, spaced, turnLine, turnLines}
 use Rattle.schedules.proofs.Accepted.{pairs-count}
-use Rattle.printing.specs.Puts.{put, Put, longest, ifRoom}
+use Rattle.printing.specs.Puts.{Put, longest, ifRoom}
 use Rattle.printing.specs.Turns.{endsAt, lineOf, ready, ifReady, gathered, turnsFrom, linesOf, Lines}
-use Rattle.printing.proofs.Puts.{put-none, put-nothing, wrote-then}
+use Rattle.printing.proofs.Puts.{put-nothing, wrote-then}
 use Rattle.printing.proofs.Lines.{turn-short}
 
 -- ---- one line

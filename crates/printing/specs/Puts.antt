@@ -2,13 +2,10 @@
 use Prim.Native.Nat.{ℕ, _+_, _≤_}
 use mathlib.Core.Path.{_≡_}
 use mathlib.Core.Bool.{cond}
-use mathlib.Core.List.{List, [], _++_}
+use mathlib.Core.List.{List, []}
 use lib.Dec.{leb}
-use lib.ListN.{length, take, drop}
-
--- the text written over `old` from place `at` on
-unfoldable pub put : ℕ → List ℕ → List ℕ → List ℕ
-put at text old = take at old ++ (text ++ drop (at + length text) old)
+use lib.ListN.{length}
+use Rattle.lists.specs.Basics.{put}
 
 -- the buffer `old` becomes `new`: the text stands from place `at` on, and r, in the buffer if `at` is, is the place after it
 pub record Put (text old : List ℕ) (at : ℕ) (new : List ℕ) (r : ℕ) : Type 0 where

@@ -1,7 +1,7 @@
 -- `printing::put_byte` meets its contract: a store is a put of one byte.
 use native.Mathlib.Omega.{arith}
 use mathlib.Core.Path.{refl}
-use Rattle.printing.proofs.Puts.{set-put}
+use Rattle.lists.proofs.Puts.{set-put}
 use borrow.Author.Needs.{needs}
 use Rattle.printing.proofs.put_byte.Statement.{statement}
 use Rattle.printing.proofs.put_byte.Tie as tie
