@@ -2,7 +2,7 @@
 use frame::Frame;
 ghost use mathlib.Core.Path.{_≡_};
 ghost use mathlib.Core.Bool.{_&&_};
-ghost use Prim.Native.Nat.{_+_, _*_, _/_, _^_, _<_, _≤_};
+ghost use Prim.Native.Nat.{_+_, _*_, _/_, _≤_};
 ghost use lib.Dec.{leb, eqb};
 ghost use lib.ListN.{length, take};
 ghost use Rattle.lists.specs.Basics.{over, same};
@@ -32,7 +32,7 @@ pub enum Positions {
 }
 
 // Question 6: is there room for `b` bodies and `c` constraints in tables of these lengths?
-fn roomy(
+pub fn roomy(
     b: usize,
     c: usize,
     dynamic_bodies: usize,
@@ -49,7 +49,6 @@ fn roomy(
     color_bodies: usize,
     constraint_body_positions: usize,
 ) -> bool
-    requires { ⌜ (b < 2 ^ 63) × (c < 2 ^ 63) ⌝ }
     ensures { λ r. ⌜ r ≡ (leb b «dynamic_bodies» && leb (2 * c) endpoints && leb (b + 1) «body_offsets»
         && leb (2 * c) «body_constraints» && leb b «scratch_offsets» && leb c «scratch_offsets»
         && leb c «constraint_colors» && leb c «color_stamps» && leb b «body_stamps»
@@ -57,19 +56,19 @@ fn roomy(
         && leb (2 * c) «color_bodies» && leb (2 * c) «constraint_body_positions») ⌝ }
 {
     (b <= dynamic_bodies)
-        & (2 * c <= endpoints)
-        & (b + 1 <= body_offsets)
-        & (2 * c <= body_constraints)
+        & (c <= endpoints / 2)
+        & (b < body_offsets)
+        & (c <= body_constraints / 2)
         & (b <= scratch_offsets)
         & (c <= scratch_offsets)
         & (c <= constraint_colors)
         & (c <= color_stamps)
         & (b <= body_stamps)
-        & (c + 1 <= color_offsets)
+        & (c < color_offsets)
         & (c <= colored_constraints)
-        & (c + 1 <= color_body_offsets)
-        & (2 * c <= color_bodies)
-        & (2 * c <= constraint_body_positions)
+        & (c < color_body_offsets)
+        & (c <= color_bodies / 2)
+        & (c <= constraint_body_positions / 2)
 }
 
 // Questions 3 to 7, where `room` answers 6; 0 where all get a "yes".

@@ -2,12 +2,12 @@
 -- islands' calls made from the tables are the run's.
 use Prim.Native.Nat.{ℕ, zero, suc, _+_, _*_, _≤_, _<_}
 use mathlib.Core.Path.{_≡_, refl, sym, ap, _∙_}
-use mathlib.Core.Bool.{Bool, true, cond}
+use mathlib.Core.Bool.{true}
 use mathlib.Core.List.{List, [], _∷_, _++_, map}
 use native.Mathlib.Omega.{arith}
 use lib.Dec.{eqb}
 use lib.ListN.{length, getD, length-map, length-append, List·getD-map}
-use Rattle.lists.specs.Basics.{one, count, filter, sumOf, joinMap, range, mem}
+use Rattle.lists.specs.Basics.{count, joinMap, range}
 use Rattle.lists.proofs.Laws.{by-cases, filter-mem, range-high, getD-any, length-range, filter-length-le, sum-one}
 use Rattle.lists.proofs.Ranges.{map-append, filter-ext-in}
 use Rattle.lists.proofs.Sums.{length-filter, sum-le, sum-times}

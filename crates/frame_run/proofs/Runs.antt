@@ -2,25 +2,22 @@
 -- constraint that touches a dynamic body.
 use Prim.Native.Nat.{ℕ, _+_, _*_, _/_, _≤_, _<_}
 use mathlib.Core.Path.{_≡_, refl, sym, ap, _∙_}
-use mathlib.Core.Bool.{Bool, true, false, cond}
+use mathlib.Core.Bool.{true, false, cond}
 use mathlib.Core.List.{List, [], _∷_, _++_, map}
 use native.Mathlib.Omega.{arith}
-use lib.Dec.{eqb}
-use lib.ListN.{length, take, drop, length-map}
-use lib.Seq.{length-take-le}
+use lib.ListN.{length, take, length-map}
 use Rattle.lists.specs.Basics.{over, put, joinMap}
 use Rattle.lists.proofs.Laws.{by-cases}
 use Rattle.frame.specs.Frames.{Frame, constraints, allSound, flagOf}
 use Rattle.frame.specs.Questions.{question, asked}
-use Rattle.frame.specs.Files.{countB, countM, countJ, jointsAt, typesIn, enabledIn, decode, fileQuestions}
+use Rattle.frame.specs.Files.{countB, countM, countJ, jointsAt, typesIn, decode, fileQuestions}
 use Rattle.frame.proofs.Questions.{asked-append}
 use Rattle.island.specs.Islands.{islandCount, label}
 use Rattle.island.specs.Calls.{Built}
 use Rattle.groups.specs.Groups.{members}
 use Rattle.constraint_coloring.specs.Plans.{Tables, roomy, updateRefusal}
 use Rattle.constraint_coloring.proofs.Accepted.{fitted-roomy}
-use Rattle.schedules.specs.Runs.{Call, turnOf, turnsOf, takesOf, runCalls, runRefusal, runOf}
-use Rattle.schedules.proofs.Accepted.{Accepted}
+use Rattle.schedules.specs.Runs.{turnOf, turnsOf, takesOf, runCalls, runRefusal, runOf}
 use Rattle.island_numbers.specs.Numbers.{pairsAmong}
 use Rattle.group_run.specs.declared.Tally.{Tally}
 use Rattle.group_run.specs.Appends.{addedBy, Room, Appended}
@@ -31,7 +28,7 @@ use Rattle.frame_tables.specs.Filled.{labelsIn, soundness, Fills, Roomy}
 use Rattle.frame_tables.proofs.Decoding.{fronts-long}
 use Rattle.frame_tables.proofs.Tables.{file-accepted, types-long, labels-are, labels-sortable, enabled-long}
 use Rattle.frame_run.specs.declared.Report.{Report}
-use Rattle.frame_run.specs.declared.Run.{Run}
+use Rattle.frame_run.specs.declared.Answer.{Answer}
 use Rattle.frame_run.specs.Calls.{runNumber, runReport}
 use Rattle.frame_run.specs.Sized.{Told, Spacious, RanSized}
 use Rattle.frame_run.proofs.Frames.{turns-long, pairs-twice, calls-are, updates-accepted, run-room}
@@ -139,7 +136,7 @@ module _ (bs : List ℕ) (e : asked (fileQuestions bs) ≡ 0) where
 
     -- ---- the answer
 
-    module _ (m : ℕ) (em : m ≡ countM bs) (tt tt′ : List ℕ) (tally : Tally) (answer : Run)
+    module _ (m : ℕ) (em : m ≡ countM bs) (tt tt′ : List ℕ) (tally : Tally) (answer : Answer)
         (added : Appended (addedBy (callsOf ts fs ps (take m mi′ ++ take (length es) ji′) (r .islands))) tt none tt′ tally) (told : Told r tally answer) where
       done : Appended (addedBy (cond (allSound f) (runCalls f) [])) tt none tt′ tally
       done = rw (fronts m em, calls-of) at added

@@ -9,20 +9,20 @@ use Rattle.lists.specs.Basics.{over}
 use Rattle.frame.specs.Files.{countB, countM, countJ, decode}
 use Rattle.island.specs.Calls.{Built}
 use Rattle.constraint_coloring.specs.Plans as plans
-use Rattle.schedules.specs.Runs.{runRefusal, runOf}
+use Rattle.schedules.specs.Runs.{runOf}
 use Rattle.frame_run.specs.declared.Report.{Report}
-use Rattle.frame_run.specs.declared.Run.{Run}
-use Rattle.frame_run.specs.declared.Run.the-variants as run
+use Rattle.frame_run.specs.declared.Answer.{Answer}
+use Rattle.frame_run.specs.declared.Answer.the-variants as answer
 
 -- ---- the answer: document 01's number, 0 where accepted, and the four carried numbers, all 0 where refused
 
-abbrev pub runNumber : Run → ℕ
-runNumber (run.Ran r) = 0
-runNumber (run.Refused n) = n
+abbrev pub runNumber : Answer → ℕ
+runNumber (answer.Ran r) = 0
+runNumber (answer.Refused n) = n
 
-abbrev pub runReport : Run → Report
-runReport (run.Ran r) = r
-runReport (run.Refused n) = record { islands = 0; turns = 0; takes = 0; degree = 0 }
+abbrev pub runReport : Answer → Report
+runReport (answer.Ran r) = r
+runReport (answer.Refused n) = record { islands = 0; turns = 0; takes = 0; degree = 0 }
 
 -- ---- the lent tables
 
@@ -59,7 +59,7 @@ pub record Worked (k : ℕ) (old new : List ℕ) : Type 0 where
   pub long : length new ≡ length old
 
 -- the contract: the lent tables at entry (l) and at exit (m), where k is the refusal or 0
-pub record Ran (bs : List ℕ) (k : ℕ) (l m : Lent) (r : Run) : Type 0 where
+pub record Ran (bs : List ℕ) (k : ℕ) (l m : Lent) (r : Answer) : Type 0 where
   pub refusal : runNumber r ≡ k
   pub report : runReport r ≡ record {
     islands = runOf bs (roomIn bs l) .islands;

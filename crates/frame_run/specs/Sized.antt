@@ -13,11 +13,11 @@ use Rattle.schedules.specs.Runs.{runOf}
 use Rattle.group_run.specs.declared.Tally.{Tally}
 use Rattle.frame_tables.specs.declared.Filling.{Filling}
 use Rattle.frame_tables.specs.Filled.{soundness}
-use Rattle.frame_run.specs.declared.Run.{Run}
+use Rattle.frame_run.specs.declared.Answer.{Answer}
 use Rattle.frame_run.specs.Calls.{runNumber, runReport}
 
 -- the report of a filling and a tally, three entries a turn
-pub record Told (f : Filling) (t : Tally) (r : Run) : Type 0 where
+pub record Told (f : Filling) (t : Tally) (r : Answer) : Type 0 where
   pub refusal : runNumber r ≡ f .refusal
   pub report : runReport r ≡ cond (eqb (f .refusal) 0)
       (record { islands = f .islands; turns = t .place / 3; takes = t .takes; degree = f .degree })
@@ -35,7 +35,7 @@ pub record Spacious (bs pa bi mi ji ts ip ns : List ℕ) (t : Tables) : Type 0 w
   pub tables : roomy (countB bs) (countM bs + countJ bs) t ≡ true
 
 -- the island tables and the turn table at entry and at exit, and the answer
-pub record RanSized (bs pa bi mi ji ts pa′ bi′ mi′ ji′ ts′ : List ℕ) (r : Run) : Type 0 where
+pub record RanSized (bs pa bi mi ji ts pa′ bi′ mi′ ji′ ts′ : List ℕ) (r : Answer) : Type 0 where
   pub refusal : runNumber r ≡ soundness bs
   pub report : runReport r ≡ record {
     islands = runOf bs true .islands;

@@ -1,9 +1,17 @@
 // The frame run: from the bytes of a file to the turns of its constraints. Questions 1 to 6 are asked before anything is written; after
 // that the tables are filled (question 7), and each island in number order is colored and its groups taken.
+use frame::Frame;
+use frame::Reading;
 use frame_tables::Filling;
 use group_run::Tally;
+ghost use Prim.Native.Nat.{_+_, _*_, _≤_};
 ghost use mathlib.Core.Path.{_≡_};
+ghost use mathlib.Core.Bool.{_&&_, cond};
+ghost use lib.Dec.{leb, eqb};
+ghost use Rattle.frame.specs.Answers.{readNumber, readSizes};
+ghost use Rattle.schedules.specs.Runs.{runRefusal};
 ghost use Rattle.frame_tables.specs.Filled.{Decodable};
+ghost use Rattle.frame_run.specs.Calls.{roomIn, Ran};
 ghost use Rattle.frame_run.specs.Sized.{Told, Spacious, RanSized};
 
 // What a run carries: islands, turns, takes of dynamic bodies, and the largest number of constraints on one dynamic body.
@@ -15,19 +23,19 @@ pub struct Report {
 }
 
 // The answer of a run: its report, or the number of the first question that got a "no".
-pub enum Run {
+pub enum Answer {
     Ran(Report),
     Refused(u8),
 }
 
 // The report of a frame that was not refused.
-fn told(filling: Filling, tally: Tally) -> Run
+fn told(filling: Filling, tally: Tally) -> Answer
     ensures { λ r. ⌜ Told filling tally r ⌝ }
 {
     if filling.refusal != 0 {
-        return Run::Refused(filling.refusal);
+        return Answer::Refused(filling.refusal);
     }
-    Run::Ran(Report {
+    Answer::Ran(Report {
         islands: filling.islands as usize,
         turns: tally.place / 3,
         takes: tally.takes,
@@ -64,7 +72,7 @@ fn run_sized(
     color_body_offsets: &mut [u16],
     color_bodies: &mut [u16],
     constraint_body_positions: &mut [u16],
-) -> Run
+) -> Answer
     requires { ⌜ Decodable (now frame) manifolds (now types) (now flags) (now pairs) (now enabled) ⌝ }
     requires { ⌜ Spacious (now frame) (now parents) (now «body_islands») (now «manifold_islands») (now «joint_islands») (now turns) (now «island_pairs») (now numbers) (record { dynamic-bodies = now «dynamic_bodies»; endpoints = now endpoints; body-offsets = now «body_offsets»; body-constraints = now «body_constraints»; scratch-offsets = now «scratch_offsets»; constraint-colors = now «constraint_colors»; color-stamps = now «color_stamps»; body-stamps = now «body_stamps»; color-offsets = now «color_offsets»; colored-constraints = now «colored_constraints»; color-body-offsets = now «color_body_offsets»; color-bodies = now «color_bodies»; constraint-body-positions = now «constraint_body_positions» }) ⌝ }
     ensures { λ r. ⌜ RanSized (now (frame .entry)) (now (parents .entry)) (now («body_islands» .entry)) (now («manifold_islands» .entry)) (now («joint_islands» .entry)) (now (turns .entry))
@@ -112,4 +120,183 @@ fn run_sized(
         turns,
     );
     told(filling, tally)
+}
+
+fn number_of(reading: Reading) -> u8
+    ensures { λ r. ⌜ r ≡ readNumber reading ⌝ }
+{
+    match reading {
+        Reading::Accepted(_) => 0,
+        Reading::Refused(n) => n,
+    }
+}
+
+fn sizes_of(reading: Reading) -> Frame
+    ensures { λ r. ⌜ r ≡ readSizes reading ⌝ }
+{
+    match reading {
+        Reading::Accepted(sizes) => sizes,
+        Reading::Refused(_) => Frame {
+            bodies: 0,
+            manifolds: 0,
+            joints: 0,
+        },
+    }
+}
+
+// Question 6 for a frame of `b` bodies, `m` manifolds and `j` joints in tables of these lengths, where `plan` answers it for the plan's.
+fn room_for(
+    b: usize,
+    m: usize,
+    j: usize,
+    parents: usize,
+    body_islands: usize,
+    manifold_islands: usize,
+    joint_islands: usize,
+    turns: usize,
+    types: usize,
+    flags: usize,
+    pairs: usize,
+    island_pairs: usize,
+    enabled: usize,
+    numbers: usize,
+    plan: bool,
+) -> bool
+    requires { ⌜ (m ≤ 4096) × (j ≤ 4096) ⌝ }
+    ensures { λ r. ⌜ r ≡ (leb b parents && leb b «body_islands» && leb m «manifold_islands» && leb j «joint_islands»
+        && leb (3 * (m + j)) turns && leb b types && leb b flags
+        && leb (2 * (m + j)) pairs && leb (2 * (m + j)) «island_pairs» && leb j enabled && leb (m + j) numbers && plan) ⌝ }
+{
+    (b <= parents)
+        & (b <= body_islands)
+        & (m <= manifold_islands)
+        & (j <= joint_islands)
+        & (3 * (m + j) <= turns)
+        & (b <= types)
+        & (b <= flags)
+        & (2 * (m + j) <= pairs)
+        & (2 * (m + j) <= island_pairs)
+        & (j <= enabled)
+        & (m + j <= numbers)
+        & plan
+}
+
+// Questions 1 to 6: the refusal of reading the file, or 6.
+fn first_refusal(read: u8, room: bool) -> u8
+    ensures { λ r. ⌜ r ≡ cond (eqb read 0) (cond room 0 6) read ⌝ }
+{
+    if read != 0 {
+        return read;
+    }
+    if !room {
+        return 6;
+    }
+    0
+}
+
+// The run of a file. Refusals 1 to 6 change nothing; after 7 the turn table is kept, and the island tables stand as a refused islands
+// call leaves them.
+pub fn run(
+    frame: &[u8],
+    parents: &mut [u16],
+    body_islands: &mut [u16],
+    manifold_islands: &mut [u16],
+    joint_islands: &mut [u16],
+    turns: &mut [u16],
+    types: &mut [u8],
+    flags: &mut [u8],
+    pairs: &mut [u16],
+    island_pairs: &mut [u16],
+    enabled: &mut [u8],
+    numbers: &mut [u16],
+    dynamic_bodies: &mut [u8],
+    endpoints: &mut [u16],
+    body_offsets: &mut [u16],
+    body_constraints: &mut [u16],
+    scratch_offsets: &mut [u16],
+    constraint_colors: &mut [u16],
+    color_stamps: &mut [u16],
+    body_stamps: &mut [u16],
+    color_offsets: &mut [u16],
+    colored_constraints: &mut [u16],
+    color_body_offsets: &mut [u16],
+    color_bodies: &mut [u16],
+    constraint_body_positions: &mut [u16],
+) -> Answer
+    ensures { λ r. ⌜ Ran (now (frame .entry)) (runRefusal (now (frame .entry)) (roomIn (now (frame .entry)) (record { parents = now (parents .entry); body-islands = now («body_islands» .entry); manifold-islands = now («manifold_islands» .entry); joint-islands = now («joint_islands» .entry); turns = now (turns .entry); types = now (types .entry); flags = now (flags .entry); pairs = now (pairs .entry); island-pairs = now («island_pairs» .entry); enabled = now (enabled .entry); numbers = now (numbers .entry); plan = record { dynamic-bodies = now («dynamic_bodies» .entry); endpoints = now (endpoints .entry); body-offsets = now («body_offsets» .entry); body-constraints = now («body_constraints» .entry); scratch-offsets = now («scratch_offsets» .entry); constraint-colors = now («constraint_colors» .entry); color-stamps = now («color_stamps» .entry); body-stamps = now («body_stamps» .entry); color-offsets = now («color_offsets» .entry); colored-constraints = now («colored_constraints» .entry); color-body-offsets = now («color_body_offsets» .entry); color-bodies = now («color_bodies» .entry); constraint-body-positions = now («constraint_body_positions» .entry) } })))
+        (record { parents = now (parents .entry); body-islands = now («body_islands» .entry); manifold-islands = now («manifold_islands» .entry); joint-islands = now («joint_islands» .entry); turns = now (turns .entry); types = now (types .entry); flags = now (flags .entry); pairs = now (pairs .entry); island-pairs = now («island_pairs» .entry); enabled = now (enabled .entry); numbers = now (numbers .entry); plan = record { dynamic-bodies = now («dynamic_bodies» .entry); endpoints = now (endpoints .entry); body-offsets = now («body_offsets» .entry); body-constraints = now («body_constraints» .entry); scratch-offsets = now («scratch_offsets» .entry); constraint-colors = now («constraint_colors» .entry); color-stamps = now («color_stamps» .entry); body-stamps = now («body_stamps» .entry); color-offsets = now («color_offsets» .entry); colored-constraints = now («colored_constraints» .entry); color-body-offsets = now («color_body_offsets» .entry); color-bodies = now («color_bodies» .entry); constraint-body-positions = now («constraint_body_positions» .entry) } })
+        (record { parents = now (parents .exit); body-islands = now («body_islands» .exit); manifold-islands = now («manifold_islands» .exit); joint-islands = now («joint_islands» .exit); turns = now (turns .exit); types = now (types .exit); flags = now (flags .exit); pairs = now (pairs .exit); island-pairs = now («island_pairs» .exit); enabled = now (enabled .exit); numbers = now (numbers .exit); plan = record { dynamic-bodies = now («dynamic_bodies» .exit); endpoints = now (endpoints .exit); body-offsets = now («body_offsets» .exit); body-constraints = now («body_constraints» .exit); scratch-offsets = now («scratch_offsets» .exit); constraint-colors = now («constraint_colors» .exit); color-stamps = now («color_stamps» .exit); body-stamps = now («body_stamps» .exit); color-offsets = now («color_offsets» .exit); colored-constraints = now («colored_constraints» .exit); color-body-offsets = now («color_body_offsets» .exit); color-bodies = now («color_bodies» .exit); constraint-body-positions = now («constraint_body_positions» .exit) } }) r ⌝ }
+{
+    let reading = Frame::read(frame);
+    let sizes = sizes_of(reading);
+    let bodies = sizes.bodies;
+    let manifolds = sizes.manifolds;
+    let joints = sizes.joints;
+    let constraints = manifolds + joints;
+    let plan = constraint_coloring::roomy(
+        bodies,
+        constraints,
+        dynamic_bodies.len(),
+        endpoints.len(),
+        body_offsets.len(),
+        body_constraints.len(),
+        scratch_offsets.len(),
+        constraint_colors.len(),
+        color_stamps.len(),
+        body_stamps.len(),
+        color_offsets.len(),
+        colored_constraints.len(),
+        color_body_offsets.len(),
+        color_bodies.len(),
+        constraint_body_positions.len(),
+    );
+    let room = room_for(
+        bodies,
+        manifolds,
+        joints,
+        parents.len(),
+        body_islands.len(),
+        manifold_islands.len(),
+        joint_islands.len(),
+        turns.len(),
+        types.len(),
+        flags.len(),
+        pairs.len(),
+        island_pairs.len(),
+        enabled.len(),
+        numbers.len(),
+        plan,
+    );
+    let refusal = first_refusal(number_of(reading), room);
+    if refusal != 0 {
+        return Answer::Refused(refusal);
+    }
+    run_sized(
+        frame,
+        manifolds,
+        parents,
+        body_islands,
+        manifold_islands,
+        joint_islands,
+        turns,
+        &mut types[..bodies],
+        &mut flags[..bodies],
+        &mut pairs[..2 * constraints],
+        island_pairs,
+        &mut enabled[..joints],
+        &mut numbers[..constraints],
+        dynamic_bodies,
+        endpoints,
+        body_offsets,
+        body_constraints,
+        scratch_offsets,
+        constraint_colors,
+        color_stamps,
+        body_stamps,
+        color_offsets,
+        colored_constraints,
+        color_body_offsets,
+        color_bodies,
+        constraint_body_positions,
+    )
 }

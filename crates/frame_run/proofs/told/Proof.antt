@@ -1,21 +1,15 @@
 use borrow.Author.Tests.{eq-eqb, ne-eqb}
 use mathlib.Core.Path.{refl, sym}
-use native.Mathlib.Omega.{arith}
 use borrow.Author.Needs.{needs}
 use Rattle.frame_run.proofs.told.Statement.{statement}
 use Rattle.frame_run.proofs.told.Tie as tie
-use Rattle.frame_run.proofs.told.Reads as reads
-use Rattle.frame_run.proofs.told.Lts as lts
 
--- src/lib.rt:28:9
 returns : tie.Need-returns
 returns c = record { refusal = refl; report = rw (ne-eqb _ _ (c .if1 .taken)) }
 
--- src/lib.rt:31:18
 cast-t4 : tie.Need-cast-t4
 cast-t4 c = search needs
 
--- src/lib.rt:24:1
 returns-2 : tie.Need-returns-2
 returns-2 c = record { refusal = sym (c .before .before .if1 .left); report = rw (eq-eqb _ _ (c .before .before .if1 .left)) }
 

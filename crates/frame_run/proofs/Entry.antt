@@ -1,0 +1,257 @@
+-- What the entry adds to a run on tables of the frame's sizes: the first of questions 1 to 6 that gets a "no" is the run's refusal and
+-- changes nothing; otherwise the tables have room, and the run's answer is that of the tables cut to size.
+use Prim.Native.Nat.{ℕ, _+_, _*_, _≤_}
+use mathlib.Core.Path.{_≡_, refl, sym, _∙_}
+use mathlib.Core.Bool.{Bool, true, false, _&&_, cond}
+use mathlib.Core.List.{List, [], _∷_}
+use native.Mathlib.Omega.{arith}
+use lib.Dec.{leb, eqb}
+use lib.ListN.{length}
+use borrow.Author.Tests.{leb-true, eqb-true, eqb-false, ne-eqb}
+use Rattle.lists.specs.Basics.{all}
+use Rattle.lists.proofs.Laws.{by-cases, and-left, and-right}
+use Rattle.frame.specs.Frames.{allSound}
+use Rattle.frame.specs.Questions.{Question, question, asked}
+use Rattle.frame.specs.Files.{countB, countM, countJ, decode, fileQuestions}
+use Rattle.frame.specs.declared.Reading.{Reading}
+use Rattle.frame.specs.Answers.{readSizes, sizesOf, Read}
+use Rattle.frame.proofs.Questions.{asked-append}
+use Rattle.island.specs.Calls.{labelsAfter, Built}
+use Rattle.constraint_coloring.specs.Plans as plans
+use Rattle.constraint_coloring.proofs.Accepted.{Fitted, fitted, fitted-all}
+use Rattle.schedules.specs.Runs.{refused, runRefusal, runOf}
+use Rattle.island_run.proofs.Rooms.{SameLengths}
+use Rattle.frame_tables.specs.Filled.{soundness}
+use Rattle.frame_tables.proofs.Decoding.{file-sized}
+use Rattle.frame_run.specs.declared.Answer.{Answer}
+use Rattle.frame_run.specs.declared.Answer.the-variants as answer
+use Rattle.frame_run.specs.Calls.{Lent, roomFor, roomIn, Worked, Ran}
+use Rattle.frame_run.specs.Sized.{Spacious, RanSized}
+
+-- ---- refusals 1 to 6
+
+-- a refusal is the number of one of the questions
+asked-most : (n : ℕ) (qs : List Question) → all (λ q. leb (q .number) n) qs ≡ true → asked qs ≤ n
+asked-most n [] h = omega arith
+asked-most n (q ∷ qs) h = by-cases (q .yes)
+    (λ t. rw t (asked-most n qs (and-right (leb (q .number) n) (all (λ x. leb (x .number) n) qs) h)))
+    (λ t. rw t (leb-true (q .number) n (and-left (leb (q .number) n) (all (λ x. leb (x .number) n) qs) h)))
+
+-- the workspace keeps its lengths
+pub record Worn (l m : Lent) : Type 0 where
+  pub types : length (m .types) ≡ length (l .types)
+  pub flags : length (m .flags) ≡ length (l .flags)
+  pub pairs : length (m .pairs) ≡ length (l .pairs)
+  pub island-pairs : length (m .island-pairs) ≡ length (l .island-pairs)
+  pub enabled : length (m .enabled) ≡ length (l .enabled)
+  pub numbers : length (m .numbers) ≡ length (l .numbers)
+  pub plan : SameLengths (l .plan) (m .plan)
+
+module _ (bs : List ℕ) (l : Lent) where
+  abbrev k : ℕ
+  k = runRefusal bs (roomIn bs l)
+
+  -- questions 6 and 7 come after those of the file
+  all-asked : k ≡ cond (eqb (asked (fileQuestions bs)) 0) (cond (roomIn bs l) (soundness bs) 6) (asked (fileQuestions bs))
+  unfolding runRefusal soundness
+  all-asked = asked-append (fileQuestions bs) (question 6 (roomIn bs l) ∷ question 7 (allSound (decode bs)) ∷ []) refl
+
+  kept : (x : List ℕ) → Worked k x x
+  kept x = record { kept = λ a b. refl; long = refl }
+
+  module _ (n : ℕ) (e : k ≡ n) (nz : n ≡ 0 → ⊥) (ns : n ≡ 7 → ⊥) where
+    none-run : runOf bs (roomIn bs l) ≡ refused n
+    unfolding runOf
+    none-run = rw (e, ne-eqb n 0 nz)
+
+    labels-kept : (new old : List ℕ) → old ≡ labelsAfter k new old
+    unfolding labelsAfter
+    labels-kept new old = rw (e, ne-eqb n 0 nz, ne-eqb n 7 ns)
+
+    islands-kept : Built (decode bs) k (l .parents) (l .body-islands) (l .manifold-islands) (l .joint-islands) (l .parents) (l .body-islands) (l .manifold-islands) (l .joint-islands) n 0
+    islands-kept = record {
+      refusal = sym e;
+      count = rw (e, ne-eqb n 0 nz);
+      body-labels = labels-kept _ _;
+      manifold-labels = labels-kept _ _;
+      joint-labels = labels-kept _ _;
+      parents = λ z. absurd (nz (sym e ∙ z));
+      beyond = refl;
+      alone = λ z. absurd (ns (sym e ∙ z));
+      kept = λ a b. refl;
+    }
+
+    -- nothing is changed
+    pub refused-ran : Ran bs k l l (answer.Refused n)
+    refused-ran = record {
+      refusal = sym e;
+      report = rw none-run;
+      turns = rw none-run;
+      islands = islands-kept;
+      types = kept _;
+      flags = kept _;
+      pairs = kept _;
+      island-pairs = kept _;
+      enabled = kept _;
+      numbers = kept _;
+      dynamic-bodies = kept _;
+      endpoints = kept _;
+      body-offsets = kept _;
+      body-constraints = kept _;
+      scratch-offsets = kept _;
+      constraint-colors = kept _;
+      color-stamps = kept _;
+      body-stamps = kept _;
+      color-offsets = kept _;
+      colored-constraints = kept _;
+      color-body-offsets = kept _;
+      color-bodies = kept _;
+      constraint-body-positions = kept _;
+    }
+
+  -- the code's refusal: that of the file, or 6
+  module _ (read n : ℕ) (room : Bool) (file : read ≡ asked (fileQuestions bs)) (roomed : asked (fileQuestions bs) ≡ 0 → room ≡ roomIn bs l)
+      (first : n ≡ cond (eqb read 0) (cond room 0 6) read) where
+    -- where it is 0, questions 1 to 6 are passed
+    pub file-passed : n ≡ 0 → asked (fileQuestions bs) ≡ 0
+    file-passed z = by-cases (eqb read 0)
+        (λ t. sym file ∙ eqb-true read 0 t)
+        (λ t.
+        let y : n ≡ read = first ∙ rw t in
+        absurd (eqb-false read 0 t (sym y ∙ z)))
+
+    pub room-passed : n ≡ 0 → roomIn bs l ≡ true
+    room-passed z =
+        let q = file-passed z in
+        let r : read ≡ 0 = file ∙ q in by-cases room
+        (λ t. sym (roomed q) ∙ t)
+        (λ t.
+        let y : n ≡ 6 = first ∙ rw (r, t) in
+        absurd (omega (arith, y, z)))
+
+    -- otherwise it is the run's
+    roomless : (n ≡ 0 → ⊥) → eqb read 0 ≡ true → n ≡ 6
+    roomless nz t = by-cases room
+        (λ s. absurd (nz (first ∙ rw (t, s))))
+        (λ s. first ∙ rw (t, s))
+
+    unreadable : eqb read 0 ≡ false → n ≡ asked (fileQuestions bs)
+    unreadable t = let y : n ≡ read = first ∙ rw t in y ∙ file
+
+    refusal-is : (n ≡ 0 → ⊥) → k ≡ n
+    refusal-is nz = by-cases (eqb read 0)
+        (λ t.
+        let q : asked (fileQuestions bs) ≡ 0 = sym file ∙ eqb-true read 0 t in
+        let six = roomless nz t in
+        let no : roomIn bs l ≡ false = by-cases (roomIn bs l) (λ s. absurd (nz (first ∙ rw (t, roomed q ∙ s)))) (λ s. s) in
+        all-asked ∙ rw (q, no) (sym six))
+        (λ t.
+        let y = unreadable t in
+        all-asked ∙ rw (ne-eqb (asked (fileQuestions bs)) 0 (λ z. nz (y ∙ z))) (sym y))
+
+    not-seven : (n ≡ 0 → ⊥) → n ≡ 7 → ⊥
+    not-seven nz s = by-cases (eqb read 0)
+        (λ t. omega (arith, s, roomless nz t))
+        (λ t. omega (arith, s, unreadable t, asked-most 5 (fileQuestions bs) refl))
+
+    pub stopped : (n ≡ 0 → ⊥) → Ran bs k l l (answer.Refused n)
+    stopped nz = refused-ran n (refusal-is nz) nz (not-seven nz)
+
+  -- ---- questions 1 to 6 are passed
+
+  module _ (q : asked (fileQuestions bs) ≡ 0) (r : roomIn bs l ≡ true) where
+    seven-left : k ≡ soundness bs
+    seven-left = all-asked ∙ rw (q, r)
+
+    -- the lengths that question 6 wants, but for the plan's tables
+    abbrev wanted : List (ℕ × ℕ)
+    wanted =
+        (countB bs, length (l .parents)) ∷ (countB bs, length (l .body-islands)) ∷ (countM bs, length (l .manifold-islands)) ∷ (countJ bs, length (l .joint-islands))
+        ∷ (3 * (countM bs + countJ bs), length (l .turns)) ∷ (countB bs, length (l .types)) ∷ (countB bs, length (l .flags))
+        ∷ (2 * (countM bs + countJ bs), length (l .pairs)) ∷ (2 * (countM bs + countJ bs), length (l .island-pairs)) ∷ (countJ bs, length (l .enabled)) ∷ (countM bs + countJ bs, length (l .numbers)) ∷ []
+
+    pub wanted-fit : Fitted wanted
+    unfolding roomIn roomFor
+    wanted-fit = fitted-all true wanted (and-left (fitted true wanted) (plans.roomy (countB bs) (countM bs + countJ bs) (l .plan)) r) .1
+
+    plan-fits : plans.roomy (countB bs) (countM bs + countJ bs) (l .plan) ≡ true
+    unfolding roomIn roomFor
+    plan-fits = and-right (fitted true wanted) (plans.roomy (countB bs) (countM bs + countJ bs) (l .plan)) r
+
+    pub spacious : (ns : List ℕ) → length ns ≡ countM bs + countJ bs → Spacious bs (l .parents) (l .body-islands) (l .manifold-islands) (l .joint-islands) (l .turns) (l .island-pairs) ns (l .plan)
+    spacious ns e =
+        let w = wanted-fit in
+        record {
+          parents = w .0;
+          body-islands = w .1 .0;
+          manifold-islands = w .1 .1 .0;
+          joint-islands = w .1 .1 .1 .0;
+          turns = w .1 .1 .1 .1 .0;
+          island-pairs = w .1 .1 .1 .1 .1 .1 .1 .1 .0;
+          numbers = e;
+          tables = plan-fits;
+        }
+
+    -- the workspace is free but for its lengths
+    seven-or-none : (k ≡ 0 → ⊥) → (k ≡ 7 → ⊥) → ⊥
+    unfolding soundness
+    seven-or-none a b = by-cases (allSound (decode bs))
+        (λ t. a (seven-left ∙ rw t))
+        (λ t. b (seven-left ∙ rw t))
+
+    worked : (x y : List ℕ) → length y ≡ length x → Worked k x y
+    worked x y e = record { kept = λ a b. absurd (seven-or-none a b); long = e }
+
+    pub sized-ran : (m : Lent) (a : Answer) → RanSized bs (l .parents) (l .body-islands) (l .manifold-islands) (l .joint-islands) (l .turns) (m .parents) (m .body-islands) (m .manifold-islands) (m .joint-islands) (m .turns) a → Worn l m → Ran bs k l m a
+    sized-ran m a h s = record {
+      refusal = h .refusal ∙ sym seven-left;
+      report = rw r (h .report);
+      turns = rw r (h .turns);
+      islands = rw seven-left (h .islands);
+      types = worked _ _ (s .types);
+      flags = worked _ _ (s .flags);
+      pairs = worked _ _ (s .pairs);
+      island-pairs = worked _ _ (s .island-pairs);
+      enabled = worked _ _ (s .enabled);
+      numbers = worked _ _ (s .numbers);
+      dynamic-bodies = worked _ _ (s .plan .dynamic-bodies);
+      endpoints = worked _ _ (s .plan .endpoints);
+      body-offsets = worked _ _ (s .plan .body-offsets);
+      body-constraints = worked _ _ (s .plan .body-constraints);
+      scratch-offsets = worked _ _ (s .plan .scratch-offsets);
+      constraint-colors = worked _ _ (s .plan .constraint-colors);
+      color-stamps = worked _ _ (s .plan .color-stamps);
+      body-stamps = worked _ _ (s .plan .body-stamps);
+      color-offsets = worked _ _ (s .plan .color-offsets);
+      colored-constraints = worked _ _ (s .plan .colored-constraints);
+      color-body-offsets = worked _ _ (s .plan .color-body-offsets);
+      color-bodies = worked _ _ (s .plan .color-bodies);
+      constraint-body-positions = worked _ _ (s .plan .constraint-body-positions);
+    }
+
+-- ---- sizes and room, as the code finds them
+
+module _ (bs : List ℕ) (reading : Reading) (h : Read bs reading) where
+  -- no size is above 4,096, read or refused
+  pub few-constraints : (readSizes reading .manifolds ≤ 4096) × (readSizes reading .joints ≤ 4096)
+  few-constraints = rw (h .sizes) (by-cases (eqb (asked (fileQuestions bs)) 0)
+      (λ t.
+      let s = file-sized bs (eqb-true _ 0 t) in
+      rw t (s .manifolds, s .joints))
+      (λ t. rw t (omega arith, omega arith)))
+
+  module _ (q : asked (fileQuestions bs) ≡ 0) where
+    pub sizes-read : readSizes reading ≡ sizesOf bs
+    sizes-read = h .sizes ∙ rw q
+
+    -- question 6 of the sizes that were read
+    pub room-read : (l : Lent) (b m j : ℕ) (plan room : Bool) → b ≡ readSizes reading .bodies → m ≡ readSizes reading .manifolds → j ≡ readSizes reading .joints
+        → plan ≡ plans.roomy b (m + j) (l .plan)
+        → room ≡ (leb b (length (l .parents)) && leb b (length (l .body-islands)) && leb m (length (l .manifold-islands)) && leb j (length (l .joint-islands))
+        && leb (3 * (m + j)) (length (l .turns)) && leb b (length (l .types)) && leb b (length (l .flags))
+        && leb (2 * (m + j)) (length (l .pairs)) && leb (2 * (m + j)) (length (l .island-pairs)) && leb j (length (l .enabled)) && leb (m + j) (length (l .numbers)) && plan)
+        → room ≡ roomIn bs l
+    unfolding roomIn roomFor
+    room-read l b m j plan room eb em ej ep er =
+        let s = sizes-read in
+        er ∙ rw (ep, eb, em, ej, s)

@@ -1,0 +1,263 @@
+-- The entry's questions are those of the definition, and its tables are cut to the sizes that were read.
+use Prim.Native.Nat.{ℕ, _+_, _*_, _≤_}
+use mathlib.Core.Path.{_≡_, sym, ap, _∙_}
+use mathlib.Core.Bool.{true}
+use mathlib.Core.List.{List}
+use native.Mathlib.Omega.{arith}
+use borrow.Author.Needs.{needs}
+use lib.Seq.{length-take-le}
+use Rattle.frame.specs.declared.Frame.{Frame}
+use Rattle.frame.specs.Questions.{asked}
+use Rattle.frame.specs.Files.{countB, countM, countJ, fileQuestions}
+use Rattle.frame.specs.Answers.{readSizes, sizesOf, Read}
+use Rattle.constraint_coloring.specs.Plans.{roomy}
+use Rattle.island_numbers.proofs.Scans.{front-back}
+use Rattle.frame_run.specs.Calls.{Lent, roomIn}
+use Rattle.frame_run.proofs.Entry.{few-constraints, sizes-read, room-read, file-passed, room-passed, stopped, wanted-fit, spacious, sized-ran}
+use Rattle.frame_run.proofs.run.Statement.{statement}
+use Rattle.frame_run.proofs.run.Tie as tie
+
+-- the tables as they come
+abbrev lent : tie.Start → Lent
+lent s = record { parents = s .args .parents .now; body-islands = s .args .body-islands .now; manifold-islands = s .args .manifold-islands .now; joint-islands = s .args .joint-islands .now; turns = s .args .turns .now; types = s .args .types .now; flags = s .args .flags .now; pairs = s .args .pairs .now; island-pairs = s .args .island-pairs .now; enabled = s .args .enabled .now; numbers = s .args .numbers .now; plan = record { dynamic-bodies = s .args .dynamic-bodies .now; endpoints = s .args .endpoints .now; body-offsets = s .args .body-offsets .now; body-constraints = s .args .body-constraints .now; scratch-offsets = s .args .scratch-offsets .now; constraint-colors = s .args .constraint-colors .now; color-stamps = s .args .color-stamps .now; body-stamps = s .args .body-stamps .now; color-offsets = s .args .color-offsets .now; colored-constraints = s .args .colored-constraints .now; color-body-offsets = s .args .color-body-offsets .now; color-bodies = s .args .color-bodies .now; constraint-body-positions = s .args .constraint-body-positions .now } }
+
+-- the start, and the sizes that were read
+abbrev start : tie.After-first-refusal → tie.Start
+start w = w .before .before .before .before .before .before .before .before .before .before .before .before .before .before .before .before .before .before .before .before .before .before .before .before .before .before .before .before .before .before .before
+
+abbrev bytes : tie.After-first-refusal → List ℕ
+bytes w = start w .args .frame .now
+
+was-read : (w : tie.After-first-refusal) → Read (bytes w) (w .before .before .before .before .before .read .result)
+was-read w = w .before .before .before .before .before .read .ensures
+
+sizes : (w : tie.After-first-refusal) → w .before .before .before .before .sizes-of .result ≡ readSizes (w .before .before .before .before .before .read .result)
+sizes w = w .before .before .before .before .sizes-of .ensures
+
+roomed : (w : tie.After-first-refusal) → asked (fileQuestions (bytes w)) ≡ 0 → w .before .before .room-for .result ≡ roomIn (bytes w) (lent (start w))
+unfolding roomy
+roomed w q = room-read (bytes w) _ (was-read w) q (lent (start w)) _ _ _ (w .before .before .before .roomy .result) _
+    (ap (λ (f : Frame). f .bodies) (sizes w)) (ap (λ (f : Frame). f .manifolds) (sizes w)) (ap (λ (f : Frame). f .joints) (sizes w))
+    (w .before .before .before .roomy .ensures) (w .before .before .room-for .ensures)
+
+file : (w : tie.After-first-refusal) → w .before .number-of .result ≡ asked (fileQuestions (bytes w))
+file w = w .before .number-of .ensures ∙ was-read w .refusal
+
+-- ---- questions 1 to 6 are passed
+
+module _ (w : tie.After-first-refusal) (z : w .first-refusal .result ≡ 0) where
+  passed : asked (fileQuestions (bytes w)) ≡ 0
+  passed = file-passed (bytes w) (lent (start w)) _ _ _ (file w) (roomed w) (w .first-refusal .ensures) z
+
+  room : roomIn (bytes w) (lent (start w)) ≡ true
+  room = room-passed (bytes w) (lent (start w)) _ _ _ (file w) (roomed w) (w .first-refusal .ensures) z
+
+  all-sizes : w .before .before .before .before .sizes-of .result ≡ sizesOf (bytes w)
+  all-sizes = sizes w ∙ sizes-read (bytes w) _ (was-read w) passed
+
+  bodies-are : w .before .before .before .before .sizes-of .result .bodies ≡ countB (bytes w)
+  bodies-are = ap (λ (f : Frame). f .bodies) all-sizes
+
+  manifolds-are : w .before .before .before .before .sizes-of .result .manifolds ≡ countM (bytes w)
+  manifolds-are = ap (λ (f : Frame). f .manifolds) all-sizes
+
+  joints-are : w .before .before .before .before .sizes-of .result .joints ≡ countJ (bytes w)
+  joints-are = ap (λ (f : Frame). f .joints) all-sizes
+
+read-requires : tie.Need-read-requires
+read-requires c κs = search needs
+
+sizes-of-requires : tie.Need-sizes-of-requires
+sizes-of-requires c κs = search needs
+
+few : (w : tie.After-sizes-of) → (w .sizes-of .result .manifolds ≤ 4096) × (w .sizes-of .result .joints ≤ 4096)
+few w = rw (w .sizes-of .ensures) (few-constraints _ _ (w .before .read .ensures))
+
+add-constraints : tie.Need-add-constraints
+add-constraints c = omega (arith, few c .0, few c .1)
+
+roomy-requires : tie.Need-roomy-requires
+roomy-requires c κs = search needs
+
+room-for-requires : tie.Need-room-for-requires
+room-for-requires c κs = few (c .before)
+
+number-of-requires : tie.Need-number-of-requires
+number-of-requires c κs = search needs
+
+first-refusal-requires : tie.Need-first-refusal-requires
+first-refusal-requires c κs = search needs
+
+returns : tie.Need-returns
+returns c = let w = c .before in stopped (bytes w) (lent (start w)) _ _ _ (file w) (roomed w) (w .first-refusal .ensures) (c .if1 .taken)
+
+slice-relend-prefix-run-sized : tie.Need-slice-relend-prefix-run-sized
+slice-relend-prefix-run-sized c = let w = c .before .before .before .before .before .before in let z = c .before .before .before .before .before .if1 .left in omega (arith, wanted-fit (bytes w) (lent (start w)) (passed w z) (room w z) .1 .1 .1 .1 .1 .0, bodies-are w z)
+
+slice-aggregate-run-sized : tie.Need-slice-aggregate-run-sized
+slice-aggregate-run-sized c = let w = c .before .before .before .before .before .before .before in let z = c .before .before .before .before .before .before .if1 .left in sym (length-take-le (w .before .before .before .before .sizes-of .result .bodies) (start w .args .types .now) (omega (arith, wanted-fit (bytes w) (lent (start w)) (passed w z) (room w z) .1 .1 .1 .1 .1 .0, bodies-are w z)))
+
+slice-relend-prefix-run-sized-2 : tie.Need-slice-relend-prefix-run-sized-2
+slice-relend-prefix-run-sized-2 c = let w = c .before .before .before .before .before .before .before in let z = c .before .before .before .before .before .before .if1 .left in omega (arith, wanted-fit (bytes w) (lent (start w)) (passed w z) (room w z) .1 .1 .1 .1 .1 .1 .0, bodies-are w z)
+
+slice-aggregate-run-sized-2 : tie.Need-slice-aggregate-run-sized-2
+slice-aggregate-run-sized-2 c = let w = c .before .before .before .before .before .before .before .before in let z = c .before .before .before .before .before .before .before .if1 .left in sym (length-take-le (w .before .before .before .before .sizes-of .result .bodies) (start w .args .flags .now) (omega (arith, wanted-fit (bytes w) (lent (start w)) (passed w z) (room w z) .1 .1 .1 .1 .1 .1 .0, bodies-are w z)))
+
+mul-run-sized : tie.Need-mul-run-sized
+mul-run-sized c = let w = c .before .before .before .before .before .before .before .before in let z = c .before .before .before .before .before .before .before .if1 .left in omega (arith, manifolds-are w z, joints-are w z, few (w .before .before .before .before) .0, few (w .before .before .before .before) .1)
+
+slice-relend-prefix-run-sized-3 : tie.Need-slice-relend-prefix-run-sized-3
+slice-relend-prefix-run-sized-3 c = let w = c .before .before .before .before .before .before .before .before in let z = c .before .before .before .before .before .before .before .if1 .left in omega (arith, wanted-fit (bytes w) (lent (start w)) (passed w z) (room w z) .1 .1 .1 .1 .1 .1 .1 .0, manifolds-are w z, joints-are w z)
+
+slice-aggregate-run-sized-3 : tie.Need-slice-aggregate-run-sized-3
+slice-aggregate-run-sized-3 c = let w = c .before .before .before .before .before .before .before .before .before in let z = c .before .before .before .before .before .before .before .before .if1 .left in sym (length-take-le (2 * (w .before .before .before .before .sizes-of .result .manifolds + w .before .before .before .before .sizes-of .result .joints)) (start w .args .pairs .now) (omega (arith, wanted-fit (bytes w) (lent (start w)) (passed w z) (room w z) .1 .1 .1 .1 .1 .1 .1 .0, manifolds-are w z, joints-are w z)))
+
+slice-relend-prefix-run-sized-4 : tie.Need-slice-relend-prefix-run-sized-4
+slice-relend-prefix-run-sized-4 c = let w = c .before .before .before .before .before .before .before .before .before .before in let z = c .before .before .before .before .before .before .before .before .before .if1 .left in omega (arith, wanted-fit (bytes w) (lent (start w)) (passed w z) (room w z) .1 .1 .1 .1 .1 .1 .1 .1 .1 .0, joints-are w z)
+
+slice-aggregate-run-sized-4 : tie.Need-slice-aggregate-run-sized-4
+slice-aggregate-run-sized-4 c = let w = c .before .before .before .before .before .before .before .before .before .before .before in let z = c .before .before .before .before .before .before .before .before .before .before .if1 .left in sym (length-take-le (w .before .before .before .before .sizes-of .result .joints) (start w .args .enabled .now) (omega (arith, wanted-fit (bytes w) (lent (start w)) (passed w z) (room w z) .1 .1 .1 .1 .1 .1 .1 .1 .1 .0, joints-are w z)))
+
+slice-relend-prefix-run-sized-5 : tie.Need-slice-relend-prefix-run-sized-5
+slice-relend-prefix-run-sized-5 c = let w = c .before .before .before .before .before .before .before .before .before .before .before in let z = c .before .before .before .before .before .before .before .before .before .before .if1 .left in omega (arith, wanted-fit (bytes w) (lent (start w)) (passed w z) (room w z) .1 .1 .1 .1 .1 .1 .1 .1 .1 .1 .0, manifolds-are w z, joints-are w z)
+
+slice-aggregate-run-sized-5 : tie.Need-slice-aggregate-run-sized-5
+slice-aggregate-run-sized-5 c = let w = c .before .before .before .before .before .before .before .before .before .before .before .before in let z = c .before .before .before .before .before .before .before .before .before .before .before .if1 .left in sym (length-take-le (w .before .before .before .before .sizes-of .result .manifolds + w .before .before .before .before .sizes-of .result .joints) (start w .args .numbers .now) (omega (arith, wanted-fit (bytes w) (lent (start w)) (passed w z) (room w z) .1 .1 .1 .1 .1 .1 .1 .1 .1 .1 .0, manifolds-are w z, joints-are w z)))
+
+run-sized-requires : tie.Need-run-sized-requires
+run-sized-requires c κs = let w = c .before .before .before .before .before .before .before .before .before .before .before .before .before .before .before .before .before .before .before .before .before .before .before .before .before in let z = c .before .before .before .before .before .before .before .before .before .before .before .before .before .before .before .before .before .before .before .before .before .before .before .before .if1 .left in (
+  record {
+    file = passed w z;
+    manifolds = manifolds-are w z;
+    types = length-take-le (w .before .before .before .before .sizes-of .result .bodies) (start w .args .types .now) (omega (arith, wanted-fit (bytes w) (lent (start w)) (passed w z) (room w z) .1 .1 .1 .1 .1 .0, bodies-are w z)) ∙ bodies-are w z;
+    flags = length-take-le (w .before .before .before .before .sizes-of .result .bodies) (start w .args .flags .now) (omega (arith, wanted-fit (bytes w) (lent (start w)) (passed w z) (room w z) .1 .1 .1 .1 .1 .1 .0, bodies-are w z)) ∙ bodies-are w z;
+    pairs = length-take-le (2 * (w .before .before .before .before .sizes-of .result .manifolds + w .before .before .before .before .sizes-of .result .joints)) (start w .args .pairs .now) (omega (arith, wanted-fit (bytes w) (lent (start w)) (passed w z) (room w z) .1 .1 .1 .1 .1 .1 .1 .0, manifolds-are w z, joints-are w z)) ∙ omega (arith, manifolds-are w z, joints-are w z);
+    enabled = length-take-le (w .before .before .before .before .sizes-of .result .joints) (start w .args .enabled .now) (omega (arith, wanted-fit (bytes w) (lent (start w)) (passed w z) (room w z) .1 .1 .1 .1 .1 .1 .1 .1 .1 .0, joints-are w z)) ∙ joints-are w z;
+  },
+  spacious (bytes w) (lent (start w)) (passed w z) (room w z) _ (length-take-le (w .before .before .before .before .sizes-of .result .manifolds + w .before .before .before .before .sizes-of .result .joints) (start w .args .numbers .now) (omega (arith, wanted-fit (bytes w) (lent (start w)) (passed w z) (room w z) .1 .1 .1 .1 .1 .1 .1 .1 .1 .1 .0, manifolds-are w z, joints-are w z)) ∙ omega (arith, manifolds-are w z, joints-are w z)),
+)
+
+same-length : tie.Need-same-length
+same-length c = c .before .before .before .before .before .before .before .before .before .before .before .before .before .before .before .before .before .before .before .before .before .before .before .before .before .before .before .before .before .before .before .before .before .before .before .before .before .before .before .before .before .before .before .before .before .before .before .before .run-sized .kept .1 .1 .0
+
+same-length-2 : tie.Need-same-length-2
+same-length-2 c = c .before .before .before .before .before .before .before .before .before .before .before .before .before .before .before .before .before .before .before .before .before .before .before .before .before .before .before .before .before .before .before .before .before .before .before .before .before .before .before .before .before .before .before .before .before .before .before .before .run-sized .kept .1 .1 .1 .0
+
+same-length-3 : tie.Need-same-length-3
+same-length-3 c = c .before .before .before .before .before .before .before .before .before .before .before .before .before .before .before .before .before .before .before .before .before .before .before .before .before .before .before .before .before .before .before .before .before .before .before .before .before .before .before .before .before .before .before .before .before .before .before .before .run-sized .kept .1 .1 .1 .1 .0
+
+same-length-4 : tie.Need-same-length-4
+same-length-4 c = c .before .before .before .before .before .before .before .before .before .before .before .before .before .before .before .before .before .before .before .before .before .before .before .before .before .before .before .before .before .before .before .before .before .before .before .before .before .before .before .before .before .before .before .before .before .before .before .before .run-sized .kept .1 .1 .1 .1 .1 .0
+
+same-length-5 : tie.Need-same-length-5
+same-length-5 c = c .before .before .before .before .before .before .before .before .before .before .before .before .before .before .before .before .before .before .before .before .before .before .before .before .before .before .before .before .before .before .before .before .before .before .before .before .before .before .before .before .before .before .before .before .before .before .before .before .run-sized .kept .1 .1 .1 .1 .1 .1 .0
+
+same-length-6 : tie.Need-same-length-6
+same-length-6 c = let w = c .before .before .before .before .before .before .before .before .before .before .before .before .before .before .before .before .before .before .before .before .before .before .before .before .before .before .before .before .before .before .before .before .before .before .before .before .before .before .before .before .before .before .before .before .before .before .before .before .before .before .before .before .before .before .before .before .before .before .before .before .before .before .before .before .before .before .before .before .before .before .before .before .before .before in let z = c .before .before .before .before .before .before .before .before .before .before .before .before .before .before .before .before .before .before .before .before .before .before .before .before .before .before .before .before .before .before .before .before .before .before .before .before .before .before .before .before .before .before .before .before .before .before .before .before .before .before .before .before .before .before .before .before .before .before .before .before .before .before .before .before .before .before .before .before .before .before .before .before .before .if1 .left in front-back (w .before .before .before .before .sizes-of .result .bodies) (c .before .before .before .before .before .before .before .before .before .before .before .before .before .before .before .before .before .before .before .before .before .before .before .before .before .before .before .before .before .before .before .before .before .before .before .before .before .before .before .before .before .before .before .before .before .before .before .before .run-sized .last .1 .1 .1 .1 .1 .1 .1 .0) (start w .args .types .now) (c .before .before .before .before .before .before .before .before .before .before .before .before .before .before .before .before .before .before .before .before .before .before .before .before .before .before .before .before .before .before .before .before .before .before .before .before .before .before .before .before .before .before .before .before .before .before .before .before .run-sized .kept .1 .1 .1 .1 .1 .1 .1 .0)
+
+same-length-7 : tie.Need-same-length-7
+same-length-7 c = let w = c .before .before .before .before .before .before .before .before .before .before .before .before .before .before .before .before .before .before .before .before .before .before .before .before .before .before .before .before .before .before .before .before .before .before .before .before .before .before .before .before .before .before .before .before .before .before .before .before .before .before .before .before .before .before .before .before .before .before .before .before .before .before .before .before .before .before .before .before .before .before .before .before .before .before in let z = c .before .before .before .before .before .before .before .before .before .before .before .before .before .before .before .before .before .before .before .before .before .before .before .before .before .before .before .before .before .before .before .before .before .before .before .before .before .before .before .before .before .before .before .before .before .before .before .before .before .before .before .before .before .before .before .before .before .before .before .before .before .before .before .before .before .before .before .before .before .before .before .before .before .if1 .left in front-back (w .before .before .before .before .sizes-of .result .bodies) (c .before .before .before .before .before .before .before .before .before .before .before .before .before .before .before .before .before .before .before .before .before .before .before .before .before .before .before .before .before .before .before .before .before .before .before .before .before .before .before .before .before .before .before .before .before .before .before .before .run-sized .last .1 .1 .1 .1 .1 .1 .1 .1 .0) (start w .args .flags .now) (c .before .before .before .before .before .before .before .before .before .before .before .before .before .before .before .before .before .before .before .before .before .before .before .before .before .before .before .before .before .before .before .before .before .before .before .before .before .before .before .before .before .before .before .before .before .before .before .before .run-sized .kept .1 .1 .1 .1 .1 .1 .1 .1 .0)
+
+same-length-8 : tie.Need-same-length-8
+same-length-8 c = let w = c .before .before .before .before .before .before .before .before .before .before .before .before .before .before .before .before .before .before .before .before .before .before .before .before .before .before .before .before .before .before .before .before .before .before .before .before .before .before .before .before .before .before .before .before .before .before .before .before .before .before .before .before .before .before .before .before .before .before .before .before .before .before .before .before .before .before .before .before .before .before .before .before .before .before in let z = c .before .before .before .before .before .before .before .before .before .before .before .before .before .before .before .before .before .before .before .before .before .before .before .before .before .before .before .before .before .before .before .before .before .before .before .before .before .before .before .before .before .before .before .before .before .before .before .before .before .before .before .before .before .before .before .before .before .before .before .before .before .before .before .before .before .before .before .before .before .before .before .before .before .if1 .left in front-back (2 * (w .before .before .before .before .sizes-of .result .manifolds + w .before .before .before .before .sizes-of .result .joints)) (c .before .before .before .before .before .before .before .before .before .before .before .before .before .before .before .before .before .before .before .before .before .before .before .before .before .before .before .before .before .before .before .before .before .before .before .before .before .before .before .before .before .before .before .before .before .before .before .before .run-sized .last .1 .1 .1 .1 .1 .1 .1 .1 .1 .0) (start w .args .pairs .now) (c .before .before .before .before .before .before .before .before .before .before .before .before .before .before .before .before .before .before .before .before .before .before .before .before .before .before .before .before .before .before .before .before .before .before .before .before .before .before .before .before .before .before .before .before .before .before .before .before .run-sized .kept .1 .1 .1 .1 .1 .1 .1 .1 .1 .0)
+
+same-length-9 : tie.Need-same-length-9
+same-length-9 c = c .before .before .before .before .before .before .before .before .before .before .before .before .before .before .before .before .before .before .before .before .before .before .before .before .before .before .before .before .before .before .before .before .before .before .before .before .before .before .before .before .before .before .before .before .before .before .before .before .run-sized .kept .1 .1 .1 .1 .1 .1 .1 .1 .1 .1 .0
+
+same-length-10 : tie.Need-same-length-10
+same-length-10 c = let w = c .before .before .before .before .before .before .before .before .before .before .before .before .before .before .before .before .before .before .before .before .before .before .before .before .before .before .before .before .before .before .before .before .before .before .before .before .before .before .before .before .before .before .before .before .before .before .before .before .before .before .before .before .before .before .before .before .before .before .before .before .before .before .before .before .before .before .before .before .before .before .before .before .before .before in let z = c .before .before .before .before .before .before .before .before .before .before .before .before .before .before .before .before .before .before .before .before .before .before .before .before .before .before .before .before .before .before .before .before .before .before .before .before .before .before .before .before .before .before .before .before .before .before .before .before .before .before .before .before .before .before .before .before .before .before .before .before .before .before .before .before .before .before .before .before .before .before .before .before .before .if1 .left in front-back (w .before .before .before .before .sizes-of .result .joints) (c .before .before .before .before .before .before .before .before .before .before .before .before .before .before .before .before .before .before .before .before .before .before .before .before .before .before .before .before .before .before .before .before .before .before .before .before .before .before .before .before .before .before .before .before .before .before .before .before .run-sized .last .1 .1 .1 .1 .1 .1 .1 .1 .1 .1 .1 .0) (start w .args .enabled .now) (c .before .before .before .before .before .before .before .before .before .before .before .before .before .before .before .before .before .before .before .before .before .before .before .before .before .before .before .before .before .before .before .before .before .before .before .before .before .before .before .before .before .before .before .before .before .before .before .before .run-sized .kept .1 .1 .1 .1 .1 .1 .1 .1 .1 .1 .1 .0)
+
+same-length-11 : tie.Need-same-length-11
+same-length-11 c = let w = c .before .before .before .before .before .before .before .before .before .before .before .before .before .before .before .before .before .before .before .before .before .before .before .before .before .before .before .before .before .before .before .before .before .before .before .before .before .before .before .before .before .before .before .before .before .before .before .before .before .before .before .before .before .before .before .before .before .before .before .before .before .before .before .before .before .before .before .before .before .before .before .before .before .before in let z = c .before .before .before .before .before .before .before .before .before .before .before .before .before .before .before .before .before .before .before .before .before .before .before .before .before .before .before .before .before .before .before .before .before .before .before .before .before .before .before .before .before .before .before .before .before .before .before .before .before .before .before .before .before .before .before .before .before .before .before .before .before .before .before .before .before .before .before .before .before .before .before .before .before .if1 .left in front-back (w .before .before .before .before .sizes-of .result .manifolds + w .before .before .before .before .sizes-of .result .joints) (c .before .before .before .before .before .before .before .before .before .before .before .before .before .before .before .before .before .before .before .before .before .before .before .before .before .before .before .before .before .before .before .before .before .before .before .before .before .before .before .before .before .before .before .before .before .before .before .before .run-sized .last .1 .1 .1 .1 .1 .1 .1 .1 .1 .1 .1 .1 .0) (start w .args .numbers .now) (c .before .before .before .before .before .before .before .before .before .before .before .before .before .before .before .before .before .before .before .before .before .before .before .before .before .before .before .before .before .before .before .before .before .before .before .before .before .before .before .before .before .before .before .before .before .before .before .before .run-sized .kept .1 .1 .1 .1 .1 .1 .1 .1 .1 .1 .1 .1 .0)
+
+same-length-12 : tie.Need-same-length-12
+same-length-12 c = c .before .before .before .before .before .before .before .before .before .before .before .before .before .before .before .before .before .before .before .before .before .before .before .before .before .before .before .before .before .before .before .before .before .before .before .before .before .before .before .before .before .before .before .before .before .before .before .before .run-sized .kept .1 .1 .1 .1 .1 .1 .1 .1 .1 .1 .1 .1 .1 .0
+
+same-length-13 : tie.Need-same-length-13
+same-length-13 c = c .before .before .before .before .before .before .before .before .before .before .before .before .before .before .before .before .before .before .before .before .before .before .before .before .before .before .before .before .before .before .before .before .before .before .before .before .before .before .before .before .before .before .before .before .before .before .before .before .run-sized .kept .1 .1 .1 .1 .1 .1 .1 .1 .1 .1 .1 .1 .1 .1 .0
+
+same-length-14 : tie.Need-same-length-14
+same-length-14 c = c .before .before .before .before .before .before .before .before .before .before .before .before .before .before .before .before .before .before .before .before .before .before .before .before .before .before .before .before .before .before .before .before .before .before .before .before .before .before .before .before .before .before .before .before .before .before .before .before .run-sized .kept .1 .1 .1 .1 .1 .1 .1 .1 .1 .1 .1 .1 .1 .1 .1 .0
+
+same-length-15 : tie.Need-same-length-15
+same-length-15 c = c .before .before .before .before .before .before .before .before .before .before .before .before .before .before .before .before .before .before .before .before .before .before .before .before .before .before .before .before .before .before .before .before .before .before .before .before .before .before .before .before .before .before .before .before .before .before .before .before .run-sized .kept .1 .1 .1 .1 .1 .1 .1 .1 .1 .1 .1 .1 .1 .1 .1 .1 .0
+
+same-length-16 : tie.Need-same-length-16
+same-length-16 c = c .before .before .before .before .before .before .before .before .before .before .before .before .before .before .before .before .before .before .before .before .before .before .before .before .before .before .before .before .before .before .before .before .before .before .before .before .before .before .before .before .before .before .before .before .before .before .before .before .run-sized .kept .1 .1 .1 .1 .1 .1 .1 .1 .1 .1 .1 .1 .1 .1 .1 .1 .1 .0
+
+same-length-17 : tie.Need-same-length-17
+same-length-17 c = c .before .before .before .before .before .before .before .before .before .before .before .before .before .before .before .before .before .before .before .before .before .before .before .before .before .before .before .before .before .before .before .before .before .before .before .before .before .before .before .before .before .before .before .before .before .before .before .before .run-sized .kept .1 .1 .1 .1 .1 .1 .1 .1 .1 .1 .1 .1 .1 .1 .1 .1 .1 .1 .0
+
+same-length-18 : tie.Need-same-length-18
+same-length-18 c = c .before .before .before .before .before .before .before .before .before .before .before .before .before .before .before .before .before .before .before .before .before .before .before .before .before .before .before .before .before .before .before .before .before .before .before .before .before .before .before .before .before .before .before .before .before .before .before .before .run-sized .kept .1 .1 .1 .1 .1 .1 .1 .1 .1 .1 .1 .1 .1 .1 .1 .1 .1 .1 .1 .0
+
+same-length-19 : tie.Need-same-length-19
+same-length-19 c = c .before .before .before .before .before .before .before .before .before .before .before .before .before .before .before .before .before .before .before .before .before .before .before .before .before .before .before .before .before .before .before .before .before .before .before .before .before .before .before .before .before .before .before .before .before .before .before .before .run-sized .kept .1 .1 .1 .1 .1 .1 .1 .1 .1 .1 .1 .1 .1 .1 .1 .1 .1 .1 .1 .1 .0
+
+same-length-20 : tie.Need-same-length-20
+same-length-20 c = c .before .before .before .before .before .before .before .before .before .before .before .before .before .before .before .before .before .before .before .before .before .before .before .before .before .before .before .before .before .before .before .before .before .before .before .before .before .before .before .before .before .before .before .before .before .before .before .before .run-sized .kept .1 .1 .1 .1 .1 .1 .1 .1 .1 .1 .1 .1 .1 .1 .1 .1 .1 .1 .1 .1 .1 .0
+
+same-length-21 : tie.Need-same-length-21
+same-length-21 c = c .before .before .before .before .before .before .before .before .before .before .before .before .before .before .before .before .before .before .before .before .before .before .before .before .before .before .before .before .before .before .before .before .before .before .before .before .before .before .before .before .before .before .before .before .before .before .before .before .run-sized .kept .1 .1 .1 .1 .1 .1 .1 .1 .1 .1 .1 .1 .1 .1 .1 .1 .1 .1 .1 .1 .1 .1 .0
+
+same-length-22 : tie.Need-same-length-22
+same-length-22 c = c .before .before .before .before .before .before .before .before .before .before .before .before .before .before .before .before .before .before .before .before .before .before .before .before .before .before .before .before .before .before .before .before .before .before .before .before .before .before .before .before .before .before .before .before .before .before .before .before .run-sized .kept .1 .1 .1 .1 .1 .1 .1 .1 .1 .1 .1 .1 .1 .1 .1 .1 .1 .1 .1 .1 .1 .1 .1 .0
+
+same-length-23 : tie.Need-same-length-23
+same-length-23 c = c .before .before .before .before .before .before .before .before .before .before .before .before .before .before .before .before .before .before .before .before .before .before .before .before .before .before .before .before .before .before .before .before .before .before .before .before .before .before .before .before .before .before .before .before .before .before .before .before .run-sized .kept .1 .1 .1 .1 .1 .1 .1 .1 .1 .1 .1 .1 .1 .1 .1 .1 .1 .1 .1 .1 .1 .1 .1 .1 .0
+
+same-length-24 : tie.Need-same-length-24
+same-length-24 c = c .before .before .before .before .before .before .before .before .before .before .before .before .before .before .before .before .before .before .before .before .before .before .before .before .before .before .before .before .before .before .before .before .before .before .before .before .before .before .before .before .before .before .before .before .before .before .before .before .run-sized .kept .1 .1 .1 .1 .1 .1 .1 .1 .1 .1 .1 .1 .1 .1 .1 .1 .1 .1 .1 .1 .1 .1 .1 .1 .1 .0
+
+returns-2 : tie.Need-returns-2
+returns-2 c = let w = c .before .before .before .before .before .before .before .before .before .before .before .before .before .before .before .before .before .before .before .before .before .before .before .before .before .before .before .before .before .before .before .before .before .before .before .before .before .before .before .before .before .before .before .before .before .before .before .before .before .before .before .before .before .before .before .before .before .before .before .before .before .before .before .before .before .before .before .before .before .before .before .before .before .before in let z = c .before .before .before .before .before .before .before .before .before .before .before .before .before .before .before .before .before .before .before .before .before .before .before .before .before .before .before .before .before .before .before .before .before .before .before .before .before .before .before .before .before .before .before .before .before .before .before .before .before .before .before .before .before .before .before .before .before .before .before .before .before .before .before .before .before .before .before .before .before .before .before .before .before .if1 .left in sized-ran (bytes w) (lent (start w)) (passed w z) (room w z) _ _ (c .before .before .before .before .before .before .before .before .before .before .before .before .before .before .before .before .before .before .before .before .before .before .before .before .before .before .before .before .before .before .before .before .before .before .before .before .before .before .before .before .before .before .before .before .before .before .before .before .run-sized .ensures) (record { types = same-length-6 c; flags = same-length-7 c; pairs = same-length-8 c; island-pairs = same-length-9 c; enabled = same-length-10 c; numbers = same-length-11 c; plan = record { dynamic-bodies = same-length-12 c; endpoints = same-length-13 c; body-offsets = same-length-14 c; body-constraints = same-length-15 c; scratch-offsets = same-length-16 c; constraint-colors = same-length-17 c; color-stamps = same-length-18 c; body-stamps = same-length-19 c; color-offsets = same-length-20 c; colored-constraints = same-length-21 c; color-body-offsets = same-length-22 c; color-bodies = same-length-23 c; constraint-body-positions = same-length-24 c } })
+
+pub run-spec : {M : Type 1} → statement M
+run-spec =
+    tie.close
+    (tie.spec
+    read-requires
+    sizes-of-requires
+    add-constraints
+    roomy-requires
+    room-for-requires
+    number-of-requires
+    first-refusal-requires
+    returns
+    slice-relend-prefix-run-sized
+    slice-aggregate-run-sized
+    slice-relend-prefix-run-sized-2
+    slice-aggregate-run-sized-2
+    mul-run-sized
+    slice-relend-prefix-run-sized-3
+    slice-aggregate-run-sized-3
+    slice-relend-prefix-run-sized-4
+    slice-aggregate-run-sized-4
+    slice-relend-prefix-run-sized-5
+    slice-aggregate-run-sized-5
+    run-sized-requires
+    same-length
+    same-length-2
+    same-length-3
+    same-length-4
+    same-length-5
+    same-length-6
+    same-length-7
+    same-length-8
+    same-length-9
+    same-length-10
+    same-length-11
+    same-length-12
+    same-length-13
+    same-length-14
+    same-length-15
+    same-length-16
+    same-length-17
+    same-length-18
+    same-length-19
+    same-length-20
+    same-length-21
+    same-length-22
+    same-length-23
+    same-length-24
+    returns-2)
