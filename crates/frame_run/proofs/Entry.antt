@@ -52,7 +52,7 @@ module _ (bs : List ℕ) (l : Lent) where
   k = runRefusal bs (roomIn bs l)
 
   -- questions 6 and 7 come after those of the file
-  all-asked : k ≡ cond (eqb (asked (fileQuestions bs)) 0) (cond (roomIn bs l) (soundness bs) 6) (asked (fileQuestions bs))
+  pub all-asked : k ≡ cond (eqb (asked (fileQuestions bs)) 0) (cond (roomIn bs l) (soundness bs) 6) (asked (fileQuestions bs))
   unfolding runRefusal soundness
   all-asked = asked-append (fileQuestions bs) (question 6 (roomIn bs l) ∷ question 7 (allSound (decode bs)) ∷ []) refl
 

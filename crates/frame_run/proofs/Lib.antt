@@ -1,3 +1,4 @@
+pub mod Condition
 pub mod Entry
 pub mod Frames
 pub mod Runs
