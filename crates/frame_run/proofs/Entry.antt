@@ -164,7 +164,7 @@ module _ (bs : List ℕ) (l : Lent) where
     seven-left = all-asked ∙ rw (q, r)
 
     -- the lengths that question 6 wants, but for the plan's tables
-    abbrev wanted : List (ℕ × ℕ)
+    abbrev pub wanted : List (ℕ × ℕ)
     wanted =
         (countB bs, length (l .parents)) ∷ (countB bs, length (l .body-islands)) ∷ (countM bs, length (l .manifold-islands)) ∷ (countJ bs, length (l .joint-islands))
         ∷ (3 * (countM bs + countJ bs), length (l .turns)) ∷ (countB bs, length (l .types)) ∷ (countB bs, length (l .flags))

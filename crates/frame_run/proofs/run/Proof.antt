@@ -5,33 +5,71 @@ use mathlib.Core.Bool.{true}
 use mathlib.Core.List.{List}
 use native.Mathlib.Omega.{arith}
 use borrow.Author.Needs.{needs}
+use lib.ListN.{length, take}
 use lib.Seq.{length-take-le}
 use Rattle.frame.specs.declared.Frame.{Frame}
 use Rattle.frame.specs.Questions.{asked}
 use Rattle.frame.specs.Files.{countB, countM, countJ, fileQuestions}
 use Rattle.frame.specs.Answers.{readSizes, sizesOf, Read}
 use Rattle.constraint_coloring.specs.Plans.{roomy}
+use Rattle.constraint_coloring.proofs.Accepted.{Fitted}
 use Rattle.island_numbers.proofs.Scans.{front-back}
 use Rattle.frame_run.specs.Calls.{Lent, roomIn}
-use Rattle.frame_run.proofs.Entry.{few-constraints, sizes-read, room-read, file-passed, room-passed, stopped, wanted-fit, spacious, sized-ran}
+use Rattle.frame_run.proofs.Entry.{few-constraints, sizes-read, room-read, file-passed, room-passed, stopped, wanted, wanted-fit, spacious, sized-ran}
 use Rattle.frame_run.proofs.run.Statement.{statement}
 use Rattle.frame_run.proofs.run.Tie as tie
 
 -- the tables as they come
 abbrev lent : tie.Start → Lent
-lent s = record { parents = s .args .parents .now; body-islands = s .args .body-islands .now; manifold-islands = s .args .manifold-islands .now; joint-islands = s .args .joint-islands .now; turns = s .args .turns .now; types = s .args .types .now; flags = s .args .flags .now; pairs = s .args .pairs .now; island-pairs = s .args .island-pairs .now; enabled = s .args .enabled .now; numbers = s .args .numbers .now; plan = record { dynamic-bodies = s .args .dynamic-bodies .now; endpoints = s .args .endpoints .now; body-offsets = s .args .body-offsets .now; body-constraints = s .args .body-constraints .now; scratch-offsets = s .args .scratch-offsets .now; constraint-colors = s .args .constraint-colors .now; color-stamps = s .args .color-stamps .now; body-stamps = s .args .body-stamps .now; color-offsets = s .args .color-offsets .now; colored-constraints = s .args .colored-constraints .now; color-body-offsets = s .args .color-body-offsets .now; color-bodies = s .args .color-bodies .now; constraint-body-positions = s .args .constraint-body-positions .now } }
+lent s = record {
+  parents = s .args .parents .now;
+  body-islands = s .args .body-islands .now;
+  manifold-islands = s .args .manifold-islands .now;
+  joint-islands = s .args .joint-islands .now;
+  turns = s .args .turns .now;
+  types = s .args .types .now;
+  flags = s .args .flags .now;
+  pairs = s .args .pairs .now;
+  island-pairs = s .args .island-pairs .now;
+  enabled = s .args .enabled .now;
+  numbers = s .args .numbers .now;
+  plan = record {
+    dynamic-bodies = s .args .dynamic-bodies .now;
+    endpoints = s .args .endpoints .now;
+    body-offsets = s .args .body-offsets .now;
+    body-constraints = s .args .body-constraints .now;
+    scratch-offsets = s .args .scratch-offsets .now;
+    constraint-colors = s .args .constraint-colors .now;
+    color-stamps = s .args .color-stamps .now;
+    body-stamps = s .args .body-stamps .now;
+    color-offsets = s .args .color-offsets .now;
+    colored-constraints = s .args .colored-constraints .now;
+    color-body-offsets = s .args .color-body-offsets .now;
+    color-bodies = s .args .color-bodies .now;
+    constraint-body-positions = s .args .constraint-body-positions .now;
+  };
+}
 
--- the start, and the sizes that were read
+-- the place where questions 1 to 6 are answered, seen from the end, and the start from there
+abbrev ended : tie.After-slice-known48 → tie.After-run-sized
+ended c = c .before .before .before .before .before .before .before .before .before .before .before .before .before .before .before .before .before .before .before .before .before .before .before .before .before .before .before .before .before .before .before .before .before .before .before .before .before .before .before .before .before .before .before .before .before .before .before .before
+
+abbrev answered : tie.After-slice-known48 → tie.Else1
+answered c = ended c .before .before .before .before .before .before .before .before .before .before .before .before .before .before .before .before .before .before .before .before .before .before .before .before .before
+
 abbrev start : tie.After-first-refusal → tie.Start
 start w = w .before .before .before .before .before .before .before .before .before .before .before .before .before .before .before .before .before .before .before .before .before .before .before .before .before .before .before .before .before .before .before
 
 abbrev bytes : tie.After-first-refusal → List ℕ
 bytes w = start w .args .frame .now
 
+abbrev sized : tie.After-first-refusal → Frame
+sized w = w .before .before .before .before .sizes-of .result
+
 was-read : (w : tie.After-first-refusal) → Read (bytes w) (w .before .before .before .before .before .read .result)
 was-read w = w .before .before .before .before .before .read .ensures
 
-sizes : (w : tie.After-first-refusal) → w .before .before .before .before .sizes-of .result ≡ readSizes (w .before .before .before .before .before .read .result)
+sizes : (w : tie.After-first-refusal) → sized w ≡ readSizes (w .before .before .before .before .before .read .result)
 sizes w = w .before .before .before .before .sizes-of .ensures
 
 roomed : (w : tie.After-first-refusal) → asked (fileQuestions (bytes w)) ≡ 0 → w .before .before .room-for .result ≡ roomIn (bytes w) (lent (start w))
@@ -52,16 +90,16 @@ module _ (w : tie.After-first-refusal) (z : w .first-refusal .result ≡ 0) wher
   room : roomIn (bytes w) (lent (start w)) ≡ true
   room = room-passed (bytes w) (lent (start w)) _ _ _ (file w) (roomed w) (w .first-refusal .ensures) z
 
-  all-sizes : w .before .before .before .before .sizes-of .result ≡ sizesOf (bytes w)
+  all-sizes : sized w ≡ sizesOf (bytes w)
   all-sizes = sizes w ∙ sizes-read (bytes w) _ (was-read w) passed
 
-  bodies-are : w .before .before .before .before .sizes-of .result .bodies ≡ countB (bytes w)
+  bodies-are : sized w .bodies ≡ countB (bytes w)
   bodies-are = ap (λ (f : Frame). f .bodies) all-sizes
 
-  manifolds-are : w .before .before .before .before .sizes-of .result .manifolds ≡ countM (bytes w)
+  manifolds-are : sized w .manifolds ≡ countM (bytes w)
   manifolds-are = ap (λ (f : Frame). f .manifolds) all-sizes
 
-  joints-are : w .before .before .before .before .sizes-of .result .joints ≡ countJ (bytes w)
+  joints-are : sized w .joints ≡ countJ (bytes w)
   joints-are = ap (λ (f : Frame). f .joints) all-sizes
 
 read-requires : tie.Need-read-requires
@@ -91,126 +129,190 @@ first-refusal-requires c κs = search needs
 returns : tie.Need-returns
 returns c = let w = c .before in stopped (bytes w) (lent (start w)) _ _ _ (file w) (roomed w) (w .first-refusal .ensures) (c .if1 .taken)
 
+-- ---- the tables that are cut
+
+module _ (w : tie.After-first-refusal) (z : w .first-refusal .result ≡ 0) where
+  fits : Fitted (wanted (bytes w) (lent (start w)) (passed w z) (room w z))
+  fits = wanted-fit (bytes w) (lent (start w)) (passed w z) (room w z)
+
+  types-inside : sized w .bodies ≤ length (start w .args .types .now)
+  types-inside = omega (arith, fits .1 .1 .1 .1 .1 .0, bodies-are w z)
+
+  types-cut : length (take (sized w .bodies) (start w .args .types .now)) ≡ sized w .bodies
+  types-cut = length-take-le (sized w .bodies) (start w .args .types .now) types-inside
+
+  flags-inside : sized w .bodies ≤ length (start w .args .flags .now)
+  flags-inside = omega (arith, fits .1 .1 .1 .1 .1 .1 .0, bodies-are w z)
+
+  flags-cut : length (take (sized w .bodies) (start w .args .flags .now)) ≡ sized w .bodies
+  flags-cut = length-take-le (sized w .bodies) (start w .args .flags .now) flags-inside
+
+  pairs-inside : 2 * (sized w .manifolds + sized w .joints) ≤ length (start w .args .pairs .now)
+  pairs-inside = omega (arith, fits .1 .1 .1 .1 .1 .1 .1 .0, manifolds-are w z, joints-are w z)
+
+  pairs-cut : length (take (2 * (sized w .manifolds + sized w .joints)) (start w .args .pairs .now)) ≡ 2 * (sized w .manifolds + sized w .joints)
+  pairs-cut = length-take-le (2 * (sized w .manifolds + sized w .joints)) (start w .args .pairs .now) pairs-inside
+
+  enabled-inside : sized w .joints ≤ length (start w .args .enabled .now)
+  enabled-inside = omega (arith, fits .1 .1 .1 .1 .1 .1 .1 .1 .1 .0, joints-are w z)
+
+  enabled-cut : length (take (sized w .joints) (start w .args .enabled .now)) ≡ sized w .joints
+  enabled-cut = length-take-le (sized w .joints) (start w .args .enabled .now) enabled-inside
+
+  numbers-inside : sized w .manifolds + sized w .joints ≤ length (start w .args .numbers .now)
+  numbers-inside = omega (arith, fits .1 .1 .1 .1 .1 .1 .1 .1 .1 .1 .0, manifolds-are w z, joints-are w z)
+
+  numbers-cut : length (take (sized w .manifolds + sized w .joints) (start w .args .numbers .now)) ≡ sized w .manifolds + sized w .joints
+  numbers-cut = length-take-le (sized w .manifolds + sized w .joints) (start w .args .numbers .now) numbers-inside
+
 slice-relend-prefix-run-sized : tie.Need-slice-relend-prefix-run-sized
-slice-relend-prefix-run-sized c = let w = c .before .before .before .before .before .before in let z = c .before .before .before .before .before .if1 .left in omega (arith, wanted-fit (bytes w) (lent (start w)) (passed w z) (room w z) .1 .1 .1 .1 .1 .0, bodies-are w z)
+slice-relend-prefix-run-sized c = let e = c .before .before .before .before .before in types-inside (e .before) (e .if1 .left)
 
 slice-aggregate-run-sized : tie.Need-slice-aggregate-run-sized
-slice-aggregate-run-sized c = let w = c .before .before .before .before .before .before .before in let z = c .before .before .before .before .before .before .if1 .left in sym (length-take-le (w .before .before .before .before .sizes-of .result .bodies) (start w .args .types .now) (omega (arith, wanted-fit (bytes w) (lent (start w)) (passed w z) (room w z) .1 .1 .1 .1 .1 .0, bodies-are w z)))
+slice-aggregate-run-sized c = let e = c .before .before .before .before .before .before in sym (types-cut (e .before) (e .if1 .left))
 
 slice-relend-prefix-run-sized-2 : tie.Need-slice-relend-prefix-run-sized-2
-slice-relend-prefix-run-sized-2 c = let w = c .before .before .before .before .before .before .before in let z = c .before .before .before .before .before .before .if1 .left in omega (arith, wanted-fit (bytes w) (lent (start w)) (passed w z) (room w z) .1 .1 .1 .1 .1 .1 .0, bodies-are w z)
+slice-relend-prefix-run-sized-2 c = let e = c .before .before .before .before .before .before in flags-inside (e .before) (e .if1 .left)
 
 slice-aggregate-run-sized-2 : tie.Need-slice-aggregate-run-sized-2
-slice-aggregate-run-sized-2 c = let w = c .before .before .before .before .before .before .before .before in let z = c .before .before .before .before .before .before .before .if1 .left in sym (length-take-le (w .before .before .before .before .sizes-of .result .bodies) (start w .args .flags .now) (omega (arith, wanted-fit (bytes w) (lent (start w)) (passed w z) (room w z) .1 .1 .1 .1 .1 .1 .0, bodies-are w z)))
+slice-aggregate-run-sized-2 c = let e = c .before .before .before .before .before .before .before in sym (flags-cut (e .before) (e .if1 .left))
 
 mul-run-sized : tie.Need-mul-run-sized
-mul-run-sized c = let w = c .before .before .before .before .before .before .before .before in let z = c .before .before .before .before .before .before .before .if1 .left in omega (arith, manifolds-are w z, joints-are w z, few (w .before .before .before .before) .0, few (w .before .before .before .before) .1)
+mul-run-sized c = let w = c .before .before .before .before .before .before .before .before in omega (arith, few (w .before .before .before .before) .0, few (w .before .before .before .before) .1)
 
 slice-relend-prefix-run-sized-3 : tie.Need-slice-relend-prefix-run-sized-3
-slice-relend-prefix-run-sized-3 c = let w = c .before .before .before .before .before .before .before .before in let z = c .before .before .before .before .before .before .before .if1 .left in omega (arith, wanted-fit (bytes w) (lent (start w)) (passed w z) (room w z) .1 .1 .1 .1 .1 .1 .1 .0, manifolds-are w z, joints-are w z)
+slice-relend-prefix-run-sized-3 c = let e = c .before .before .before .before .before .before .before in pairs-inside (e .before) (e .if1 .left)
 
 slice-aggregate-run-sized-3 : tie.Need-slice-aggregate-run-sized-3
-slice-aggregate-run-sized-3 c = let w = c .before .before .before .before .before .before .before .before .before in let z = c .before .before .before .before .before .before .before .before .if1 .left in sym (length-take-le (2 * (w .before .before .before .before .sizes-of .result .manifolds + w .before .before .before .before .sizes-of .result .joints)) (start w .args .pairs .now) (omega (arith, wanted-fit (bytes w) (lent (start w)) (passed w z) (room w z) .1 .1 .1 .1 .1 .1 .1 .0, manifolds-are w z, joints-are w z)))
+slice-aggregate-run-sized-3 c = let e = c .before .before .before .before .before .before .before .before in sym (pairs-cut (e .before) (e .if1 .left))
 
 slice-relend-prefix-run-sized-4 : tie.Need-slice-relend-prefix-run-sized-4
-slice-relend-prefix-run-sized-4 c = let w = c .before .before .before .before .before .before .before .before .before .before in let z = c .before .before .before .before .before .before .before .before .before .if1 .left in omega (arith, wanted-fit (bytes w) (lent (start w)) (passed w z) (room w z) .1 .1 .1 .1 .1 .1 .1 .1 .1 .0, joints-are w z)
+slice-relend-prefix-run-sized-4 c = let e = c .before .before .before .before .before .before .before .before .before in enabled-inside (e .before) (e .if1 .left)
 
 slice-aggregate-run-sized-4 : tie.Need-slice-aggregate-run-sized-4
-slice-aggregate-run-sized-4 c = let w = c .before .before .before .before .before .before .before .before .before .before .before in let z = c .before .before .before .before .before .before .before .before .before .before .if1 .left in sym (length-take-le (w .before .before .before .before .sizes-of .result .joints) (start w .args .enabled .now) (omega (arith, wanted-fit (bytes w) (lent (start w)) (passed w z) (room w z) .1 .1 .1 .1 .1 .1 .1 .1 .1 .0, joints-are w z)))
+slice-aggregate-run-sized-4 c = let e = c .before .before .before .before .before .before .before .before .before .before in sym (enabled-cut (e .before) (e .if1 .left))
 
 slice-relend-prefix-run-sized-5 : tie.Need-slice-relend-prefix-run-sized-5
-slice-relend-prefix-run-sized-5 c = let w = c .before .before .before .before .before .before .before .before .before .before .before in let z = c .before .before .before .before .before .before .before .before .before .before .if1 .left in omega (arith, wanted-fit (bytes w) (lent (start w)) (passed w z) (room w z) .1 .1 .1 .1 .1 .1 .1 .1 .1 .1 .0, manifolds-are w z, joints-are w z)
+slice-relend-prefix-run-sized-5 c = let e = c .before .before .before .before .before .before .before .before .before .before in numbers-inside (e .before) (e .if1 .left)
 
 slice-aggregate-run-sized-5 : tie.Need-slice-aggregate-run-sized-5
-slice-aggregate-run-sized-5 c = let w = c .before .before .before .before .before .before .before .before .before .before .before .before in let z = c .before .before .before .before .before .before .before .before .before .before .before .if1 .left in sym (length-take-le (w .before .before .before .before .sizes-of .result .manifolds + w .before .before .before .before .sizes-of .result .joints) (start w .args .numbers .now) (omega (arith, wanted-fit (bytes w) (lent (start w)) (passed w z) (room w z) .1 .1 .1 .1 .1 .1 .1 .1 .1 .1 .0, manifolds-are w z, joints-are w z)))
+slice-aggregate-run-sized-5 c = let e = c .before .before .before .before .before .before .before .before .before .before .before in sym (numbers-cut (e .before) (e .if1 .left))
 
 run-sized-requires : tie.Need-run-sized-requires
-run-sized-requires c κs = let w = c .before .before .before .before .before .before .before .before .before .before .before .before .before .before .before .before .before .before .before .before .before .before .before .before .before in let z = c .before .before .before .before .before .before .before .before .before .before .before .before .before .before .before .before .before .before .before .before .before .before .before .before .if1 .left in (
-  record {
-    file = passed w z;
-    manifolds = manifolds-are w z;
-    types = length-take-le (w .before .before .before .before .sizes-of .result .bodies) (start w .args .types .now) (omega (arith, wanted-fit (bytes w) (lent (start w)) (passed w z) (room w z) .1 .1 .1 .1 .1 .0, bodies-are w z)) ∙ bodies-are w z;
-    flags = length-take-le (w .before .before .before .before .sizes-of .result .bodies) (start w .args .flags .now) (omega (arith, wanted-fit (bytes w) (lent (start w)) (passed w z) (room w z) .1 .1 .1 .1 .1 .1 .0, bodies-are w z)) ∙ bodies-are w z;
-    pairs = length-take-le (2 * (w .before .before .before .before .sizes-of .result .manifolds + w .before .before .before .before .sizes-of .result .joints)) (start w .args .pairs .now) (omega (arith, wanted-fit (bytes w) (lent (start w)) (passed w z) (room w z) .1 .1 .1 .1 .1 .1 .1 .0, manifolds-are w z, joints-are w z)) ∙ omega (arith, manifolds-are w z, joints-are w z);
-    enabled = length-take-le (w .before .before .before .before .sizes-of .result .joints) (start w .args .enabled .now) (omega (arith, wanted-fit (bytes w) (lent (start w)) (passed w z) (room w z) .1 .1 .1 .1 .1 .1 .1 .1 .1 .0, joints-are w z)) ∙ joints-are w z;
-  },
-  spacious (bytes w) (lent (start w)) (passed w z) (room w z) _ (length-take-le (w .before .before .before .before .sizes-of .result .manifolds + w .before .before .before .before .sizes-of .result .joints) (start w .args .numbers .now) (omega (arith, wanted-fit (bytes w) (lent (start w)) (passed w z) (room w z) .1 .1 .1 .1 .1 .1 .1 .1 .1 .1 .0, manifolds-are w z, joints-are w z)) ∙ omega (arith, manifolds-are w z, joints-are w z)),
-)
+run-sized-requires c κs =
+    let w = c .before .before .before .before .before .before .before .before .before .before .before .before .before .before .before .before .before .before .before .before .before .before .before .before .before in
+    let z = c .before .before .before .before .before .before .before .before .before .before .before .before .before .before .before .before .before .before .before .before .before .before .before .before .if1 .left in (
+      record {
+        file = passed w z;
+        manifolds = manifolds-are w z;
+        types = types-cut w z ∙ bodies-are w z;
+        flags = flags-cut w z ∙ bodies-are w z;
+        pairs = omega (arith, pairs-cut w z, manifolds-are w z, joints-are w z);
+        enabled = enabled-cut w z ∙ joints-are w z;
+      },
+      spacious (bytes w) (lent (start w)) (passed w z) (room w z) _ (omega (arith, numbers-cut w z, manifolds-are w z, joints-are w z)),
+    )
 
 same-length : tie.Need-same-length
-same-length c = c .before .before .before .before .before .before .before .before .before .before .before .before .before .before .before .before .before .before .before .before .before .before .before .before .before .before .before .before .before .before .before .before .before .before .before .before .before .before .before .before .before .before .before .before .before .before .before .before .run-sized .kept .1 .1 .0
+same-length c = ended c .run-sized .kept .1 .1 .0
 
 same-length-2 : tie.Need-same-length-2
-same-length-2 c = c .before .before .before .before .before .before .before .before .before .before .before .before .before .before .before .before .before .before .before .before .before .before .before .before .before .before .before .before .before .before .before .before .before .before .before .before .before .before .before .before .before .before .before .before .before .before .before .before .run-sized .kept .1 .1 .1 .0
+same-length-2 c = ended c .run-sized .kept .1 .1 .1 .0
 
 same-length-3 : tie.Need-same-length-3
-same-length-3 c = c .before .before .before .before .before .before .before .before .before .before .before .before .before .before .before .before .before .before .before .before .before .before .before .before .before .before .before .before .before .before .before .before .before .before .before .before .before .before .before .before .before .before .before .before .before .before .before .before .run-sized .kept .1 .1 .1 .1 .0
+same-length-3 c = ended c .run-sized .kept .1 .1 .1 .1 .0
 
 same-length-4 : tie.Need-same-length-4
-same-length-4 c = c .before .before .before .before .before .before .before .before .before .before .before .before .before .before .before .before .before .before .before .before .before .before .before .before .before .before .before .before .before .before .before .before .before .before .before .before .before .before .before .before .before .before .before .before .before .before .before .before .run-sized .kept .1 .1 .1 .1 .1 .0
+same-length-4 c = ended c .run-sized .kept .1 .1 .1 .1 .1 .0
 
 same-length-5 : tie.Need-same-length-5
-same-length-5 c = c .before .before .before .before .before .before .before .before .before .before .before .before .before .before .before .before .before .before .before .before .before .before .before .before .before .before .before .before .before .before .before .before .before .before .before .before .before .before .before .before .before .before .before .before .before .before .before .before .run-sized .kept .1 .1 .1 .1 .1 .1 .0
+same-length-5 c = ended c .run-sized .kept .1 .1 .1 .1 .1 .1 .0
 
 same-length-6 : tie.Need-same-length-6
-same-length-6 c = let w = c .before .before .before .before .before .before .before .before .before .before .before .before .before .before .before .before .before .before .before .before .before .before .before .before .before .before .before .before .before .before .before .before .before .before .before .before .before .before .before .before .before .before .before .before .before .before .before .before .before .before .before .before .before .before .before .before .before .before .before .before .before .before .before .before .before .before .before .before .before .before .before .before .before .before in let z = c .before .before .before .before .before .before .before .before .before .before .before .before .before .before .before .before .before .before .before .before .before .before .before .before .before .before .before .before .before .before .before .before .before .before .before .before .before .before .before .before .before .before .before .before .before .before .before .before .before .before .before .before .before .before .before .before .before .before .before .before .before .before .before .before .before .before .before .before .before .before .before .before .before .if1 .left in front-back (w .before .before .before .before .sizes-of .result .bodies) (c .before .before .before .before .before .before .before .before .before .before .before .before .before .before .before .before .before .before .before .before .before .before .before .before .before .before .before .before .before .before .before .before .before .before .before .before .before .before .before .before .before .before .before .before .before .before .before .before .run-sized .last .1 .1 .1 .1 .1 .1 .1 .0) (start w .args .types .now) (c .before .before .before .before .before .before .before .before .before .before .before .before .before .before .before .before .before .before .before .before .before .before .before .before .before .before .before .before .before .before .before .before .before .before .before .before .before .before .before .before .before .before .before .before .before .before .before .before .run-sized .kept .1 .1 .1 .1 .1 .1 .1 .0)
+same-length-6 c = let w = answered c .before in front-back (sized w .bodies) (ended c .run-sized .last .1 .1 .1 .1 .1 .1 .1 .0) (start w .args .types .now) (ended c .run-sized .kept .1 .1 .1 .1 .1 .1 .1 .0)
 
 same-length-7 : tie.Need-same-length-7
-same-length-7 c = let w = c .before .before .before .before .before .before .before .before .before .before .before .before .before .before .before .before .before .before .before .before .before .before .before .before .before .before .before .before .before .before .before .before .before .before .before .before .before .before .before .before .before .before .before .before .before .before .before .before .before .before .before .before .before .before .before .before .before .before .before .before .before .before .before .before .before .before .before .before .before .before .before .before .before .before in let z = c .before .before .before .before .before .before .before .before .before .before .before .before .before .before .before .before .before .before .before .before .before .before .before .before .before .before .before .before .before .before .before .before .before .before .before .before .before .before .before .before .before .before .before .before .before .before .before .before .before .before .before .before .before .before .before .before .before .before .before .before .before .before .before .before .before .before .before .before .before .before .before .before .before .if1 .left in front-back (w .before .before .before .before .sizes-of .result .bodies) (c .before .before .before .before .before .before .before .before .before .before .before .before .before .before .before .before .before .before .before .before .before .before .before .before .before .before .before .before .before .before .before .before .before .before .before .before .before .before .before .before .before .before .before .before .before .before .before .before .run-sized .last .1 .1 .1 .1 .1 .1 .1 .1 .0) (start w .args .flags .now) (c .before .before .before .before .before .before .before .before .before .before .before .before .before .before .before .before .before .before .before .before .before .before .before .before .before .before .before .before .before .before .before .before .before .before .before .before .before .before .before .before .before .before .before .before .before .before .before .before .run-sized .kept .1 .1 .1 .1 .1 .1 .1 .1 .0)
+same-length-7 c = let w = answered c .before in front-back (sized w .bodies) (ended c .run-sized .last .1 .1 .1 .1 .1 .1 .1 .1 .0) (start w .args .flags .now) (ended c .run-sized .kept .1 .1 .1 .1 .1 .1 .1 .1 .0)
 
 same-length-8 : tie.Need-same-length-8
-same-length-8 c = let w = c .before .before .before .before .before .before .before .before .before .before .before .before .before .before .before .before .before .before .before .before .before .before .before .before .before .before .before .before .before .before .before .before .before .before .before .before .before .before .before .before .before .before .before .before .before .before .before .before .before .before .before .before .before .before .before .before .before .before .before .before .before .before .before .before .before .before .before .before .before .before .before .before .before .before in let z = c .before .before .before .before .before .before .before .before .before .before .before .before .before .before .before .before .before .before .before .before .before .before .before .before .before .before .before .before .before .before .before .before .before .before .before .before .before .before .before .before .before .before .before .before .before .before .before .before .before .before .before .before .before .before .before .before .before .before .before .before .before .before .before .before .before .before .before .before .before .before .before .before .before .if1 .left in front-back (2 * (w .before .before .before .before .sizes-of .result .manifolds + w .before .before .before .before .sizes-of .result .joints)) (c .before .before .before .before .before .before .before .before .before .before .before .before .before .before .before .before .before .before .before .before .before .before .before .before .before .before .before .before .before .before .before .before .before .before .before .before .before .before .before .before .before .before .before .before .before .before .before .before .run-sized .last .1 .1 .1 .1 .1 .1 .1 .1 .1 .0) (start w .args .pairs .now) (c .before .before .before .before .before .before .before .before .before .before .before .before .before .before .before .before .before .before .before .before .before .before .before .before .before .before .before .before .before .before .before .before .before .before .before .before .before .before .before .before .before .before .before .before .before .before .before .before .run-sized .kept .1 .1 .1 .1 .1 .1 .1 .1 .1 .0)
+same-length-8 c = let w = answered c .before in front-back (2 * (sized w .manifolds + sized w .joints)) (ended c .run-sized .last .1 .1 .1 .1 .1 .1 .1 .1 .1 .0) (start w .args .pairs .now) (ended c .run-sized .kept .1 .1 .1 .1 .1 .1 .1 .1 .1 .0)
 
 same-length-9 : tie.Need-same-length-9
-same-length-9 c = c .before .before .before .before .before .before .before .before .before .before .before .before .before .before .before .before .before .before .before .before .before .before .before .before .before .before .before .before .before .before .before .before .before .before .before .before .before .before .before .before .before .before .before .before .before .before .before .before .run-sized .kept .1 .1 .1 .1 .1 .1 .1 .1 .1 .1 .0
+same-length-9 c = ended c .run-sized .kept .1 .1 .1 .1 .1 .1 .1 .1 .1 .1 .0
 
 same-length-10 : tie.Need-same-length-10
-same-length-10 c = let w = c .before .before .before .before .before .before .before .before .before .before .before .before .before .before .before .before .before .before .before .before .before .before .before .before .before .before .before .before .before .before .before .before .before .before .before .before .before .before .before .before .before .before .before .before .before .before .before .before .before .before .before .before .before .before .before .before .before .before .before .before .before .before .before .before .before .before .before .before .before .before .before .before .before .before in let z = c .before .before .before .before .before .before .before .before .before .before .before .before .before .before .before .before .before .before .before .before .before .before .before .before .before .before .before .before .before .before .before .before .before .before .before .before .before .before .before .before .before .before .before .before .before .before .before .before .before .before .before .before .before .before .before .before .before .before .before .before .before .before .before .before .before .before .before .before .before .before .before .before .before .if1 .left in front-back (w .before .before .before .before .sizes-of .result .joints) (c .before .before .before .before .before .before .before .before .before .before .before .before .before .before .before .before .before .before .before .before .before .before .before .before .before .before .before .before .before .before .before .before .before .before .before .before .before .before .before .before .before .before .before .before .before .before .before .before .run-sized .last .1 .1 .1 .1 .1 .1 .1 .1 .1 .1 .1 .0) (start w .args .enabled .now) (c .before .before .before .before .before .before .before .before .before .before .before .before .before .before .before .before .before .before .before .before .before .before .before .before .before .before .before .before .before .before .before .before .before .before .before .before .before .before .before .before .before .before .before .before .before .before .before .before .run-sized .kept .1 .1 .1 .1 .1 .1 .1 .1 .1 .1 .1 .0)
+same-length-10 c = let w = answered c .before in front-back (sized w .joints) (ended c .run-sized .last .1 .1 .1 .1 .1 .1 .1 .1 .1 .1 .1 .0) (start w .args .enabled .now) (ended c .run-sized .kept .1 .1 .1 .1 .1 .1 .1 .1 .1 .1 .1 .0)
 
 same-length-11 : tie.Need-same-length-11
-same-length-11 c = let w = c .before .before .before .before .before .before .before .before .before .before .before .before .before .before .before .before .before .before .before .before .before .before .before .before .before .before .before .before .before .before .before .before .before .before .before .before .before .before .before .before .before .before .before .before .before .before .before .before .before .before .before .before .before .before .before .before .before .before .before .before .before .before .before .before .before .before .before .before .before .before .before .before .before .before in let z = c .before .before .before .before .before .before .before .before .before .before .before .before .before .before .before .before .before .before .before .before .before .before .before .before .before .before .before .before .before .before .before .before .before .before .before .before .before .before .before .before .before .before .before .before .before .before .before .before .before .before .before .before .before .before .before .before .before .before .before .before .before .before .before .before .before .before .before .before .before .before .before .before .before .if1 .left in front-back (w .before .before .before .before .sizes-of .result .manifolds + w .before .before .before .before .sizes-of .result .joints) (c .before .before .before .before .before .before .before .before .before .before .before .before .before .before .before .before .before .before .before .before .before .before .before .before .before .before .before .before .before .before .before .before .before .before .before .before .before .before .before .before .before .before .before .before .before .before .before .before .run-sized .last .1 .1 .1 .1 .1 .1 .1 .1 .1 .1 .1 .1 .0) (start w .args .numbers .now) (c .before .before .before .before .before .before .before .before .before .before .before .before .before .before .before .before .before .before .before .before .before .before .before .before .before .before .before .before .before .before .before .before .before .before .before .before .before .before .before .before .before .before .before .before .before .before .before .before .run-sized .kept .1 .1 .1 .1 .1 .1 .1 .1 .1 .1 .1 .1 .0)
+same-length-11 c = let w = answered c .before in front-back (sized w .manifolds + sized w .joints) (ended c .run-sized .last .1 .1 .1 .1 .1 .1 .1 .1 .1 .1 .1 .1 .0) (start w .args .numbers .now) (ended c .run-sized .kept .1 .1 .1 .1 .1 .1 .1 .1 .1 .1 .1 .1 .0)
 
 same-length-12 : tie.Need-same-length-12
-same-length-12 c = c .before .before .before .before .before .before .before .before .before .before .before .before .before .before .before .before .before .before .before .before .before .before .before .before .before .before .before .before .before .before .before .before .before .before .before .before .before .before .before .before .before .before .before .before .before .before .before .before .run-sized .kept .1 .1 .1 .1 .1 .1 .1 .1 .1 .1 .1 .1 .1 .0
+same-length-12 c = ended c .run-sized .kept .1 .1 .1 .1 .1 .1 .1 .1 .1 .1 .1 .1 .1 .0
 
 same-length-13 : tie.Need-same-length-13
-same-length-13 c = c .before .before .before .before .before .before .before .before .before .before .before .before .before .before .before .before .before .before .before .before .before .before .before .before .before .before .before .before .before .before .before .before .before .before .before .before .before .before .before .before .before .before .before .before .before .before .before .before .run-sized .kept .1 .1 .1 .1 .1 .1 .1 .1 .1 .1 .1 .1 .1 .1 .0
+same-length-13 c = ended c .run-sized .kept .1 .1 .1 .1 .1 .1 .1 .1 .1 .1 .1 .1 .1 .1 .0
 
 same-length-14 : tie.Need-same-length-14
-same-length-14 c = c .before .before .before .before .before .before .before .before .before .before .before .before .before .before .before .before .before .before .before .before .before .before .before .before .before .before .before .before .before .before .before .before .before .before .before .before .before .before .before .before .before .before .before .before .before .before .before .before .run-sized .kept .1 .1 .1 .1 .1 .1 .1 .1 .1 .1 .1 .1 .1 .1 .1 .0
+same-length-14 c = ended c .run-sized .kept .1 .1 .1 .1 .1 .1 .1 .1 .1 .1 .1 .1 .1 .1 .1 .0
 
 same-length-15 : tie.Need-same-length-15
-same-length-15 c = c .before .before .before .before .before .before .before .before .before .before .before .before .before .before .before .before .before .before .before .before .before .before .before .before .before .before .before .before .before .before .before .before .before .before .before .before .before .before .before .before .before .before .before .before .before .before .before .before .run-sized .kept .1 .1 .1 .1 .1 .1 .1 .1 .1 .1 .1 .1 .1 .1 .1 .1 .0
+same-length-15 c = ended c .run-sized .kept .1 .1 .1 .1 .1 .1 .1 .1 .1 .1 .1 .1 .1 .1 .1 .1 .0
 
 same-length-16 : tie.Need-same-length-16
-same-length-16 c = c .before .before .before .before .before .before .before .before .before .before .before .before .before .before .before .before .before .before .before .before .before .before .before .before .before .before .before .before .before .before .before .before .before .before .before .before .before .before .before .before .before .before .before .before .before .before .before .before .run-sized .kept .1 .1 .1 .1 .1 .1 .1 .1 .1 .1 .1 .1 .1 .1 .1 .1 .1 .0
+same-length-16 c = ended c .run-sized .kept .1 .1 .1 .1 .1 .1 .1 .1 .1 .1 .1 .1 .1 .1 .1 .1 .1 .0
 
 same-length-17 : tie.Need-same-length-17
-same-length-17 c = c .before .before .before .before .before .before .before .before .before .before .before .before .before .before .before .before .before .before .before .before .before .before .before .before .before .before .before .before .before .before .before .before .before .before .before .before .before .before .before .before .before .before .before .before .before .before .before .before .run-sized .kept .1 .1 .1 .1 .1 .1 .1 .1 .1 .1 .1 .1 .1 .1 .1 .1 .1 .1 .0
+same-length-17 c = ended c .run-sized .kept .1 .1 .1 .1 .1 .1 .1 .1 .1 .1 .1 .1 .1 .1 .1 .1 .1 .1 .0
 
 same-length-18 : tie.Need-same-length-18
-same-length-18 c = c .before .before .before .before .before .before .before .before .before .before .before .before .before .before .before .before .before .before .before .before .before .before .before .before .before .before .before .before .before .before .before .before .before .before .before .before .before .before .before .before .before .before .before .before .before .before .before .before .run-sized .kept .1 .1 .1 .1 .1 .1 .1 .1 .1 .1 .1 .1 .1 .1 .1 .1 .1 .1 .1 .0
+same-length-18 c = ended c .run-sized .kept .1 .1 .1 .1 .1 .1 .1 .1 .1 .1 .1 .1 .1 .1 .1 .1 .1 .1 .1 .0
 
 same-length-19 : tie.Need-same-length-19
-same-length-19 c = c .before .before .before .before .before .before .before .before .before .before .before .before .before .before .before .before .before .before .before .before .before .before .before .before .before .before .before .before .before .before .before .before .before .before .before .before .before .before .before .before .before .before .before .before .before .before .before .before .run-sized .kept .1 .1 .1 .1 .1 .1 .1 .1 .1 .1 .1 .1 .1 .1 .1 .1 .1 .1 .1 .1 .0
+same-length-19 c = ended c .run-sized .kept .1 .1 .1 .1 .1 .1 .1 .1 .1 .1 .1 .1 .1 .1 .1 .1 .1 .1 .1 .1 .0
 
 same-length-20 : tie.Need-same-length-20
-same-length-20 c = c .before .before .before .before .before .before .before .before .before .before .before .before .before .before .before .before .before .before .before .before .before .before .before .before .before .before .before .before .before .before .before .before .before .before .before .before .before .before .before .before .before .before .before .before .before .before .before .before .run-sized .kept .1 .1 .1 .1 .1 .1 .1 .1 .1 .1 .1 .1 .1 .1 .1 .1 .1 .1 .1 .1 .1 .0
+same-length-20 c = ended c .run-sized .kept .1 .1 .1 .1 .1 .1 .1 .1 .1 .1 .1 .1 .1 .1 .1 .1 .1 .1 .1 .1 .1 .0
 
 same-length-21 : tie.Need-same-length-21
-same-length-21 c = c .before .before .before .before .before .before .before .before .before .before .before .before .before .before .before .before .before .before .before .before .before .before .before .before .before .before .before .before .before .before .before .before .before .before .before .before .before .before .before .before .before .before .before .before .before .before .before .before .run-sized .kept .1 .1 .1 .1 .1 .1 .1 .1 .1 .1 .1 .1 .1 .1 .1 .1 .1 .1 .1 .1 .1 .1 .0
+same-length-21 c = ended c .run-sized .kept .1 .1 .1 .1 .1 .1 .1 .1 .1 .1 .1 .1 .1 .1 .1 .1 .1 .1 .1 .1 .1 .1 .0
 
 same-length-22 : tie.Need-same-length-22
-same-length-22 c = c .before .before .before .before .before .before .before .before .before .before .before .before .before .before .before .before .before .before .before .before .before .before .before .before .before .before .before .before .before .before .before .before .before .before .before .before .before .before .before .before .before .before .before .before .before .before .before .before .run-sized .kept .1 .1 .1 .1 .1 .1 .1 .1 .1 .1 .1 .1 .1 .1 .1 .1 .1 .1 .1 .1 .1 .1 .1 .0
+same-length-22 c = ended c .run-sized .kept .1 .1 .1 .1 .1 .1 .1 .1 .1 .1 .1 .1 .1 .1 .1 .1 .1 .1 .1 .1 .1 .1 .1 .0
 
 same-length-23 : tie.Need-same-length-23
-same-length-23 c = c .before .before .before .before .before .before .before .before .before .before .before .before .before .before .before .before .before .before .before .before .before .before .before .before .before .before .before .before .before .before .before .before .before .before .before .before .before .before .before .before .before .before .before .before .before .before .before .before .run-sized .kept .1 .1 .1 .1 .1 .1 .1 .1 .1 .1 .1 .1 .1 .1 .1 .1 .1 .1 .1 .1 .1 .1 .1 .1 .0
+same-length-23 c = ended c .run-sized .kept .1 .1 .1 .1 .1 .1 .1 .1 .1 .1 .1 .1 .1 .1 .1 .1 .1 .1 .1 .1 .1 .1 .1 .1 .0
 
 same-length-24 : tie.Need-same-length-24
-same-length-24 c = c .before .before .before .before .before .before .before .before .before .before .before .before .before .before .before .before .before .before .before .before .before .before .before .before .before .before .before .before .before .before .before .before .before .before .before .before .before .before .before .before .before .before .before .before .before .before .before .before .run-sized .kept .1 .1 .1 .1 .1 .1 .1 .1 .1 .1 .1 .1 .1 .1 .1 .1 .1 .1 .1 .1 .1 .1 .1 .1 .1 .0
+same-length-24 c = ended c .run-sized .kept .1 .1 .1 .1 .1 .1 .1 .1 .1 .1 .1 .1 .1 .1 .1 .1 .1 .1 .1 .1 .1 .1 .1 .1 .1 .0
 
+-- the workspace keeps its lengths
 returns-2 : tie.Need-returns-2
-returns-2 c = let w = c .before .before .before .before .before .before .before .before .before .before .before .before .before .before .before .before .before .before .before .before .before .before .before .before .before .before .before .before .before .before .before .before .before .before .before .before .before .before .before .before .before .before .before .before .before .before .before .before .before .before .before .before .before .before .before .before .before .before .before .before .before .before .before .before .before .before .before .before .before .before .before .before .before .before in let z = c .before .before .before .before .before .before .before .before .before .before .before .before .before .before .before .before .before .before .before .before .before .before .before .before .before .before .before .before .before .before .before .before .before .before .before .before .before .before .before .before .before .before .before .before .before .before .before .before .before .before .before .before .before .before .before .before .before .before .before .before .before .before .before .before .before .before .before .before .before .before .before .before .before .if1 .left in sized-ran (bytes w) (lent (start w)) (passed w z) (room w z) _ _ (c .before .before .before .before .before .before .before .before .before .before .before .before .before .before .before .before .before .before .before .before .before .before .before .before .before .before .before .before .before .before .before .before .before .before .before .before .before .before .before .before .before .before .before .before .before .before .before .before .run-sized .ensures) (record { types = same-length-6 c; flags = same-length-7 c; pairs = same-length-8 c; island-pairs = same-length-9 c; enabled = same-length-10 c; numbers = same-length-11 c; plan = record { dynamic-bodies = same-length-12 c; endpoints = same-length-13 c; body-offsets = same-length-14 c; body-constraints = same-length-15 c; scratch-offsets = same-length-16 c; constraint-colors = same-length-17 c; color-stamps = same-length-18 c; body-stamps = same-length-19 c; color-offsets = same-length-20 c; colored-constraints = same-length-21 c; color-body-offsets = same-length-22 c; color-bodies = same-length-23 c; constraint-body-positions = same-length-24 c } })
+returns-2 c =
+    let w = answered c .before in
+    let z = answered c .if1 .left in
+    sized-ran (bytes w) (lent (start w)) (passed w z) (room w z) _ _ (ended c .run-sized .ensures) record {
+      types = same-length-6 c;
+      flags = same-length-7 c;
+      pairs = same-length-8 c;
+      island-pairs = same-length-9 c;
+      enabled = same-length-10 c;
+      numbers = same-length-11 c;
+      plan = record {
+        dynamic-bodies = same-length-12 c;
+        endpoints = same-length-13 c;
+        body-offsets = same-length-14 c;
+        body-constraints = same-length-15 c;
+        scratch-offsets = same-length-16 c;
+        constraint-colors = same-length-17 c;
+        color-stamps = same-length-18 c;
+        body-stamps = same-length-19 c;
+        color-offsets = same-length-20 c;
+        colored-constraints = same-length-21 c;
+        color-body-offsets = same-length-22 c;
+        color-bodies = same-length-23 c;
+        constraint-body-positions = same-length-24 c;
+      };
+    }
 
 pub run-spec : {M : Type 1} → statement M
 run-spec =
