@@ -1,4 +1,4 @@
-/* Engkarupi: islands, conflict-free groups and bindings of a frame of bodies and constraints, proved.
+/* Engkarupi: islands, conflict-free groups, bindings and turns of a frame of bodies and constraints, proved.
  *
  * Link libboundary.a (`rt staticlib boundary`). No call allocates, keeps a pointer or has state of its own: all memory is
  * lent by the caller for the length of the call. No two tables of one call may overlap, and none may overlap what is read.
@@ -146,6 +146,56 @@ uint8_t engkarupi_take(
     size_t a,
     size_t b,
     uint16_t handed[4]);
+
+/* ---- the run: from the bytes of a file to the turns of its constraints
+ *
+ * The file, big-endian: byte 1; 32-bit length of the rest; B, M, J of 16 bits each; B type bytes; M pairs a, b of 16 bits;
+ * J joints a, b and an enabled byte. Manifold i has the number i, joint j the number M + j. In the lengths below, C is
+ * M + J.
+ */
+enum {
+    ENGKARUPI_REPORT_ISLANDS,
+    ENGKARUPI_REPORT_TURNS,
+    ENGKARUPI_REPORT_TAKES,         /* bodies handed as dynamic */
+    ENGKARUPI_REPORT_DEGREE,        /* the most live constraints on one dynamic body */
+    ENGKARUPI_REPORT_NUMBERS
+};
+
+/* Each island in number order is colored on a fresh plan, each of its groups bound, and the group's members taken, rising.
+ * A take is a turn: island, group, constraint number. Answers 0 or 1 to 7; after any refusal the report is all 0.
+ *
+ * After 0 the turns stand in the turn table from place 0, three places each; past them it keeps its content. The island
+ * tables stand as engkarupi_islands leaves them. After 7 the turn table is kept, all labels are ENGKARUPI_NONE and each
+ * parent is itself. Refusals 1 to 6 change no table. The tables marked free hold nothing after 0 or 7, and what stands in
+ * them before does not matter.
+ */
+uint8_t engkarupi_run(
+    const uint8_t *frame, size_t frame_len,                     /* the file */
+    uint16_t *parents, size_t parents_len,                      /* B */
+    uint16_t *body_islands, size_t body_islands_len,            /* B */
+    uint16_t *manifold_islands, size_t manifold_islands_len,    /* M */
+    uint16_t *joint_islands, size_t joint_islands_len,          /* J */
+    uint16_t *turns, size_t turns_len,                          /* 3 * C */
+    uint8_t *types, size_t types_len,                           /* B, free */
+    uint8_t *flags, size_t flags_len,                           /* B, free */
+    uint16_t *pairs, size_t pairs_len,                          /* 2 * C, free */
+    uint16_t *island_pairs, size_t island_pairs_len,            /* 2 * C, free */
+    uint8_t *enabled, size_t enabled_len,                       /* J, free */
+    uint16_t *numbers, size_t numbers_len,                      /* C, free */
+    uint8_t *dynamic_bodies, size_t dynamic_bodies_len,         /* B, free */
+    uint16_t *endpoints, size_t endpoints_len,                  /* 2 * C, free */
+    uint16_t *body_offsets, size_t body_offsets_len,            /* B + 1, free */
+    uint16_t *body_constraints, size_t body_constraints_len,    /* 2 * C, free */
+    uint16_t *scratch_offsets, size_t scratch_offsets_len,      /* the larger of B and C, free */
+    uint16_t *constraint_colors, size_t constraint_colors_len,  /* C, free */
+    uint16_t *color_stamps, size_t color_stamps_len,            /* C, free */
+    uint16_t *body_stamps, size_t body_stamps_len,              /* B, free */
+    uint16_t *color_offsets, size_t color_offsets_len,          /* C + 1, free */
+    uint16_t *colored_constraints, size_t colored_constraints_len,              /* C, free */
+    uint16_t *color_body_offsets, size_t color_body_offsets_len,                /* C + 1, free */
+    uint16_t *color_bodies, size_t color_bodies_len,                            /* 2 * C, free */
+    uint16_t *constraint_body_positions, size_t constraint_body_positions_len,  /* 2 * C, free */
+    size_t report[ENGKARUPI_REPORT_NUMBERS]);
 
 #ifdef __cplusplus
 }

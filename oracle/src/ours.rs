@@ -98,6 +98,60 @@ unsafe extern "C" {
     ) -> u8;
 
     fn engkarupi_take(bodies: *const u16, marks: *mut u8, count: usize, a: usize, b: usize, handed: *mut u16) -> u8;
+
+    fn engkarupi_run(
+        frame: *const u8,
+        frame_len: usize,
+        parents: *mut u16,
+        parents_len: usize,
+        body_islands: *mut u16,
+        body_islands_len: usize,
+        manifold_islands: *mut u16,
+        manifold_islands_len: usize,
+        joint_islands: *mut u16,
+        joint_islands_len: usize,
+        turns: *mut u16,
+        turns_len: usize,
+        types: *mut u8,
+        types_len: usize,
+        flags: *mut u8,
+        flags_len: usize,
+        pairs: *mut u16,
+        pairs_len: usize,
+        island_pairs: *mut u16,
+        island_pairs_len: usize,
+        enabled: *mut u8,
+        enabled_len: usize,
+        numbers: *mut u16,
+        numbers_len: usize,
+        dynamic_bodies: *mut u8,
+        dynamic_bodies_len: usize,
+        endpoints: *mut u16,
+        endpoints_len: usize,
+        body_offsets: *mut u16,
+        body_offsets_len: usize,
+        body_constraints: *mut u16,
+        body_constraints_len: usize,
+        scratch_offsets: *mut u16,
+        scratch_offsets_len: usize,
+        constraint_colors: *mut u16,
+        constraint_colors_len: usize,
+        color_stamps: *mut u16,
+        color_stamps_len: usize,
+        body_stamps: *mut u16,
+        body_stamps_len: usize,
+        color_offsets: *mut u16,
+        color_offsets_len: usize,
+        colored_constraints: *mut u16,
+        colored_constraints_len: usize,
+        color_body_offsets: *mut u16,
+        color_body_offsets_len: usize,
+        color_bodies: *mut u16,
+        color_bodies_len: usize,
+        constraint_body_positions: *mut u16,
+        constraint_body_positions_len: usize,
+        report: *mut usize,
+    ) -> u8;
 }
 
 /// Islands of a frame, on its tables.
@@ -249,6 +303,71 @@ fn take(binding: &mut Binding, [a, b]: [usize; 2]) -> Take {
     }
 }
 
+/// The run of a file on its tables.
+pub fn run(file: &[u8], tables: &mut RunTables) -> Report {
+    let RunTables { islands: i, turns, workspace: w } = tables;
+    let p = &mut w.plan;
+    let mut report = [0xABCD; 4];
+    // SAFETY: as above; a report is four numbers.
+    let refusal = unsafe {
+        engkarupi_run(
+            file.as_ptr(),
+            file.len(),
+            i.parents.as_mut_ptr(),
+            i.parents.len(),
+            i.bodies.as_mut_ptr(),
+            i.bodies.len(),
+            i.manifolds.as_mut_ptr(),
+            i.manifolds.len(),
+            i.joints.as_mut_ptr(),
+            i.joints.len(),
+            turns.as_mut_ptr(),
+            turns.len(),
+            w.types.as_mut_ptr(),
+            w.types.len(),
+            w.flags.as_mut_ptr(),
+            w.flags.len(),
+            w.frame_pairs.as_mut_ptr(),
+            w.frame_pairs.len(),
+            w.island_pairs.as_mut_ptr(),
+            w.island_pairs.len(),
+            w.enabled.as_mut_ptr(),
+            w.enabled.len(),
+            w.numbers.as_mut_ptr(),
+            w.numbers.len(),
+            p.flags.as_mut_ptr(),
+            p.flags.len(),
+            p.pairs.as_mut_ptr(),
+            p.pairs.len(),
+            p.adjacency_offsets.as_mut_ptr(),
+            p.adjacency_offsets.len(),
+            p.adjacency.as_mut_ptr(),
+            p.adjacency.len(),
+            p.scratch.as_mut_ptr(),
+            p.scratch.len(),
+            p.colors.as_mut_ptr(),
+            p.colors.len(),
+            p.color_stamps.as_mut_ptr(),
+            p.color_stamps.len(),
+            p.body_stamps.as_mut_ptr(),
+            p.body_stamps.len(),
+            p.group_offsets.as_mut_ptr(),
+            p.group_offsets.len(),
+            p.members.as_mut_ptr(),
+            p.members.len(),
+            p.body_offsets.as_mut_ptr(),
+            p.body_offsets.len(),
+            p.bodies.as_mut_ptr(),
+            p.bodies.len(),
+            p.positions.as_mut_ptr(),
+            p.positions.len(),
+            report.as_mut_ptr(),
+        )
+    };
+    let [islands, turns, takes, degree] = report;
+    Report { refusal, islands, turns, takes, degree }
+}
+
 /// The proved code; `turns` is the program.
 pub struct Ours {
     pub turns: std::path::PathBuf,
@@ -311,13 +430,10 @@ impl Calls for Ours {
     }
 
     fn run(&self, file: &[u8], tables: &mut RunTables) -> Report {
-        crate::kapitsa::Rust.run(file, tables)
+        run(file, tables)
     }
 
     fn print(&self, file: &[u8]) -> Vec<u8> {
-        if !self.turns.exists() {
-            return crate::kapitsa::Rust.print(file); // TEMP
-        }
         let mut program = Command::new(&self.turns)
             .stdin(Stdio::piped())
             .stdout(Stdio::piped())

@@ -1,5 +1,6 @@
-//! The list that `crates/replay` replays: questions with the Rust's answers, in bytes. The form stands in that program's head;
-//! what a question of each kind holds, and what its answer shows, stands at the functions that answer it there.
+//! The lists that `crates/replay` and `crates/replay_frames` replay: questions with the Rust's answers, in bytes. The forms stand
+//! in those programs' heads; what a question of each kind holds, and what its answer shows, stands at the functions that answer
+//! it there.
 use crate::calls::*;
 use crate::frames::{self, Random};
 use crate::kapitsa::Rust;
@@ -22,6 +23,10 @@ fn lent<T: Lent + Default>(lengths: &[usize]) -> T {
 }
 
 fn byte(n: usize) -> u8 {
+    n.try_into().unwrap()
+}
+
+fn half(n: usize) -> u16 {
     n.try_into().unwrap()
 }
 
@@ -144,65 +149,114 @@ fn random_history(random: &mut Random) -> (Vec<u8>, Vec<u8>) {
 
 // ---- a frame
 
-/// A run's tables have room for 8 bodies, 6 manifolds and 4 joints, and a place more.
-fn frame_tables() -> RunTables {
-    let lengths: Vec<usize> = run_lengths(8, 6, 4).iter().map(|n| n + 1).collect();
-    lent(&lengths)
+/// A question: the turn table's length, and the file. Its answer shows the whole turn table.
+fn frame_question(turns: usize, file: &[u8]) -> Vec<u8> {
+    let mut question = Vec::new();
+    put_halves(&mut question, &[half(turns)]);
+    question.extend(file);
+    question
 }
 
-fn frame(file: &[u8]) -> Vec<u8> {
-    let mut tables = frame_tables();
+/// The Rust's run, with all other tables of the largest frame's lengths.
+fn frame_answer(turns: usize, file: &[u8]) -> (Report, Vec<u8>) {
+    let mut tables: RunTables = lent(&run_lengths(BODIES, MANIFOLDS, JOINTS));
+    tables.turns.truncate(turns);
     let report = Rust.run(file, &mut tables);
     let mut out = vec![report.refusal];
-    out.extend([report.islands, report.turns, report.takes, report.degree].map(byte));
+    put_halves(&mut out, &[report.islands, report.turns, report.takes, report.degree].map(half));
     put_halves(&mut out, &tables.turns);
-    put_halves(&mut out, &tables.islands.bodies);
-    put_halves(&mut out, &tables.islands.manifolds);
-    put_halves(&mut out, &tables.islands.joints);
-    // after acceptance the parents are free
-    if report.refusal != 0 {
-        put_halves(&mut out, &tables.islands.parents);
-    }
-    out
+    (report, out)
 }
 
-// ---- the list
-
-/// The list, and what the program prints of it.
-pub fn list(frames: usize, histories: usize, bindings: usize) -> (Vec<u8>, String) {
-    let mut random = Random(7);
-    let mut list = Vec::new();
-    let mut record = |kind: u8, question: &[u8], answer: &[u8]| {
-        assert!(question.len() <= 1024 && answer.len() <= 2048);
-        list.push(kind);
-        list.extend((question.len() as u16).to_be_bytes());
-        list.extend((answer.len() as u16).to_be_bytes());
-        list.extend(question);
-        list.extend(answer);
-    };
-    for i in 0..frames {
-        let mut file = scope::write(&frames::small_frame(&mut random, 9, 6));
-        // one in eight is damaged
-        if i % 8 == 7 {
-            let at = random.below(file.len());
-            match random.below(3) {
-                0 => file.truncate(at),
-                1 => file[at] ^= 1 << random.below(8),
-                _ => file.push(0),
-            }
-        }
-        record(1, &file, &frame(&file));
+/// A file cut short, lengthened or with one bit changed: anywhere, in the head, or in the high byte of a count.
+fn damage(random: &mut Random, file: &mut Vec<u8>) {
+    let at = random.below(file.len());
+    match random.below(8) {
+        0 => file.truncate(at),
+        1 => file.push(0),
+        2 => file[random.below(11)] ^= 1 << random.below(8),
+        3 => file[5 + 2 * random.below(3)] ^= 0x10 << random.below(4),
+        _ => file[at] ^= 1 << random.below(8),
     }
+}
+
+/// The files: small frames, every fourth damaged; larger lifts; the frames that strain a limit, once each.
+fn files(random: &mut Random, small: usize) -> Vec<Vec<u8>> {
+    let mut files = Vec::new();
+    for i in 0..small {
+        let mut file = scope::write(&frames::small_frame(random, 9, 6));
+        if i % 4 == 3 {
+            damage(random, &mut file);
+        }
+        files.push(file);
+    }
+    files.extend((0..60).map(|_| scope::write(&frames::random_frame(random, 64, 64))));
+    files.extend((0..8).map(|seed| scope::write(&frames::lift(seed, 300, 300, 100))));
+    let kept = ["one pair 4,097 times", "4,095 islands on one static body"];
+    files.extend(frames::shapes().into_iter().filter(|(name, _)| kept.contains(name)).map(|(_, f)| scope::write(&f)));
+    let kept = ["the longest file", "4,097 bodies", "65,535 of each, too short"];
+    files.extend(frames::limit_files().into_iter().filter(|(name, _)| kept.contains(name)).map(|(_, file)| file));
+    files
+}
+
+/// The turn table that is lent: as long as it must be, up to three places longer or, now and then, one too short.
+fn turn_places(random: &mut Random, file: &[u8]) -> usize {
+    let least = scope::read(file).map_or(0, |frame| 3 * frame.constraint_count());
+    if least > 0 && random.one_in(16) { least - 1 } else { least + random.below(4) }
+}
+
+// ---- the lists
+
+/// A list in the making.
+#[derive(Default)]
+struct List(Vec<u8>);
+
+impl List {
+    fn record(&mut self, kind: u8, question: &[u8], answer: &[u8]) {
+        self.0.push(kind);
+        put_halves(&mut self.0, &[half(question.len()), half(answer.len())]);
+        self.0.extend(question);
+        self.0.extend(answer);
+    }
+
+    /// The list with its end, and the sum of its bytes.
+    fn ended(mut self) -> (Vec<u8>, u32) {
+        self.0.extend([0; 5]);
+        let sum = self.0.iter().fold(0u32, |sum, b| (sum * 31 + *b as u32) % 65521);
+        (self.0, sum)
+    }
+}
+
+/// The list of `replay`, and what the program prints of it.
+pub fn calls(histories: usize, bindings: usize) -> (Vec<u8>, String) {
+    let mut random = Random(7);
+    let mut list = List::default();
     for _ in 0..histories {
         let (question, answer) = random_history(&mut random);
-        record(2, &question, &answer);
+        list.record(1, &question, &answer);
     }
     for _ in 0..bindings {
         let (question, answer) = random_takes(&mut random);
-        record(3, &question, &answer);
+        list.record(2, &question, &answer);
     }
-    let sum = list.iter().fold(0u32, |sum, b| (sum * 31 + *b as u32) % 65521);
-    list.push(0);
-    let print = format!("frames {frames}\nhistories {histories}\nbindings {bindings}\ndiffer 0\nsum {sum}\n");
-    (list, print)
+    let (list, sum) = list.ended();
+    (list, format!("histories {histories}\nbindings {bindings}\ndiffer 0\nsum {sum}\n"))
+}
+
+/// The list of `replay_frames`, and what the program prints of it. Every refusal of a run is met.
+pub fn runs(small: usize) -> (Vec<u8>, String) {
+    let mut random = Random(8);
+    let mut list = List::default();
+    let mut met = [0; 8];
+    for file in files(&mut random, small) {
+        let turns = turn_places(&mut random, &file);
+        let (report, answer) = frame_answer(turns, &file);
+        list.record(1, &frame_question(turns, &file), &answer);
+        met[report.refusal as usize] += 1;
+    }
+    assert!(met.iter().all(|n| *n > 0), "a refusal was never met: {met:?}");
+    let frames: usize = met.iter().sum();
+    let refused = frames - met[0];
+    let (list, sum) = list.ended();
+    (list, format!("frames {frames}\nrefused {refused}\ndiffer 0\nsum {sum}\n"))
 }

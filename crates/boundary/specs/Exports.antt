@@ -16,6 +16,9 @@ use Rattle.colored_bodies.specs.declared.BodyBinding.{BodyBinding}
 use Rattle.colored_bodies.specs.declared.Take.{Take}
 use Rattle.colored_bodies.specs.declared.Take.the-variants as take
 use Rattle.colored_bodies.specs.Answers.{takeNumber, Takes}
+use Rattle.frame_run.specs.declared.Report.{Report}
+use Rattle.frame_run.specs.declared.Answer.{Answer}
+use Rattle.frame_run.specs.Calls.{Lent, runNumber, runReport, Ran}
 
 -- ---- updates and lookups
 
@@ -64,3 +67,16 @@ pub record Took (b : BodyBinding) (ps : List ℕ) (left : BodyBinding) (number :
   pub takes : Takes b ps answer left
   pub refusal : number ≡ takeNumber answer
   pub numbers : handed ≡ handedNumbers answer
+
+-- ---- the run
+
+-- a report as four numbers: islands, turns, takes of dynamic bodies, and the largest number of constraints on one dynamic body
+abbrev pub reportNumbers : Report → List ℕ
+reportNumbers r = r .islands ∷ r .turns ∷ r .takes ∷ r .degree ∷ []
+
+-- a run of the file bs on the tables l, which are left as m, where k is the refusal or 0
+pub record Runs (bs : List ℕ) (k : ℕ) (l m : Lent) (number : ℕ) (report : List ℕ) : Type 0 where
+  pub answer : Answer
+  pub ran : Ran bs k l m answer
+  pub refusal : number ≡ runNumber answer
+  pub numbers : report ≡ reportNumbers (runReport answer)

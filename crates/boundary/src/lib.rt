@@ -1,4 +1,6 @@
 // The calls for C and Rust: numbers and slices only. include/engkarupi.h says what each is lent and refuses.
+mod run;
+
 use colored_bodies::BodyBinding;
 use colored_bodies::Marked;
 use constraint_coloring::ConstraintColoring;

@@ -1,13 +1,13 @@
 // A binding with takes: types, a list, then pairs of positions, one byte each.
-use crate::answers::put;
-use crate::answers::put_half;
-use crate::questions::after;
 use crate::questions::copy_bytes;
 use crate::questions::copy_numbers;
-use crate::questions::least;
-use crate::questions::number_at;
 use colored_bodies::BodyBinding;
 use colored_bodies::Take;
+use records::after;
+use records::least;
+use records::number_at;
+use records::put;
+use records::put_half;
 ghost use Prim.Native.Nat.{_≤_};
 
 fn put_take(take: Take, out: &mut [u8], at: usize) -> usize {

@@ -1,16 +1,16 @@
 // A history: updates of one plan on one set of tables. An update is B, the number of pair entries, flags and entries, one byte each.
-use crate::answers::put;
-use crate::answers::put_bytes;
-use crate::answers::put_half;
-use crate::answers::put_halves;
-use crate::questions::after;
 use crate::questions::copy_bytes;
 use crate::questions::copy_numbers;
-use crate::questions::least;
-use crate::questions::number_at;
 use constraint_coloring::ConstraintColoring;
 use constraint_coloring::Positions;
 use constraint_coloring::Update;
+use records::after;
+use records::least;
+use records::number_at;
+use records::put;
+use records::put_bytes;
+use records::put_half;
+use records::put_halves;
 
 // The plan after an update, and where the next update stands and the next answer goes.
 struct Stage {

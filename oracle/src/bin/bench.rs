@@ -18,18 +18,19 @@ fn clear(tables: &mut impl Lent) {
     }
 }
 
+fn microseconds<T>(job: impl FnOnce() -> T) -> f64 {
+    let start = Instant::now();
+    black_box(job());
+    start.elapsed().as_secs_f64() * 1e6
+}
+
 /// The medians over the seeds, in microseconds, of two things to do.
-fn medians(times: usize, mut one: impl FnMut(usize), mut other: impl FnMut(usize)) -> [f64; 2] {
+fn medians<A, B>(times: usize, mut one: impl FnMut(usize) -> A, mut other: impl FnMut(usize) -> B) -> [f64; 2] {
     let mut least = [vec![f64::MAX; SEEDS as usize], vec![f64::MAX; SEEDS as usize]];
     for _ in 0..times {
         for seed in 0..SEEDS as usize {
-            let time = |job: &mut dyn FnMut(usize)| {
-                let start = Instant::now();
-                job(seed);
-                start.elapsed().as_secs_f64() * 1e6
-            };
-            least[0][seed] = least[0][seed].min(time(&mut one));
-            least[1][seed] = least[1][seed].min(time(&mut other));
+            least[0][seed] = least[0][seed].min(microseconds(|| one(seed)));
+            least[1][seed] = least[1][seed].min(microseconds(|| other(seed)));
         }
     }
     least.map(|mut times| {
@@ -38,53 +39,71 @@ fn medians(times: usize, mut one: impl FnMut(usize), mut other: impl FnMut(usize
     })
 }
 
+/// Tables of these lengths.
+fn lent<T: Lent + Default>(lengths: &[usize]) -> T {
+    let mut tables = T::default();
+    for (mut table, n) in tables.tables().into_iter().zip(lengths) {
+        table.fill(*n, 0);
+    }
+    tables
+}
+
+/// Prints both sides' times and answers their ratio.
+fn told(what: &str, [ours, rust]: [f64; 2]) -> f64 {
+    let ratio = ours / rust;
+    println!("{what}: ours {ours:.1} us, the Rust {rust:.1} us, ratio {ratio:.2}");
+    ratio
+}
+
+/// Islands alone.
+fn islands(times: usize, lifts: &[Frame], rust: &[RustFrame]) -> f64 {
+    let mut layout = RustIslands::default();
+    let mut tables: IslandTables = lent(&island_lengths(4096, 4096, 0));
+    let ours = |i: usize| {
+        clear(&mut tables);
+        ours::islands(&lifts[i], &mut tables)
+    };
+    told("islands", medians(times, ours, |i| layout.build(&rust[i])))
+}
+
+/// Islands, then all constraints as one list on a fresh plan.
+fn plan(times: usize, lifts: &[Frame], rust: &[RustFrame]) -> f64 {
+    let flags: Vec<Vec<u8>> = lifts.iter().map(|f| f.flags()).collect();
+    let mut layout = RustIslands::default();
+    let mut tables: IslandTables = lent(&island_lengths(4096, 4096, 0));
+    let mut plan_tables: PlanTables = lent(&plan_lengths(4096, 4096));
+    let ours = |i: usize| {
+        clear(&mut tables);
+        clear(&mut plan_tables);
+        black_box(ours::islands(&lifts[i], &mut tables));
+        ours::update(&mut [0; 4], &flags[i], &lifts[i].manifolds, &mut plan_tables)
+    };
+    told("plan", medians(times, ours, |i| layout.plan(&rust[i])))
+}
+
+/// The whole run of a file.
+fn run(times: usize, lifts: &[Frame]) -> f64 {
+    let files: Vec<Vec<u8>> = lifts.iter().map(scope::write).collect();
+    let mut layout = RustIslands::default();
+    let mut turns = vec![0; 3 * 4096];
+    let mut tables: RunTables = lent(&run_lengths(4096, 4096, 0));
+    for file in &files {
+        let report = ours::run(file, &mut tables);
+        assert_eq!((report.turns, report.takes), layout.run(file, &mut turns));
+    }
+    let ours = |i: usize| {
+        clear(&mut tables);
+        ours::run(&files[i], &mut tables)
+    };
+    told("run", medians(times, ours, |i| layout.run(&files[i], &mut turns)))
+}
+
 fn main() {
     let times = std::env::args().nth(1).map_or(TURNS, |n| n.parse().expect("how often each frame is measured"));
     let lifts: Vec<Frame> = (0..SEEDS).map(|seed| frames::lift(seed, 4096, 4096, 0)).collect();
     let rust: Vec<RustFrame> = lifts.iter().map(RustFrame::of).collect();
-
-    let mut islands = RustIslands::default();
-    let mut tables = IslandTables::default();
-    for (mut table, n) in tables.tables().into_iter().zip(island_lengths(4096, 4096, 0)) {
-        table.fill(n, 0);
-    }
-    let [a, b] = medians(
-        times,
-        |i| {
-            clear(&mut tables);
-            black_box(ours::islands(&lifts[i], &mut tables));
-        },
-        |i| {
-            black_box(islands.build(&rust[i]));
-        },
-    );
-    println!("islands: ours {a:.1} us, the Rust {b:.1} us, ratio {:.2}", a / b);
-    let flags: Vec<Vec<u8>> = lifts.iter().map(|f| f.flags()).collect();
-    let mut plan_tables = PlanTables::default();
-    for (mut table, n) in plan_tables.tables().into_iter().zip(plan_lengths(4096, 4096)) {
-        table.fill(n, 0);
-    }
-    let [a, b] = medians(
-        times,
-        |i| {
-            clear(&mut tables);
-            clear(&mut plan_tables);
-            black_box(ours::islands(&lifts[i], &mut tables));
-            black_box(ours::update(&mut [0; 4], &flags[i], &lifts[i].manifolds, &mut plan_tables));
-        },
-        |i| {
-            black_box(islands.plan(&rust[i]));
-        },
-    );
-    println!("plan: ours {a:.1} us, the Rust {b:.1} us, ratio {:.2}", a / b);
-    let files: Vec<Vec<u8>> = lifts.iter().map(scope::write).collect();
-    let mut turns = vec![0; 3 * 4096];
-    let [_, b] = medians(
-        times,
-        |_| (),
-        |i| {
-            black_box(islands.run(&files[i], &mut turns));
-        },
-    );
-    println!("run: the Rust {b:.1} us");
+    islands(times, &lifts, &rust);
+    let plan = plan(times, &lifts, &rust);
+    let run = run(times, &lifts);
+    println!("plan ratio {plan:.2} run ratio {run:.2}");
 }

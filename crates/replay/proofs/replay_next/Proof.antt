@@ -1,4 +1,4 @@
--- `replay::replay_next` is safe: the lengths in the head are cut to the buffers.
+-- `replay_next` is safe: the lengths in the head are cut to the buffers.
 use mathlib.Core.Path.{sym}
 use lib.Seq.{length-take-le}
 use native.Mathlib.Omega.{arith}
@@ -15,8 +15,11 @@ read-full-requires c κs = search needs
 array-read-kind : tie.Need-array-read-kind
 array-read-kind c = search needs
 
-ended-requires : tie.Need-ended-requires
-ended-requires c κs = search needs
+slice-aggregate-headed : tie.Need-slice-aggregate-headed
+slice-aggregate-headed c = search needs
+
+headed-requires : tie.Need-headed-requires
+headed-requires c κs = search needs
 
 returns : tie.Need-returns
 returns c = search needs
@@ -45,23 +48,17 @@ cast-least-2 c = search needs
 least-requires-2 : tie.Need-least-requires-2
 least-requires-2 c κs = search needs
 
-slice-aggregate-summed : tie.Need-slice-aggregate-summed
-slice-aggregate-summed c = search needs
-
-summed-requires : tie.Need-summed-requires
-summed-requires c κs = search needs
-
 array-borrow-prefix-question : tie.Need-array-borrow-prefix-question
 array-borrow-prefix-question c = search needs
 
 slice-aggregate-replay-record : tie.Need-slice-aggregate-replay-record
-slice-aggregate-replay-record c = sym (length-take-le _ _ (omega (arith, c .before .before .before .before .before .before .least .ensures .1)))
+slice-aggregate-replay-record c = sym (length-take-le _ _ (omega (arith, c .before .before .before .before .least .ensures .1)))
 
 array-borrow-prefix-stored : tie.Need-array-borrow-prefix-stored
 array-borrow-prefix-stored c = search needs
 
 slice-aggregate-replay-record-2 : tie.Need-slice-aggregate-replay-record-2
-slice-aggregate-replay-record-2 c = sym (length-take-le _ _ (omega (arith, c .before .before .before .before .least2 .ensures .1)))
+slice-aggregate-replay-record-2 c = sym (length-take-le _ _ (omega (arith, c .before .before .least2 .ensures .1)))
 
 slice-aggregate-replay-record-3 : tie.Need-slice-aggregate-replay-record-3
 slice-aggregate-replay-record-3 c = search needs
@@ -79,7 +76,8 @@ replay-next-spec =
     slice-aggregate-read-full
     read-full-requires
     array-read-kind
-    ended-requires
+    slice-aggregate-headed
+    headed-requires
     returns
     slice-aggregate-half-at
     half-at-requires
@@ -89,8 +87,6 @@ replay-next-spec =
     half-at-requires-2
     cast-least-2
     least-requires-2
-    slice-aggregate-summed
-    summed-requires
     array-borrow-prefix-question
     slice-aggregate-replay-record
     array-borrow-prefix-stored

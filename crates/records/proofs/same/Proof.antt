@@ -1,9 +1,9 @@
--- `replay::same` is safe and ends: the index stays inside.
+-- `same` is safe and ends: the index stays inside.
 use Prim.Native.Nat.{_-_, _≤_}
 use lib.ListN.{length}
 use borrow.Author.Needs.{needs}
-use Rattle.replay.proofs.same.Statement.{statement}
-use Rattle.replay.proofs.same.Tie as tie
+use Rattle.records.proofs.same.Statement.{statement}
+use Rattle.records.proofs.same.Tie as tie
 
 abbrev Inv-loop : tie.InvT-loop
 Inv-loop out n stored i₀ i = i ≤ length stored

@@ -1,9 +1,9 @@
--- `replay::sum_of` is safe and ends: the index stays inside.
+-- `sum_of` is safe and ends: the index stays inside.
 use Prim.Native.Nat.{_-_, _≤_}
 use lib.ListN.{length}
 use borrow.Author.Needs.{needs}
-use Rattle.replay.proofs.sum_of.Statement.{statement}
-use Rattle.replay.proofs.sum_of.Tie as tie
+use Rattle.records.proofs.sum_of.Statement.{statement}
+use Rattle.records.proofs.sum_of.Tie as tie
 
 abbrev Inv-loop : tie.InvT-loop
 Inv-loop bytes start sum₀ i₀ sum i = i ≤ length bytes

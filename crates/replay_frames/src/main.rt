@@ -1,0 +1,195 @@
+// Replays the oracle's frames (oracle/record writes the list to crates/replay_frames/stdin): runs each stored file again and compares,
+// byte by byte, the refusal, the four numbers and the whole turn table, which is filled with a pattern first. Prints how many frames
+// there were, how many of them are refused, how many answers differ, and a sum over all bytes of the list.
+//
+// The list is records: the byte 1, the lengths of the question and of the answer in 16 bits each, the question, the answer. A head of
+// zeros ends it. A question is the length of the turn table in 16 bits, and the file. An answer is the refusal or 0, the four
+// numbers and the turn table in 16 bits each. The other tables have the largest frame's sizes.
+use frame_run::Answer;
+use frame_run::Report;
+use records::byte_at;
+use records::half_at;
+use records::least;
+use records::line;
+use records::one_more;
+use records::put;
+use records::put_half;
+use records::put_halves;
+use records::same;
+use records::sum_of;
+
+// How many frames were replayed and refused, how many answers differ, the sum of the bytes, and whether the list goes on.
+struct Tally {
+    frames: u64,
+    refused: u64,
+    differ: u64,
+    sum: u32,
+    more: bool,
+}
+
+fn run_file(file: &[u8], turns: &mut [u16]) -> Answer {
+    let mut parents = [0u16; 4096];
+    let mut body_islands = [0u16; 4096];
+    let mut manifold_islands = [0u16; 4096];
+    let mut joint_islands = [0u16; 4096];
+    let mut types = [0u8; 4096];
+    let mut flags = [0u8; 4096];
+    let mut pairs = [0u16; 16384];
+    let mut island_pairs = [0u16; 16384];
+    let mut enabled = [0u8; 4096];
+    let mut numbers = [0u16; 8192];
+    let mut dynamic_bodies = [0u8; 4096];
+    let mut endpoints = [0u16; 16384];
+    let mut body_offsets = [0u16; 4097];
+    let mut body_constraints = [0u16; 16384];
+    let mut scratch_offsets = [0u16; 8192];
+    let mut constraint_colors = [0u16; 8192];
+    let mut color_stamps = [0u16; 8192];
+    let mut body_stamps = [0u16; 4096];
+    let mut color_offsets = [0u16; 8193];
+    let mut colored_constraints = [0u16; 8192];
+    let mut color_body_offsets = [0u16; 8193];
+    let mut color_bodies = [0u16; 16384];
+    let mut constraint_body_positions = [0u16; 16384];
+    frame_run::run(
+        file,
+        &mut parents,
+        &mut body_islands,
+        &mut manifold_islands,
+        &mut joint_islands,
+        turns,
+        &mut types,
+        &mut flags,
+        &mut pairs,
+        &mut island_pairs,
+        &mut enabled,
+        &mut numbers,
+        &mut dynamic_bodies,
+        &mut endpoints,
+        &mut body_offsets,
+        &mut body_constraints,
+        &mut scratch_offsets,
+        &mut constraint_colors,
+        &mut color_stamps,
+        &mut body_stamps,
+        &mut color_offsets,
+        &mut colored_constraints,
+        &mut color_body_offsets,
+        &mut color_bodies,
+        &mut constraint_body_positions,
+    )
+}
+
+fn refusal_of(answer: Answer) -> u8 {
+    match answer {
+        Answer::Ran(_) => 0,
+        Answer::Refused(n) => n,
+    }
+}
+
+fn report_of(answer: Answer) -> Report {
+    match answer {
+        Answer::Ran(report) => report,
+        Answer::Refused(_) => Report {
+            islands: 0,
+            turns: 0,
+            takes: 0,
+            degree: 0,
+        },
+    }
+}
+
+fn put_number(out: &mut [u8], at: usize, n: usize) -> usize {
+    put_half(out, at, (n % 65536) as u16)
+}
+
+fn put_report(out: &mut [u8], at: usize, report: Report) -> usize {
+    let islands = put_number(out, at, report.islands);
+    let turns = put_number(out, islands, report.turns);
+    let takes = put_number(out, turns, report.takes);
+    put_number(out, takes, report.degree)
+}
+
+fn answer_on(question: &[u8], turns: &mut [u16], out: &mut [u8]) -> usize {
+    let start = least(2, question.len());
+    let answer = run_file(&question[start..], turns);
+    let refused = put(out, 0, refusal_of(answer));
+    let reported = put_report(out, refused, report_of(answer));
+    put_halves(out, reported, turns)
+}
+
+fn answer_frame(question: &[u8], out: &mut [u8]) -> usize {
+    let mut turns = [43981u16; 24576];
+    let n = least(half_at(question, 0) as usize, 24576);
+    answer_on(question, &mut turns[..n], out)
+}
+
+// A record: its question and its stored answer are read and summed, the file is run again, and the answers compared.
+fn replay_record(tally: Tally, question: &mut [u8], stored: &mut [u8], out: &mut [u8]) -> Tally {
+    io::read_full(0, question);
+    io::read_full(0, stored);
+    let n = answer_frame(question, out);
+    let agrees = same(out, n, stored);
+    let refused = byte_at(out, 0) != 0;
+    Tally {
+        frames: one_more(tally.frames, true),
+        refused: one_more(tally.refused, refused),
+        differ: one_more(tally.differ, !agrees),
+        sum: sum_of(stored, sum_of(question, tally.sum)),
+        more: true,
+    }
+}
+
+fn headed(tally: Tally, head: &[u8], more: bool) -> Tally {
+    Tally {
+        frames: tally.frames,
+        refused: tally.refused,
+        differ: tally.differ,
+        sum: sum_of(head, tally.sum),
+        more: more,
+    }
+}
+
+// The next record of the list. A head that is none ends it.
+fn replay_next(tally: Tally) -> Tally {
+    let mut head = [0u8; 5];
+    let mut question = [0u8; 40974];
+    let mut stored = [0u8; 49161];
+    let mut out = [0u8; 49161];
+    io::read_full(0, &mut head);
+    let more = head[0] == 1;
+    let started = headed(tally, &head, more);
+    if !more {
+        return started;
+    }
+    let q = least(half_at(&head, 1) as usize, 40974);
+    let a = least(half_at(&head, 3) as usize, 49161);
+    replay_record(started, &mut question[..q], &mut stored[..a], &mut out)
+}
+
+fn replay_all() -> Tally {
+    let mut tally = Tally {
+        frames: 0,
+        refused: 0,
+        differ: 0,
+        sum: 0,
+        more: true,
+    };
+    let mut left: u32 = 1000000;
+    while 0 < left {
+        tally = replay_next(tally);
+        if !tally.more {
+            return tally;
+        }
+        left -= 1;
+    }
+    tally
+}
+
+fn main() {
+    let tally = replay_all();
+    line(b"frames ", tally.frames);
+    line(b"refused ", tally.refused);
+    line(b"differ ", tally.differ);
+    line(b"sum ", tally.sum as u64);
+}
