@@ -1,4 +1,4 @@
-//! The Rust's calls for a look at their size: what `oracle/size` compiles to an object file. The object has the code of the
+//! The Rust's calls for a look at their size: what `oracle/sizes` compiles to an object file. The object has the code of the
 //! three files and what the compiler copies into it from the standard library, not that library itself.
 #![allow(dead_code, unexpected_cfgs)]
 
