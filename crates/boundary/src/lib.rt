@@ -18,7 +18,7 @@ ghost use Rattle.island.specs.Calls.{islandRefusal, Built};
 ghost use Rattle.island.specs.Answers.{answerNumber, answerIslands};
 ghost use Rattle.colored_bodies.specs.Answers.{takeNumber, withBodies, Placed, Binds};
 ghost use Rattle.constraint_coloring.specs.Calls.{updateNumber, updateChanged, planAfter, positionsNumber};
-ghost use Rattle.boundary.specs.Exports.{planFrom, planNumbers, Updates, Found, positionNumbers, Locates, handedNumbers, Took};
+ghost use Rattle.boundary.specs.Exports.{planFrom, Updates, Found, positionNumbers, Locates, handedNumbers, Took};
 
 fn island_refusal(answer: Answer) -> u8
     ensures { λ r. ⌜ r ≡ answerNumber answer ⌝ }

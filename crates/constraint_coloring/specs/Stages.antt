@@ -4,7 +4,7 @@ use mathlib.Core.Path.{_≡_}
 use mathlib.Core.List.{List}
 use lib.ListN.{length}
 use Rattle.lists.specs.Basics.{over}
-use Rattle.groups.specs.Groups.{Plan, planOf, pairsOf, members, largestGroup, positions, flatten, offsets}
+use Rattle.groups.specs.Groups.{planOf, pairsOf, members, largestGroup, positions, flatten, offsets}
 use Rattle.gathering.specs.Gathers.{Colored, bodiesIn}
 use Rattle.constraint_coloring.specs.Plans.{Tables}
 use Rattle.constraint_coloring.specs.Calls.{carried}

@@ -1,7 +1,7 @@
 -- The file form of a frame: byte 1, then big-endian the length of the rest, B, M, J, types, pairs, joints.
 use Prim.Native.Nat.{ℕ, zero, suc, _+_, _-_, _*_}
-use mathlib.Core.Bool.{Bool, true, false, _&&_}
-use mathlib.Core.List.{List, [], _∷_, _++_, map}
+use mathlib.Core.Bool.{_&&_}
+use mathlib.Core.List.{List, [], _∷_, _++_}
 use lib.Dec.{leb, ltb, eqb}
 use lib.ListN.{length, getD, take, drop}
 use Rattle.frame.specs.Frames.{Frame, frameOf, allSound}

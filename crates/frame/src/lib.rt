@@ -4,13 +4,13 @@
 ghost use mathlib.Core.Path.{_≡_};
 ghost use mathlib.Core.Bool.{_&&_};
 ghost use mathlib.Core.List.{map};
-ghost use Prim.Native.Nat.{ℕ, _+_, _-_, _*_, _/_, _%_, _≤_, _<_};
+ghost use Prim.Native.Nat.{_+_, _-_, _*_, _/_, _%_, _≤_, _<_};
 ghost use lib.Dec.{leb, ltb, eqb};
 ghost use lib.ListN.{length, getD, take, drop};
 ghost use Rattle.lists.specs.Basics.{all};
 ghost use Rattle.frame.specs.Frames.{constraint, constraintsOf, sound, flagOf};
-ghost use Rattle.frame.specs.Questions.{asked, fewEach, typesKnown, bits};
-ghost use Rattle.frame.specs.Files.{byte, half, word, countB, countM, countJ, pairsFrom, enabledFrom, sizeQuestions, fileQuestions};
+ghost use Rattle.frame.specs.Questions.{asked, fewEach, bits};
+ghost use Rattle.frame.specs.Files.{byte, half, word, pairsFrom, enabledFrom, sizeQuestions};
 ghost use Rattle.frame.specs.Answers.{Read};
 
 // How many bodies, manifolds and joints a frame has.

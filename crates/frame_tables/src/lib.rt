@@ -8,7 +8,7 @@ ghost use mathlib.Core.List.{_++_};
 ghost use lib.Dec.{eqb};
 ghost use lib.ListN.{length, take, drop};
 ghost use Rattle.frame.specs.Frames.{frameOf, degreeMax};
-ghost use Rattle.frame.specs.Files.{countM, countJ, pairsAt, manifoldsIn, jointsIn};
+ghost use Rattle.frame.specs.Files.{manifoldsIn, jointsIn};
 ghost use Rattle.island.specs.Calls.{islandRefusal, Built};
 ghost use Rattle.island.specs.Answers.{answerNumber, answerIslands};
 ghost use Rattle.island_numbers.specs.Numbers.{byIsland, Labels, Sortable};
