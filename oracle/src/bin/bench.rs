@@ -1,6 +1,7 @@
 //! Ours beside the Rust, in one process: request 9's frames (request 3's generator, seeds 0 to 99, 4,096 bodies, 4,096
 //! manifolds, no joints). Each frame is measured several times by turns, the least time of each side counts, and of the 100
-//! frames the median. Tables are cleared by each side inside the measurement.
+//! frames the median. Tables are cleared by each side inside the measurement. Before that, the run of each shape that strains a
+//! limit, by the least time of each side.
 use oracle::bench::{RustFrame, RustIslands};
 use oracle::calls::*;
 use oracle::frames;
@@ -98,10 +99,32 @@ fn run(times: usize, lifts: &[Frame]) -> f64 {
     told("run", medians(times, ours, |i| layout.run(&files[i], &mut turns)))
 }
 
+/// The run of each shape that strains a limit: the least time of each side.
+fn shapes(times: usize) {
+    let mut layout = RustIslands::default();
+    for (name, frame) in frames::shapes() {
+        let (m, j) = (frame.manifold_count(), frame.joint_count());
+        let file = scope::write(&frame);
+        let mut turns = vec![0; 3 * (m + j)];
+        let mut tables: RunTables = lent(&run_lengths(frame.types.len(), m, j));
+        let mut least = [f64::MAX; 2];
+        for _ in 0..times {
+            let ours = microseconds(|| {
+                clear(&mut tables);
+                ours::run(&file, &mut tables)
+            });
+            let rust = microseconds(|| layout.run(&file, &mut turns));
+            least = [least[0].min(ours), least[1].min(rust)];
+        }
+        told(&format!("run of {name}"), least);
+    }
+}
+
 fn main() {
     let times = std::env::args().nth(1).map_or(TURNS, |n| n.parse().expect("how often each frame is measured"));
     let lifts: Vec<Frame> = (0..SEEDS).map(|seed| frames::lift(seed, 4096, 4096, 0)).collect();
     let rust: Vec<RustFrame> = lifts.iter().map(RustFrame::of).collect();
+    shapes(times);
     islands(times, &lifts, &rust);
     let plan = plan(times, &lifts, &rust);
     let run = run(times, &lifts);
