@@ -16,7 +16,7 @@ use Rattle.schedules.proofs.Condition3.{condition3}
 use Rattle.frame_tables.specs.Filled.{soundness}
 use Rattle.frame_run.specs.Calls.{Lent, roomIn}
 use Rattle.frame_run.specs.Condition.{Claim}
-use Rattle.frame_run.proofs.Entry.{all-asked}
+use Rattle.frame_run.proofs.Runs.{all-asked}
 
 -- a frame that the run accepts is accepted, and the tables have room
 module _ (bs : List ℕ) (l : Lent) (e : runRefusal bs (roomIn bs l) ≡ 0) where
@@ -24,11 +24,11 @@ module _ (bs : List ℕ) (l : Lent) (e : runRefusal bs (roomIn bs l) ≡ 0) wher
   read = by-cases (eqb (asked (fileQuestions bs)) 0)
       (λ t. eqb-true _ 0 t)
       (λ t.
-      let z : asked (fileQuestions bs) ≡ 0 = rw t at (sym (all-asked bs l) ∙ e) in
+      let z : asked (fileQuestions bs) ≡ 0 = rw t at (sym (all-asked bs (roomIn bs l)) ∙ e) in
       absurd (eqb-false _ 0 t z))
 
   asked-rest : cond (roomIn bs l) (soundness bs) 6 ≡ 0
-  asked-rest = rw read at (sym (all-asked bs l) ∙ e)
+  asked-rest = rw read at (sym (all-asked bs (roomIn bs l)) ∙ e)
 
   room : roomIn bs l ≡ true
   room = by-cases (roomIn bs l)

@@ -15,7 +15,6 @@ use Rattle.frame.specs.Questions.{Question, question, asked}
 use Rattle.frame.specs.Files.{countB, countM, countJ, decode, fileQuestions}
 use Rattle.frame.specs.declared.Reading.{Reading}
 use Rattle.frame.specs.Answers.{readSizes, sizesOf, Read}
-use Rattle.frame.proofs.Questions.{asked-append}
 use Rattle.island.specs.Calls.{labelsAfter, Built}
 use Rattle.constraint_coloring.specs.Plans as plans
 use Rattle.constraint_coloring.proofs.Accepted.{Fitted, fitted, fitted-all}
@@ -27,6 +26,7 @@ use Rattle.frame_run.specs.declared.Answer.{Answer}
 use Rattle.frame_run.specs.declared.Answer.the-variants as answer
 use Rattle.frame_run.specs.Calls.{Lent, roomFor, roomIn, Worked, Ran}
 use Rattle.frame_run.specs.Sized.{Spacious, RanSized}
+use Rattle.frame_run.proofs.Runs.{all-asked}
 
 -- ---- refusals 1 to 6
 
@@ -50,11 +50,6 @@ pub record Worn (l m : Lent) : Type 0 where
 module _ (bs : List ℕ) (l : Lent) where
   abbrev k : ℕ
   k = runRefusal bs (roomIn bs l)
-
-  -- questions 6 and 7 come after those of the file
-  pub all-asked : k ≡ cond (eqb (asked (fileQuestions bs)) 0) (cond (roomIn bs l) (soundness bs) 6) (asked (fileQuestions bs))
-  unfolding runRefusal soundness
-  all-asked = asked-append (fileQuestions bs) (question 6 (roomIn bs l) ∷ question 7 (allSound (decode bs)) ∷ []) refl
 
   kept : (x : List ℕ) → Worked k x x
   kept x = record { kept = λ a b. refl; long = refl }
@@ -144,10 +139,10 @@ module _ (bs : List ℕ) (l : Lent) where
         let q : asked (fileQuestions bs) ≡ 0 = sym file ∙ eqb-true read 0 t in
         let six = roomless nz t in
         let no : roomIn bs l ≡ false = by-cases (roomIn bs l) (λ s. absurd (nz (first ∙ rw (t, roomed q ∙ s)))) (λ s. s) in
-        all-asked ∙ rw (q, no) (sym six))
+        all-asked bs (roomIn bs l) ∙ rw (q, no) (sym six))
         (λ t.
         let y = unreadable t in
-        all-asked ∙ rw (ne-eqb (asked (fileQuestions bs)) 0 (λ z. nz (y ∙ z))) (sym y))
+        all-asked bs (roomIn bs l) ∙ rw (ne-eqb (asked (fileQuestions bs)) 0 (λ z. nz (y ∙ z))) (sym y))
 
     not-seven : (n ≡ 0 → ⊥) → n ≡ 7 → ⊥
     not-seven nz s = by-cases (eqb read 0)
@@ -161,7 +156,7 @@ module _ (bs : List ℕ) (l : Lent) where
 
   module _ (q : asked (fileQuestions bs) ≡ 0) (r : roomIn bs l ≡ true) where
     seven-left : k ≡ soundness bs
-    seven-left = all-asked ∙ rw (q, r)
+    seven-left = all-asked bs (roomIn bs l) ∙ rw (q, r)
 
     -- the lengths that question 6 wants, but for the plan's tables
     abbrev pub wanted : List (ℕ × ℕ)

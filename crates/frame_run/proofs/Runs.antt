@@ -2,9 +2,10 @@
 -- constraint that touches a dynamic body.
 use Prim.Native.Nat.{ℕ, _+_, _*_, _/_, _≤_, _<_}
 use mathlib.Core.Path.{_≡_, refl, sym, ap, _∙_}
-use mathlib.Core.Bool.{true, false, cond}
+use mathlib.Core.Bool.{Bool, true, false, cond}
 use mathlib.Core.List.{List, [], _∷_, _++_, map}
 use native.Mathlib.Omega.{arith}
+use lib.Dec.{eqb}
 use lib.ListN.{length, take, length-map}
 use Rattle.lists.specs.Basics.{over, put, joinMap}
 use Rattle.lists.proofs.Laws.{by-cases}
@@ -56,14 +57,18 @@ roomy-of bs pa bi mi ji ts ip ns t h =
       counts = w .1 .1 .1 .1 .1 .1 .1 .1 .0;
     }
 
+-- questions 6 and 7 come after those of the file
+pub all-asked : (bs : List ℕ) (room : Bool) → runRefusal bs room ≡ cond (eqb (asked (fileQuestions bs)) 0) (cond room (soundness bs) 6) (asked (fileQuestions bs))
+unfolding runRefusal soundness
+all-asked bs room = asked-append (fileQuestions bs) (question 6 room ∷ question 7 (allSound (decode bs)) ∷ []) refl
+
 module _ (bs : List ℕ) (e : asked (fileQuestions bs) ≡ 0) where
   abbrev f : Frame
   f = decode bs
 
   -- where questions 1 to 6 are passed, 7 is left
-  pub run-refusal : runRefusal bs true ≡ soundness bs
-  unfolding runRefusal soundness
-  run-refusal = asked-append (fileQuestions bs) (question 6 true ∷ question 7 (allSound f) ∷ []) refl ∙ rw e
+  run-refusal : runRefusal bs true ≡ soundness bs
+  run-refusal = all-asked bs true ∙ rw e
 
   module _ (ts fs ps es pa bi mi ji pa′ bi′ mi′ ji′ ns : List ℕ) (r : Filling) (h : Fills bs ts fs ps es pa bi mi ji pa′ bi′ mi′ ji′ ns r) where
     abbrev labels : List ℕ

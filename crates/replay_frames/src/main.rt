@@ -27,59 +27,6 @@ struct Tally {
     more: bool,
 }
 
-fn run_file(file: &[u8], turns: &mut [u16]) -> Answer {
-    let mut parents = [0u16; 4096];
-    let mut body_islands = [0u16; 4096];
-    let mut manifold_islands = [0u16; 4096];
-    let mut joint_islands = [0u16; 4096];
-    let mut types = [0u8; 4096];
-    let mut flags = [0u8; 4096];
-    let mut pairs = [0u16; 16384];
-    let mut island_pairs = [0u16; 16384];
-    let mut enabled = [0u8; 4096];
-    let mut numbers = [0u16; 8192];
-    let mut dynamic_bodies = [0u8; 4096];
-    let mut endpoints = [0u16; 16384];
-    let mut body_offsets = [0u16; 4097];
-    let mut body_constraints = [0u16; 16384];
-    let mut scratch_offsets = [0u16; 8192];
-    let mut constraint_colors = [0u16; 8192];
-    let mut color_stamps = [0u16; 8192];
-    let mut body_stamps = [0u16; 4096];
-    let mut color_offsets = [0u16; 8193];
-    let mut colored_constraints = [0u16; 8192];
-    let mut color_body_offsets = [0u16; 8193];
-    let mut color_bodies = [0u16; 16384];
-    let mut constraint_body_positions = [0u16; 16384];
-    frame_run::run(
-        file,
-        &mut parents,
-        &mut body_islands,
-        &mut manifold_islands,
-        &mut joint_islands,
-        turns,
-        &mut types,
-        &mut flags,
-        &mut pairs,
-        &mut island_pairs,
-        &mut enabled,
-        &mut numbers,
-        &mut dynamic_bodies,
-        &mut endpoints,
-        &mut body_offsets,
-        &mut body_constraints,
-        &mut scratch_offsets,
-        &mut constraint_colors,
-        &mut color_stamps,
-        &mut body_stamps,
-        &mut color_offsets,
-        &mut colored_constraints,
-        &mut color_body_offsets,
-        &mut color_bodies,
-        &mut constraint_body_positions,
-    )
-}
-
 fn refusal_of(answer: Answer) -> u8 {
     match answer {
         Answer::Ran(_) => 0,
@@ -112,7 +59,7 @@ fn put_report(out: &mut [u8], at: usize, report: Report) -> usize {
 
 fn answer_on(question: &[u8], turns: &mut [u16], out: &mut [u8]) -> usize {
     let start = least(2, question.len());
-    let answer = run_file(&question[start..], turns);
+    let answer = own_tables::run_file(&question[start..], turns);
     let refused = put(out, 0, refusal_of(answer));
     let reported = put_report(out, refused, report_of(answer));
     put_halves(out, reported, turns)

@@ -1,7 +1,77 @@
--- `run_file` is safe: each array is lent whole, and the run keeps the turn table's length.
+-- Every table but the turn table has the largest size.
+use Prim.Native.Nat.{ℕ, _≤_}
+use mathlib.Core.List.{List}
+use native.Mathlib.Omega.{arith}
 use borrow.Author.Needs.{needs}
-use Rattle.replay_frames.proofs.run_file.Statement.{statement}
-use Rattle.replay_frames.proofs.run_file.Tie as tie
+use lib.ListN.{length, replicate, length-replicate}
+use Rattle.frame_run.specs.Calls.{Lent}
+use Rattle.own_tables.proofs.Rooms.{Ample, ran-alone}
+use Rattle.own_tables.proofs.run_file.Statement.{statement}
+use Rattle.own_tables.proofs.run_file.Tie as tie
+
+abbrev zeros : ℕ → List ℕ
+zeros n = replicate n 0
+
+-- the tables as they are lent
+abbrev own : List ℕ → Lent
+own ts = record {
+  parents = zeros 4096;
+  body-islands = zeros 4096;
+  manifold-islands = zeros 4096;
+  joint-islands = zeros 4096;
+  turns = ts;
+  types = zeros 4096;
+  flags = zeros 4096;
+  pairs = zeros 16384;
+  island-pairs = zeros 16384;
+  enabled = zeros 4096;
+  numbers = zeros 8192;
+  plan = record {
+    dynamic-bodies = zeros 4096;
+    endpoints = zeros 16384;
+    body-offsets = zeros 4097;
+    body-constraints = zeros 16384;
+    scratch-offsets = zeros 8192;
+    constraint-colors = zeros 8192;
+    color-stamps = zeros 8192;
+    body-stamps = zeros 4096;
+    color-offsets = zeros 8193;
+    colored-constraints = zeros 8192;
+    color-body-offsets = zeros 8193;
+    color-bodies = zeros 16384;
+    constraint-body-positions = zeros 16384;
+  };
+}
+
+long : (n : ℕ) → n ≤ length (zeros n)
+long n = omega (arith, length-replicate {A = ℕ} n 0)
+
+ample : (ts : List ℕ) → Ample (own ts)
+ample ts = record {
+  parents = long 4096;
+  body-islands = long 4096;
+  manifold-islands = long 4096;
+  joint-islands = long 4096;
+  types = long 4096;
+  flags = long 4096;
+  pairs = long 16384;
+  island-pairs = long 16384;
+  enabled = long 4096;
+  numbers = long 8192;
+  dynamic-bodies = long 4096;
+  endpoints = long 16384;
+  body-offsets = long 4097;
+  body-constraints = long 16384;
+  scratch-offsets = long 8192;
+  constraint-colors = long 8192;
+  color-stamps = long 8192;
+  body-stamps = long 4096;
+  color-offsets = long 8193;
+  colored-constraints = long 8192;
+  color-body-offsets = long 8193;
+  color-bodies = long 16384;
+  constraint-body-positions = long 16384;
+}
 
 slice-aggregate-run : tie.Need-slice-aggregate-run
 slice-aggregate-run c = search needs
@@ -75,11 +145,18 @@ slice-aggregate-run-23 c = search needs
 run-requires : tie.Need-run-requires
 run-requires c κs = search needs
 
+-- the run, seen from the end, and the start from there
+abbrev ran : tie.After-constraint-body-positions2 → tie.After-run
+ran c = c .before .before .before .before .before .before .before .before .before .before .before .before .before .before .before .before .before .before .before .before .before .before .before .before .before
+
+abbrev start : tie.After-run → tie.Start
+start w = w .before .before .before .before .before .before .before .before .before .before .before .before .before .before .before .before .before .before .before .before .before .before .before .before .before .before .before
+
 same-length : tie.Need-same-length
-same-length c = c .before .before .before .before .before .before .before .before .before .before .before .before .before .before .before .before .before .before .before .before .before .before .before .before .before .run .kept .1 .1 .1 .1 .1 .0
+same-length c = ran c .run .kept .1 .1 .1 .1 .1 .0
 
 returns : tie.Need-returns
-returns c = search needs
+returns c = ran-alone _ (own (start (ran c) .args .turns .now)) (ample (start (ran c) .args .turns .now)) _ _ (ran c .run .ensures)
 
 pub run-file-spec : {M : Type 1} → statement M
 run-file-spec =
