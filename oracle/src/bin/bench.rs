@@ -1,6 +1,6 @@
 //! Ours beside the Rust, in one process: request 9's frames (request 3's generator, seeds 0 to 99, 4,096 bodies, 4,096
 //! manifolds, no joints). Each frame is measured several times by turns, the least time of each side counts, and of the 100
-//! frames the median. Tables are cleared by each side inside the measurement. Before that, the run of each shape that strains a
+//! frames the median. Tables are cleared by each side inside the measurement. After that, the run of each shape that strains a
 //! limit, by the least time of each side.
 use oracle::bench::{RustFrame, RustIslands};
 use oracle::calls::*;
@@ -99,10 +99,11 @@ fn run(times: usize, lifts: &[Frame]) -> f64 {
     told("run", medians(times, ours, |i| layout.run(&files[i], &mut turns)))
 }
 
-/// The run of each shape that strains a limit: the least time of each side.
+/// The run of each shape that strains a limit: the least time of each side. With no bodies there would be nothing but the
+/// clearing to measure.
 fn shapes(times: usize) {
     let mut layout = RustIslands::default();
-    for (name, frame) in frames::shapes() {
+    for (name, frame) in frames::shapes().into_iter().filter(|(_, frame)| !frame.types.is_empty()) {
         let (m, j) = (frame.manifold_count(), frame.joint_count());
         let file = scope::write(&frame);
         let mut turns = vec![0; 3 * (m + j)];
@@ -124,9 +125,9 @@ fn main() {
     let times = std::env::args().nth(1).map_or(TURNS, |n| n.parse().expect("how often each frame is measured"));
     let lifts: Vec<Frame> = (0..SEEDS).map(|seed| frames::lift(seed, 4096, 4096, 0)).collect();
     let rust: Vec<RustFrame> = lifts.iter().map(RustFrame::of).collect();
-    shapes(times);
     islands(times, &lifts, &rust);
     let plan = plan(times, &lifts, &rust);
     let run = run(times, &lifts);
+    shapes(times);
     println!("plan ratio {plan:.2} run ratio {run:.2}");
 }
