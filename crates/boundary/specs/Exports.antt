@@ -74,9 +74,9 @@ pub record Took (b : BodyBinding) (ps : List ℕ) (left : BodyBinding) (number :
 abbrev pub reportNumbers : Report → List ℕ
 reportNumbers r = r .islands ∷ r .turns ∷ r .takes ∷ r .degree ∷ []
 
--- a run of the file bs on the tables l, which are left as m, where k is the refusal or 0
-pub record Runs (bs : List ℕ) (k : ℕ) (l m : Lent) (number : ℕ) (report : List ℕ) : Type 0 where
+-- a run of the file bs on the tables l, which are left as m
+pub record Runs (bs : List ℕ) (l m : Lent) (number : ℕ) (report : List ℕ) : Type 0 where
   pub answer : Answer
-  pub ran : Ran bs k l m answer
+  pub ran : Ran bs l m answer
   pub refusal : number ≡ runNumber answer
   pub numbers : report ≡ reportNumbers (runReport answer)

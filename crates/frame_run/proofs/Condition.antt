@@ -11,15 +11,14 @@ use Rattle.frame.specs.Frames.{allSound}
 use Rattle.frame.specs.Questions.{question, asked}
 use Rattle.frame.specs.Files.{decode, fileQuestions, frameRefusal}
 use Rattle.frame.proofs.Questions.{asked-append}
-use Rattle.schedules.specs.Runs.{runRefusal}
 use Rattle.schedules.proofs.Condition3.{condition3}
 use Rattle.frame_tables.specs.Filled.{soundness}
-use Rattle.frame_run.specs.Calls.{Lent, roomIn}
+use Rattle.frame_run.specs.Calls.{Lent, roomIn, refusalIn}
 use Rattle.frame_run.specs.Condition.{Claim}
 use Rattle.frame_run.proofs.Runs.{all-asked}
 
 -- a frame that the run accepts is accepted, and the tables have room
-module _ (bs : List ℕ) (l : Lent) (e : runRefusal bs (roomIn bs l) ≡ 0) where
+module _ (bs : List ℕ) (l : Lent) (e : refusalIn bs l ≡ 0) where
   read : asked (fileQuestions bs) ≡ 0
   read = by-cases (eqb (asked (fileQuestions bs)) 0)
       (λ t. eqb-true _ 0 t)

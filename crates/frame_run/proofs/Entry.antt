@@ -18,13 +18,13 @@ use Rattle.frame.specs.Answers.{readSizes, sizesOf, Read}
 use Rattle.island.specs.Calls.{labelsAfter, Built}
 use Rattle.constraint_coloring.specs.Plans as plans
 use Rattle.constraint_coloring.proofs.Accepted.{Fitted, fitted, fitted-all}
-use Rattle.schedules.specs.Runs.{refused, runRefusal, runOf}
+use Rattle.schedules.specs.Runs.{refused, runOf}
 use Rattle.island_run.proofs.Rooms.{SameLengths}
 use Rattle.frame_tables.specs.Filled.{soundness}
 use Rattle.frame_tables.proofs.Decoding.{file-sized}
 use Rattle.frame_run.specs.declared.Answer.{Answer}
 use Rattle.frame_run.specs.declared.Answer.the-variants as answer
-use Rattle.frame_run.specs.Calls.{Lent, roomFor, roomIn, Worked, Ran}
+use Rattle.frame_run.specs.Calls.{Lent, roomFor, roomIn, refusalIn, Worked, Ran}
 use Rattle.frame_run.specs.Sized.{Spacious, RanSized}
 use Rattle.frame_run.proofs.Runs.{all-asked}
 
@@ -49,7 +49,7 @@ pub record Worn (l m : Lent) : Type 0 where
 
 module _ (bs : List ℕ) (l : Lent) where
   abbrev k : ℕ
-  k = runRefusal bs (roomIn bs l)
+  k = refusalIn bs l
 
   kept : (x : List ℕ) → Worked k x x
   kept x = record { kept = λ a b. refl; long = refl }
@@ -77,7 +77,7 @@ module _ (bs : List ℕ) (l : Lent) where
     }
 
     -- nothing is changed
-    pub refused-ran : Ran bs k l l (answer.Refused n)
+    pub refused-ran : Ran bs l l (answer.Refused n)
     refused-ran = record {
       refusal = sym e;
       report = rw none-run;
@@ -149,7 +149,7 @@ module _ (bs : List ℕ) (l : Lent) where
         (λ t. omega (arith, s, roomless nz t))
         (λ t. omega (arith, s, unreadable t, asked-most 5 (fileQuestions bs) refl))
 
-    pub stopped : (n ≡ 0 → ⊥) → Ran bs k l l (answer.Refused n)
+    pub stopped : (n ≡ 0 → ⊥) → Ran bs l l (answer.Refused n)
     stopped nz = refused-ran n (refusal-is nz) nz (not-seven nz)
 
   -- ---- questions 1 to 6 are passed
@@ -197,7 +197,7 @@ module _ (bs : List ℕ) (l : Lent) where
     worked : (x y : List ℕ) → length y ≡ length x → Worked k x y
     worked x y e = record { kept = λ a b. absurd (seven-or-none a b); long = e }
 
-    pub sized-ran : (m : Lent) (a : Answer) → RanSized bs (l .parents) (l .body-islands) (l .manifold-islands) (l .joint-islands) (l .turns) (m .parents) (m .body-islands) (m .manifold-islands) (m .joint-islands) (m .turns) a → Worn l m → Ran bs k l m a
+    pub sized-ran : (m : Lent) (a : Answer) → RanSized bs (l .parents) (l .body-islands) (l .manifold-islands) (l .joint-islands) (l .turns) (m .parents) (m .body-islands) (m .manifold-islands) (m .joint-islands) (m .turns) a → Worn l m → Ran bs l m a
     sized-ran m a h s = record {
       refusal = h .refusal ∙ sym seven-left;
       report = rw r (h .report);

@@ -9,7 +9,7 @@ use Rattle.lists.specs.Basics.{over}
 use Rattle.frame.specs.Files.{countB, countM, countJ, decode}
 use Rattle.island.specs.Calls.{Built}
 use Rattle.constraint_coloring.specs.Plans as plans
-use Rattle.schedules.specs.Runs.{runOf}
+use Rattle.schedules.specs.Runs.{runRefusal, runOf}
 use Rattle.frame_run.specs.declared.Report.{Report}
 use Rattle.frame_run.specs.declared.Answer.{Answer}
 use Rattle.frame_run.specs.declared.Answer.the-variants as answer
@@ -58,9 +58,13 @@ pub record Worked (k : ℕ) (old new : List ℕ) : Type 0 where
   pub kept : (k ≡ 0 → ⊥) → (k ≡ 7 → ⊥) → new ≡ old
   pub long : length new ≡ length old
 
--- the contract: the lent tables at entry (l) and at exit (m), where k is the refusal or 0
-pub record Ran (bs : List ℕ) (k : ℕ) (l m : Lent) (r : Answer) : Type 0 where
-  pub refusal : runNumber r ≡ k
+-- the refusal of the file bs on the tables l, or 0
+abbrev pub refusalIn : List ℕ → Lent → ℕ
+refusalIn bs l = runRefusal bs (roomIn bs l)
+
+-- the contract: the lent tables at entry (l) and at exit (m), and the answer
+pub record Ran (bs : List ℕ) (l m : Lent) (r : Answer) : Type 0 where
+  pub refusal : runNumber r ≡ refusalIn bs l
   pub report : runReport r ≡ record {
     islands = runOf bs (roomIn bs l) .islands;
     turns = runOf bs (roomIn bs l) .turns;
@@ -70,23 +74,23 @@ pub record Ran (bs : List ℕ) (k : ℕ) (l m : Lent) (r : Answer) : Type 0 wher
   -- the turns from place 0 on; past them the turn table keeps its content
   pub turns : m .turns ≡ over (runOf bs (roomIn bs l) .table) (l .turns)
   -- the island tables stand as an islands call leaves them
-  pub islands : Built (decode bs) k (l .parents) (l .body-islands) (l .manifold-islands) (l .joint-islands) (m .parents) (m .body-islands) (m .manifold-islands) (m .joint-islands) (runNumber r) (runReport r .islands)
-  pub types : Worked k (l .types) (m .types)
-  pub flags : Worked k (l .flags) (m .flags)
-  pub pairs : Worked k (l .pairs) (m .pairs)
-  pub island-pairs : Worked k (l .island-pairs) (m .island-pairs)
-  pub enabled : Worked k (l .enabled) (m .enabled)
-  pub numbers : Worked k (l .numbers) (m .numbers)
-  pub dynamic-bodies : Worked k (l .plan .dynamic-bodies) (m .plan .dynamic-bodies)
-  pub endpoints : Worked k (l .plan .endpoints) (m .plan .endpoints)
-  pub body-offsets : Worked k (l .plan .body-offsets) (m .plan .body-offsets)
-  pub body-constraints : Worked k (l .plan .body-constraints) (m .plan .body-constraints)
-  pub scratch-offsets : Worked k (l .plan .scratch-offsets) (m .plan .scratch-offsets)
-  pub constraint-colors : Worked k (l .plan .constraint-colors) (m .plan .constraint-colors)
-  pub color-stamps : Worked k (l .plan .color-stamps) (m .plan .color-stamps)
-  pub body-stamps : Worked k (l .plan .body-stamps) (m .plan .body-stamps)
-  pub color-offsets : Worked k (l .plan .color-offsets) (m .plan .color-offsets)
-  pub colored-constraints : Worked k (l .plan .colored-constraints) (m .plan .colored-constraints)
-  pub color-body-offsets : Worked k (l .plan .color-body-offsets) (m .plan .color-body-offsets)
-  pub color-bodies : Worked k (l .plan .color-bodies) (m .plan .color-bodies)
-  pub constraint-body-positions : Worked k (l .plan .constraint-body-positions) (m .plan .constraint-body-positions)
+  pub islands : Built (decode bs) (refusalIn bs l) (l .parents) (l .body-islands) (l .manifold-islands) (l .joint-islands) (m .parents) (m .body-islands) (m .manifold-islands) (m .joint-islands) (runNumber r) (runReport r .islands)
+  pub types : Worked (refusalIn bs l) (l .types) (m .types)
+  pub flags : Worked (refusalIn bs l) (l .flags) (m .flags)
+  pub pairs : Worked (refusalIn bs l) (l .pairs) (m .pairs)
+  pub island-pairs : Worked (refusalIn bs l) (l .island-pairs) (m .island-pairs)
+  pub enabled : Worked (refusalIn bs l) (l .enabled) (m .enabled)
+  pub numbers : Worked (refusalIn bs l) (l .numbers) (m .numbers)
+  pub dynamic-bodies : Worked (refusalIn bs l) (l .plan .dynamic-bodies) (m .plan .dynamic-bodies)
+  pub endpoints : Worked (refusalIn bs l) (l .plan .endpoints) (m .plan .endpoints)
+  pub body-offsets : Worked (refusalIn bs l) (l .plan .body-offsets) (m .plan .body-offsets)
+  pub body-constraints : Worked (refusalIn bs l) (l .plan .body-constraints) (m .plan .body-constraints)
+  pub scratch-offsets : Worked (refusalIn bs l) (l .plan .scratch-offsets) (m .plan .scratch-offsets)
+  pub constraint-colors : Worked (refusalIn bs l) (l .plan .constraint-colors) (m .plan .constraint-colors)
+  pub color-stamps : Worked (refusalIn bs l) (l .plan .color-stamps) (m .plan .color-stamps)
+  pub body-stamps : Worked (refusalIn bs l) (l .plan .body-stamps) (m .plan .body-stamps)
+  pub color-offsets : Worked (refusalIn bs l) (l .plan .color-offsets) (m .plan .color-offsets)
+  pub colored-constraints : Worked (refusalIn bs l) (l .plan .colored-constraints) (m .plan .colored-constraints)
+  pub color-body-offsets : Worked (refusalIn bs l) (l .plan .color-body-offsets) (m .plan .color-body-offsets)
+  pub color-bodies : Worked (refusalIn bs l) (l .plan .color-bodies) (m .plan .color-bodies)
+  pub constraint-body-positions : Worked (refusalIn bs l) (l .plan .constraint-body-positions) (m .plan .constraint-body-positions)

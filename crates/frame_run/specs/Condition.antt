@@ -7,10 +7,10 @@ use Rattle.lists.specs.Basics.{over, joinMap}
 use Rattle.frame.specs.Frames.{degreeMax}
 use Rattle.frame.specs.Files.{decode}
 use Rattle.island.specs.Islands.{islandCount}
-use Rattle.schedules.specs.Runs.{Plans, Orders, schedule, rising, turnOf, turnsOf, takesOf, runRefusal}
+use Rattle.schedules.specs.Runs.{Plans, Orders, schedule, rising, turnOf, turnsOf, takesOf}
 use Rattle.schedules.specs.Condition.{Schedule, Condition3}
 use Rattle.frame_run.specs.declared.Answer.{Answer}
-use Rattle.frame_run.specs.Calls.{Lent, roomIn, Ran, runReport}
+use Rattle.frame_run.specs.Calls.{Lent, refusalIn, Ran, runReport}
 
 -- the schedule meets condition 3; the run reports its islands, turns and takes, and D, and its turns are those of the rising orders
 pub record Conditioned (bs : List ℕ) (l m : Lent) (r : Answer) (p : Plans) (o : Orders) : Type 0 where
@@ -25,4 +25,4 @@ pub record Conditioned (bs : List ℕ) (l m : Lent) (r : Answer) (p : Plans) (o 
 
 -- of every call that the contract of `run` allows and that is accepted, and every schedule of its frame
 abbrev pub Claim : Type 0
-Claim = (bs : List ℕ) (l m : Lent) (r : Answer) (p : Plans) (o : Orders) → runRefusal bs (roomIn bs l) ≡ 0 → Ran bs (runRefusal bs (roomIn bs l)) l m r → Schedule (decode bs) p o → Conditioned bs l m r p o
+Claim = (bs : List ℕ) (l m : Lent) (r : Answer) (p : Plans) (o : Orders) → refusalIn bs l ≡ 0 → Ran bs l m r → Schedule (decode bs) p o → Conditioned bs l m r p o

@@ -9,9 +9,8 @@ ghost use mathlib.Core.Path.{_≡_};
 ghost use mathlib.Core.Bool.{_&&_, cond};
 ghost use lib.Dec.{leb, eqb};
 ghost use Rattle.frame.specs.Answers.{readNumber, readSizes};
-ghost use Rattle.schedules.specs.Runs.{runRefusal};
 ghost use Rattle.frame_tables.specs.Filled.{Decodable};
-ghost use Rattle.frame_run.specs.Calls.{roomIn, Ran};
+ghost use Rattle.frame_run.specs.Calls.{Ran};
 ghost use Rattle.frame_run.specs.Sized.{Told, Spacious, RanSized};
 
 // What a run carries: islands, turns, takes of dynamic bodies, and the largest number of constraints on one dynamic body.
@@ -122,6 +121,7 @@ fn run_sized(
     told(filling, tally)
 }
 
+// What reading the file answered: the refusal or 0, and B, M and J.
 fn number_of(reading: Reading) -> u8
     ensures { λ r. ⌜ r ≡ readNumber reading ⌝ }
 {
@@ -223,7 +223,7 @@ pub fn run(
     color_bodies: &mut [u16],
     constraint_body_positions: &mut [u16],
 ) -> Answer
-    ensures { λ r. ⌜ Ran (now (frame .entry)) (runRefusal (now (frame .entry)) (roomIn (now (frame .entry)) (record { parents = now (parents .entry); body-islands = now («body_islands» .entry); manifold-islands = now («manifold_islands» .entry); joint-islands = now («joint_islands» .entry); turns = now (turns .entry); types = now (types .entry); flags = now (flags .entry); pairs = now (pairs .entry); island-pairs = now («island_pairs» .entry); enabled = now (enabled .entry); numbers = now (numbers .entry); plan = record { dynamic-bodies = now («dynamic_bodies» .entry); endpoints = now (endpoints .entry); body-offsets = now («body_offsets» .entry); body-constraints = now («body_constraints» .entry); scratch-offsets = now («scratch_offsets» .entry); constraint-colors = now («constraint_colors» .entry); color-stamps = now («color_stamps» .entry); body-stamps = now («body_stamps» .entry); color-offsets = now («color_offsets» .entry); colored-constraints = now («colored_constraints» .entry); color-body-offsets = now («color_body_offsets» .entry); color-bodies = now («color_bodies» .entry); constraint-body-positions = now («constraint_body_positions» .entry) } })))
+    ensures { λ r. ⌜ Ran (now (frame .entry))
         (record { parents = now (parents .entry); body-islands = now («body_islands» .entry); manifold-islands = now («manifold_islands» .entry); joint-islands = now («joint_islands» .entry); turns = now (turns .entry); types = now (types .entry); flags = now (flags .entry); pairs = now (pairs .entry); island-pairs = now («island_pairs» .entry); enabled = now (enabled .entry); numbers = now (numbers .entry); plan = record { dynamic-bodies = now («dynamic_bodies» .entry); endpoints = now (endpoints .entry); body-offsets = now («body_offsets» .entry); body-constraints = now («body_constraints» .entry); scratch-offsets = now («scratch_offsets» .entry); constraint-colors = now («constraint_colors» .entry); color-stamps = now («color_stamps» .entry); body-stamps = now («body_stamps» .entry); color-offsets = now («color_offsets» .entry); colored-constraints = now («colored_constraints» .entry); color-body-offsets = now («color_body_offsets» .entry); color-bodies = now («color_bodies» .entry); constraint-body-positions = now («constraint_body_positions» .entry) } })
         (record { parents = now (parents .exit); body-islands = now («body_islands» .exit); manifold-islands = now («manifold_islands» .exit); joint-islands = now («joint_islands» .exit); turns = now (turns .exit); types = now (types .exit); flags = now (flags .exit); pairs = now (pairs .exit); island-pairs = now («island_pairs» .exit); enabled = now (enabled .exit); numbers = now (numbers .exit); plan = record { dynamic-bodies = now («dynamic_bodies» .exit); endpoints = now (endpoints .exit); body-offsets = now («body_offsets» .exit); body-constraints = now («body_constraints» .exit); scratch-offsets = now («scratch_offsets» .exit); constraint-colors = now («constraint_colors» .exit); color-stamps = now («color_stamps» .exit); body-stamps = now («body_stamps» .exit); color-offsets = now («color_offsets» .exit); colored-constraints = now («colored_constraints» .exit); color-body-offsets = now («color_body_offsets» .exit); color-bodies = now («color_bodies» .exit); constraint-body-positions = now («constraint_body_positions» .exit) } }) r ⌝ }
 {

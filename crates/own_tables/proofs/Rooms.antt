@@ -84,7 +84,7 @@ module _ (bs : List ℕ) (l : Lent) (h : Ample l) where
   unfolding runOf
   run-same = rw refusal-same
 
-  pub ran-alone : (m : Lent) (r : Answer) → Ran bs (runRefusal bs (roomIn bs l)) l m r → RanAlone bs (l .turns) (m .turns) r
+  pub ran-alone : (m : Lent) (r : Answer) → Ran bs l m r → RanAlone bs (l .turns) (m .turns) r
   ran-alone m r a = record {
     refusal = a .refusal ∙ refusal-same;
     report = a .report ∙ rw run-same;
