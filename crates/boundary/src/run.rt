@@ -1,32 +1,5 @@
 // The frame run for C and Rust.
-use frame_run::Answer;
-use frame_run::Report;
-ghost use mathlib.Core.Path.{_≡_};
-ghost use Rattle.frame_run.specs.Calls.{runNumber, runReport};
 ghost use Rattle.boundary.specs.Exports.{Runs};
-
-fn run_refusal(answer: Answer) -> u8
-    ensures { λ r. ⌜ r ≡ runNumber answer ⌝ }
-{
-    match answer {
-        Answer::Ran(_) => 0,
-        Answer::Refused(n) => n,
-    }
-}
-
-fn reported(answer: Answer) -> Report
-    ensures { λ r. ⌜ r ≡ runReport answer ⌝ }
-{
-    match answer {
-        Answer::Ran(report) => report,
-        Answer::Refused(_) => Report {
-            islands: 0,
-            turns: 0,
-            takes: 0,
-            degree: 0,
-        },
-    }
-}
 
 // The run of a file, and its four numbers: islands, turns, takes, degree; answers the refusal or 0.
 #[no_mangle]
@@ -89,12 +62,12 @@ pub extern "C" fn engkarupi_run(
         color_bodies,
         constraint_body_positions,
     );
-    let carried = reported(answer);
+    let carried = frame_run::reported(answer);
     *report = [
         carried.islands,
         carried.turns,
         carried.takes,
         carried.degree,
     ];
-    run_refusal(answer)
+    frame_run::run_refusal(answer)
 }

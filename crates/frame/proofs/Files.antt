@@ -61,17 +61,17 @@ module _ (bs : List ℕ) where
   read-refused k e n =
       let z : eqb (asked (sizeQuestions bs)) 0 ≡ false = ne-eqb (asked (sizeQuestions bs)) 0 (λ h. n (e ∙ h)) in
       let a : asked (fileQuestions bs) ≡ asked (sizeQuestions bs) = after ∙ ap (λ (t : Bool). cond t (cond known 0 5) (asked (sizeQuestions bs))) z in
-      record { refusal = e ∙ sym a; sizes = rw (a, z) }
+      record { refusal = e ∙ sym a; refused = rw (a, z); sizes = rw (a, z) }
 
   module _ (s : asked (sizeQuestions bs) ≡ 0) where
     by-known : (t : Bool) → known ≡ t → asked (fileQuestions bs) ≡ cond t 0 5
     by-known t e = after ∙ ap (λ (n : ℕ). cond (eqb n 0) (cond known 0 5) n) s ∙ ap (λ (u : Bool). cond u 0 5) e
 
     pub read-unknown : known ≡ false → Read bs (Refused 5)
-    read-unknown e = record { refusal = sym (by-known false e); sizes = rw (by-known false e) }
+    read-unknown e = record { refusal = sym (by-known false e); refused = rw (by-known false e); sizes = rw (by-known false e) }
 
     pub read-accepted : (b m j : ℕ) → b ≡ countB bs → m ≡ countM bs → j ≡ countJ bs → known ≡ true → Read bs (Accepted (record { bodies = b; manifolds = m; joints = j }))
-    read-accepted b m j eb em ej e = record { refusal = sym (by-known true e); sizes = rw (by-known true e, eb, em, ej) }
+    read-accepted b m j eb em ej e = record { refusal = sym (by-known true e); refused = rw (by-known true e); sizes = rw (by-known true e, eb, em, ej) }
 
 -- question 5, from what the code found of the types and of the enabled bytes
 pub types-known : (bs : List ℕ) (b : ℕ) → b ≡ countB bs → (r t : Bool) → r ≡ typesKnown (take (11 + b - 11) (drop 11 bs)) → r ≡ t → typesKnown (typesIn bs) ≡ t

@@ -80,6 +80,7 @@ module _ (bs : List ℕ) (l : Lent) where
     pub refused-ran : Ran bs l l (answer.Refused n)
     refused-ran = record {
       refusal = sym e;
+      refused = rw (e, ne-eqb n 0 nz);
       report = rw none-run;
       turns = rw none-run;
       islands = islands-kept;
@@ -200,6 +201,7 @@ module _ (bs : List ℕ) (l : Lent) where
     pub sized-ran : (m : Lent) (a : Answer) → RanSized bs (l .parents) (l .body-islands) (l .manifold-islands) (l .joint-islands) (l .turns) (m .parents) (m .body-islands) (m .manifold-islands) (m .joint-islands) (m .turns) a → Worn l m → Ran bs l m a
     sized-ran m a h s = record {
       refusal = h .refusal ∙ sym seven-left;
+      refused = rw seven-left (h .refused);
       report = rw r (h .report);
       turns = rw r (h .turns);
       islands = rw seven-left (h .islands);

@@ -160,6 +160,7 @@ module _ (bs : List ℕ) (e : asked (fileQuestions bs) ≡ 0) where
           let rep : runReport answer ≡ record { islands = r .islands; turns = tally .place / 3; takes = tally .takes; degree = r .degree } = rw z at (told .report) in
           record {
             refusal = told .refusal ∙ refusal-is;
+            refused = told .refused ∙ rw refusal-is;
             report = rep ∙ rw (q, p, k, sound-islands t, rw t at (h .degree));
             turns = d .table ∙ put-first (joinMap turnOf (turnsOf (runCalls f))) tt ∙ rw q;
             islands = built-as f (soundness bs) pa bi mi ji pa′ bi′ mi′ ji′ (r .refusal) (runNumber answer) (r .islands) (runReport answer .islands) (sym (told .refusal)) (sym (ap (λ (x : Report). x .islands) rep)) (h .islands);
@@ -174,6 +175,7 @@ module _ (bs : List ℕ) (e : asked (fileQuestions bs) ≡ 0) where
           let rep : runReport answer ≡ record { islands = 0; turns = 0; takes = 0; degree = 0 } = rw z at (told .report) in
           record {
             refusal = told .refusal ∙ refusal-is;
+            refused = told .refused ∙ rw refusal-is;
             report = rep ∙ rw q;
             turns = d .table ∙ put-first [] tt ∙ rw q;
             islands = built-as f (soundness bs) pa bi mi ji pa′ bi′ mi′ ji′ (r .refusal) (runNumber answer) (r .islands) (runReport answer .islands) (sym (told .refusal)) (no-islands t ∙ sym (ap (λ (x : Report). x .islands) rep)) (h .islands);

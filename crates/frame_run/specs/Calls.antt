@@ -1,9 +1,9 @@
 -- What a run is lent, what it answers, and what it leaves in its tables.
 use Prim.Native.Nat.{ℕ, _+_, _*_}
 use mathlib.Core.Path.{_≡_}
-use mathlib.Core.Bool.{Bool, _&&_}
+use mathlib.Core.Bool.{Bool, true, false, not, _&&_}
 use mathlib.Core.List.{List}
-use lib.Dec.{leb}
+use lib.Dec.{leb, eqb}
 use lib.ListN.{length}
 use Rattle.lists.specs.Basics.{over}
 use Rattle.frame.specs.Files.{countB, countM, countJ, decode}
@@ -19,6 +19,11 @@ use Rattle.frame_run.specs.declared.Answer.the-variants as answer
 abbrev pub runNumber : Answer → ℕ
 runNumber (answer.Ran r) = 0
 runNumber (answer.Refused n) = n
+
+-- whether it is a refusal: that has a number, never 0
+abbrev pub runRefused : Answer → Bool
+runRefused (answer.Ran r) = false
+runRefused (answer.Refused n) = true
 
 abbrev pub runReport : Answer → Report
 runReport (answer.Ran r) = r
@@ -65,6 +70,7 @@ refusalIn bs l = runRefusal bs (roomIn bs l)
 -- the contract: the lent tables at entry (l) and at exit (m), and the answer
 pub record Ran (bs : List ℕ) (l m : Lent) (r : Answer) : Type 0 where
   pub refusal : runNumber r ≡ refusalIn bs l
+  pub refused : runRefused r ≡ not (eqb (refusalIn bs l) 0)
   pub report : runReport r ≡ record {
     islands = runOf bs (roomIn bs l) .islands;
     turns = runOf bs (roomIn bs l) .turns;

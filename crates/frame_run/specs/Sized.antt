@@ -1,7 +1,7 @@
 -- A run on tables of the frame's sizes, once questions 1 to 6 are passed.
 use Prim.Native.Nat.{ℕ, _+_, _*_, _/_, _≤_}
 use mathlib.Core.Path.{_≡_}
-use mathlib.Core.Bool.{true, cond}
+use mathlib.Core.Bool.{true, not, cond}
 use mathlib.Core.List.{List}
 use lib.Dec.{eqb}
 use lib.ListN.{length}
@@ -14,11 +14,12 @@ use Rattle.group_run.specs.declared.Tally.{Tally}
 use Rattle.frame_tables.specs.declared.Filling.{Filling}
 use Rattle.frame_tables.specs.Filled.{soundness}
 use Rattle.frame_run.specs.declared.Answer.{Answer}
-use Rattle.frame_run.specs.Calls.{runNumber, runReport}
+use Rattle.frame_run.specs.Calls.{runNumber, runRefused, runReport}
 
 -- the report of a filling and a tally, three entries a turn
 pub record Told (f : Filling) (t : Tally) (r : Answer) : Type 0 where
   pub refusal : runNumber r ≡ f .refusal
+  pub refused : runRefused r ≡ not (eqb (f .refusal) 0)
   pub report : runReport r ≡ cond (eqb (f .refusal) 0)
       (record { islands = f .islands; turns = t .place / 3; takes = t .takes; degree = f .degree })
       (record { islands = 0; turns = 0; takes = 0; degree = 0 })
@@ -37,6 +38,7 @@ pub record Spacious (bs pa bi mi ji ts ip ns : List ℕ) (t : Tables) : Type 0 w
 -- the island tables and the turn table at entry and at exit, and the answer
 pub record RanSized (bs pa bi mi ji ts pa′ bi′ mi′ ji′ ts′ : List ℕ) (r : Answer) : Type 0 where
   pub refusal : runNumber r ≡ soundness bs
+  pub refused : runRefused r ≡ not (eqb (soundness bs) 0)
   pub report : runReport r ≡ record {
     islands = runOf bs true .islands;
     turns = runOf bs true .turns;

@@ -10,7 +10,7 @@ ghost use mathlib.Core.Bool.{_&&_, cond};
 ghost use lib.Dec.{leb, eqb};
 ghost use Rattle.frame.specs.Answers.{readNumber, readSizes};
 ghost use Rattle.frame_tables.specs.Filled.{Decodable};
-ghost use Rattle.frame_run.specs.Calls.{Ran};
+ghost use Rattle.frame_run.specs.Calls.{runNumber, runReport, Ran};
 ghost use Rattle.frame_run.specs.Sized.{Told, Spacious, RanSized};
 
 // What a run carries: islands, turns, takes of dynamic bodies, and the largest number of constraints on one dynamic body.
@@ -25,6 +25,31 @@ pub struct Report {
 pub enum Answer {
     Ran(Report),
     Refused(u8),
+}
+
+// The number of an answer: the refusal, or 0.
+pub fn run_refusal(answer: Answer) -> u8
+    ensures { λ r. ⌜ r ≡ runNumber answer ⌝ }
+{
+    match answer {
+        Answer::Ran(_) => 0,
+        Answer::Refused(n) => n,
+    }
+}
+
+// Its values: the report, or four zeros.
+pub fn reported(answer: Answer) -> Report
+    ensures { λ r. ⌜ r ≡ runReport answer ⌝ }
+{
+    match answer {
+        Answer::Ran(report) => report,
+        Answer::Refused(_) => Report {
+            islands: 0,
+            turns: 0,
+            takes: 0,
+            degree: 0,
+        },
+    }
 }
 
 // The report of a frame that was not refused.

@@ -20,7 +20,6 @@ pub record Decodable (bs : List ℕ) (m : ℕ) (ts fs ps es : List ℕ) : Type 0
   pub pairs : length ps ≡ 2 * (countM bs + countJ bs)
   pub enabled : length es ≡ countJ bs
 
--- types, dynamic flags, endpoint pairs (manifolds, then joints), enabled bytes
 -- the two runs of endpoint pairs in a file, for a table of both
 pub record Paired (bs : List ℕ) (b m : ℕ) (ps : List ℕ) : Type 0 where
   pub file : asked (fileQuestions bs) ≡ 0
@@ -28,6 +27,7 @@ pub record Paired (bs : List ℕ) (b m : ℕ) (ps : List ℕ) : Type 0 where
   pub manifolds : m ≡ countM bs
   pub pairs : length ps ≡ 2 * (countM bs + countJ bs)
 
+-- types, dynamic flags, endpoint pairs (manifolds, then joints), enabled bytes
 pub record Decoded (bs ts fs ps es : List ℕ) : Type 0 where
   pub types : ts ≡ typesIn bs
   pub flags : fs ≡ map flagOf (typesIn bs)

@@ -1,5 +1,8 @@
 -- Document 01's number and values for each case of an answer.
 use Prim.Native.Nat.{ℕ}
+use mathlib.Core.Path.{_≡_}
+use mathlib.Core.Bool.{Bool, true, false, not}
+use lib.Dec.{eqb}
 use Rattle.island.specs.declared.Answer.{Answer}
 use Rattle.island.specs.declared.Answer.the-variants.{Islands, Refused}
 
@@ -7,6 +10,14 @@ use Rattle.island.specs.declared.Answer.the-variants.{Islands, Refused}
 abbrev pub answerNumber : Answer → ℕ
 answerNumber (Islands n) = 0
 answerNumber (Refused k) = k
+
+-- whether it is a refusal: that has a number, never 0
+abbrev pub answerRefused : Answer → Bool
+answerRefused (Islands n) = false
+answerRefused (Refused k) = true
+
+abbrev pub CaseTold : Answer → Type 0
+CaseTold r = answerRefused r ≡ not (eqb (answerNumber r) 0)
 
 -- how many islands; 0 where refused
 abbrev pub answerIslands : Answer → ℕ

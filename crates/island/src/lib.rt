@@ -11,7 +11,7 @@ ghost use Rattle.frame.specs.Frames.{constraint, constraints, constraintsOf, fr
 ghost use Rattle.frame.specs.Questions.{asked};
 ghost use Rattle.island.specs.Islands.{merge, join, edgesOf};
 ghost use Rattle.island.specs.Calls.{rootOf, islandRefusal, Built};
-ghost use Rattle.island.specs.Answers.{answerNumber, answerIslands};
+ghost use Rattle.island.specs.Answers.{answerNumber, answerIslands, CaseTold};
 ghost use Rattle.island.specs.Steps.{bare, Falls, Fit, Tried, Sized, Ready, marked, Together, Stepped, Numbered, labelBy, Labelled, Laid, earlyQuestions};
 
 // The label of what has no island.
@@ -326,7 +326,7 @@ fn lay(
         (now parents) (now «body_islands») (now «manifold_islands») (now «joint_islands») ⌝ }
     ensures { λ r. ⌜ Laid (frameOf (now («body_types» .entry)) (now (manifolds .entry)) (now (joints .entry)) (now (enabled .entry)))
         (now (parents .exit)) (now («body_islands» .exit)) (now («manifold_islands» .exit)) (now («joint_islands» .exit))
-        (answerNumber r) (answerIslands r) ⌝ }
+        (answerNumber r) (answerIslands r) × CaseTold r ⌝ }
 {
     reset(parents, body_islands);
     if !join_frame(
@@ -414,7 +414,7 @@ pub fn build_with_joints(
         (record { parents = length (now (parents .entry)); bodies = length (now («body_islands» .entry)); manifolds = length (now («manifold_islands» .entry)); joints = length (now («joint_islands» .entry)) }))
         (now (parents .entry)) (now («body_islands» .entry)) (now («manifold_islands» .entry)) (now («joint_islands» .entry))
         (now (parents .exit)) (now («body_islands» .exit)) (now («manifold_islands» .exit)) (now («joint_islands» .exit))
-        (answerNumber r) (answerIslands r) ⌝ }
+        (answerNumber r) (answerIslands r) × CaseTold r ⌝ }
 {
     let refusal = early_refusal(
         body_types,
@@ -455,7 +455,7 @@ pub fn build(
         (record { parents = length (now (parents .entry)); bodies = length (now («body_islands» .entry)); manifolds = length (now («manifold_islands» .entry)); joints = 0 }))
         (now (parents .entry)) (now («body_islands» .entry)) (now («manifold_islands» .entry)) []
         (now (parents .exit)) (now («body_islands» .exit)) (now («manifold_islands» .exit)) []
-        (answerNumber r) (answerIslands r) ⌝ }
+        (answerNumber r) (answerIslands r) × CaseTold r ⌝ }
 {
     let mut joint_islands = [0; 1];
     build_with_joints(

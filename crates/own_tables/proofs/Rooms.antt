@@ -87,6 +87,7 @@ module _ (bs : List ℕ) (l : Lent) (h : Ample l) where
   pub ran-alone : (m : Lent) (r : Answer) → Ran bs l m r → RanAlone bs (l .turns) (m .turns) r
   ran-alone m r a = record {
     refusal = a .refusal ∙ refusal-same;
+    refused = a .refused ∙ rw refusal-same;
     report = a .report ∙ rw run-same;
     turns = a .turns ∙ rw run-same;
   }

@@ -5,7 +5,6 @@
 // The list is records: the byte 1, the lengths of the question and of the answer in 16 bits each, the question, the answer. A head of
 // zeros ends it. A question is the length of the turn table in 16 bits, and the file. An answer is the refusal or 0, the four
 // numbers and the turn table in 16 bits each. The other tables have the largest frame's sizes.
-use frame_run::Answer;
 use frame_run::Report;
 use records::byte_at;
 use records::half_at;
@@ -27,25 +26,6 @@ struct Tally {
     more: bool,
 }
 
-fn refusal_of(answer: Answer) -> u8 {
-    match answer {
-        Answer::Ran(_) => 0,
-        Answer::Refused(n) => n,
-    }
-}
-
-fn report_of(answer: Answer) -> Report {
-    match answer {
-        Answer::Ran(report) => report,
-        Answer::Refused(_) => Report {
-            islands: 0,
-            turns: 0,
-            takes: 0,
-            degree: 0,
-        },
-    }
-}
-
 fn put_number(out: &mut [u8], at: usize, n: usize) -> usize {
     put_half(out, at, (n % 65536) as u16)
 }
@@ -60,8 +40,8 @@ fn put_report(out: &mut [u8], at: usize, report: Report) -> usize {
 fn answer_on(question: &[u8], turns: &mut [u16], out: &mut [u8]) -> usize {
     let start = least(2, question.len());
     let answer = own_tables::run_file(&question[start..], turns);
-    let refused = put(out, 0, refusal_of(answer));
-    let reported = put_report(out, refused, report_of(answer));
+    let refused = put(out, 0, frame_run::run_refusal(answer));
+    let reported = put_report(out, refused, frame_run::reported(answer));
     put_halves(out, reported, turns)
 }
 

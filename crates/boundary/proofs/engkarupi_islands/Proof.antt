@@ -27,7 +27,7 @@ same-length-4 c = search needs
 
 returns : tie.Need-returns
 returns c =
-    let built = c .before .before .before .before .before .before .before .before .before .before .build-with-joints .ensures in
+    let built = c .before .before .before .before .before .before .before .before .before .before .build-with-joints .ensures .0 in
     built-by built (c .island-refusal .ensures) (c .before .islands-in .ensures)
 
 pub engkarupi-islands-spec : {M : Type 1} → statement M

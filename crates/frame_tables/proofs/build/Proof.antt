@@ -40,7 +40,7 @@ same-length-4 : tie.Need-same-length-4
 same-length-4 c = c .before .before .before .before .before .before .before .before .build-with-joints .kept .1 .1 .1 .1 .1 .1 .1 .0
 
 returns : tie.Need-returns
-returns c = built-by _ _ _ _ _ _ _ _ _ _ _ _ _ _ _ _ (rest-part _ (c .before .before .before .before .before .before .before .before .before .before .before .before .before .before .before .before .before .before .before .before .before .before .args .pairs .now)) (c .before .before .before .before .before .before .before .before .build-with-joints .ensures)
+returns c = built-by _ _ _ _ _ _ _ _ _ _ _ _ _ _ _ _ (rest-part _ (c .before .before .before .before .before .before .before .before .before .before .before .before .before .before .before .before .before .before .before .before .before .before .args .pairs .now)) (c .before .before .before .before .before .before .before .before .build-with-joints .ensures .0)
 
 pub build-spec : {M : Type 1} → statement M
 build-spec =

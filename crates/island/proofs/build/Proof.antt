@@ -39,18 +39,20 @@ same-length-3 c = search needs
 returns : tie.Need-returns
 returns c =
     let f = c .before .before .before .before .before .before .before .build-with-joints in
-    let w = f .ensures in
-    record {
-      refusal = w .refusal;
-      count = w .count;
-      body-labels = w .body-labels;
-      manifold-labels = w .manifold-labels;
-      joint-labels = sym (empty (f .last .1 .1 .1 .1 .1 .1 .1 .0) (f .kept .1 .1 .1 .1 .1 .1 .1 .0)) ∙ w .joint-labels;
-      parents = w .parents;
-      beyond = w .beyond;
-      alone = w .alone;
-      kept = w .kept;
-    }
+    let w = f .ensures .0 in (
+      record {
+        refusal = w .refusal;
+        count = w .count;
+        body-labels = w .body-labels;
+        manifold-labels = w .manifold-labels;
+        joint-labels = sym (empty (f .last .1 .1 .1 .1 .1 .1 .1 .0) (f .kept .1 .1 .1 .1 .1 .1 .1 .0)) ∙ w .joint-labels;
+        parents = w .parents;
+        beyond = w .beyond;
+        alone = w .alone;
+        kept = w .kept;
+      },
+      f .ensures .1,
+    )
 
 pub build-spec : {M : Type 1} → statement M
 build-spec =

@@ -1,5 +1,6 @@
 -- `island::build_with_joints` meets its contract: a "no" to one of the questions 3 to 6 writes nothing; after four "yes" the frame is laid on the first places of the tables.
 use borrow.Author.Needs.{needs}
+use borrow.Author.Tests.{ne-eqb}
 use Prim.Native.Nat.{_/_}
 use mathlib.Core.Path.{sym, _∙_}
 use lib.ListN.{length}
@@ -23,7 +24,7 @@ early-refusal-requires c κs = search needs
 returns : tie.Need-returns
 returns c =
     let a = c .before .before .before .before .before .before .before .before .before .before .args in
-    kept-built (a .body-types .now) (a .manifolds .now) (a .joints .now) (a .enabled .now) (a .parents .now) (a .body-islands .now) (a .manifold-islands .now) (a .joint-islands .now) (c .before .early-refusal .result) (c .before .early-refusal .ensures) (c .if1 .taken)
+    (kept-built (a .body-types .now) (a .manifolds .now) (a .joints .now) (a .enabled .now) (a .parents .now) (a .body-islands .now) (a .manifold-islands .now) (a .joint-islands .now) (c .before .early-refusal .result) (c .before .early-refusal .ensures) (c .if1 .taken), rw (ne-eqb (c .before .early-refusal .result) 0 (c .if1 .taken)))
 
 slice-relend-prefix-lay : tie.Need-slice-relend-prefix-lay
 slice-relend-prefix-lay c = fits c .parents
@@ -71,11 +72,13 @@ returns-2 : tie.Need-returns-2
 returns-2 c =
     let d = c .before .before .before .before .before .before .before .before .before .before .before .before .before in
     let a = start d .args in
-    let f = c .before .before .before .before .before .before .before .before .lay in
-    laid-built (a .body-types .now) (a .manifolds .now) (a .joints .now) (a .enabled .now) (a .parents .now) (a .body-islands .now) (a .manifold-islands .now) (a .joint-islands .now)
-    (f .last .1 .1 .1 .1 .0) (f .last .1 .1 .1 .1 .1 .0) (f .last .1 .1 .1 .1 .1 .1 .0) (f .last .1 .1 .1 .1 .1 .1 .1 .0) _ _ (f .ensures)
-    (f .kept .1 .1 .1 .1 .0 ∙ length-take-le (length (a .body-types .now)) (a .parents .now) (fits d .parents))
-    (sym (d .before .early-refusal .ensures) ∙ d .if1 .left)
+    let f = c .before .before .before .before .before .before .before .before .lay in (
+      laid-built (a .body-types .now) (a .manifolds .now) (a .joints .now) (a .enabled .now) (a .parents .now) (a .body-islands .now) (a .manifold-islands .now) (a .joint-islands .now)
+          (f .last .1 .1 .1 .1 .0) (f .last .1 .1 .1 .1 .1 .0) (f .last .1 .1 .1 .1 .1 .1 .0) (f .last .1 .1 .1 .1 .1 .1 .1 .0) _ _ (f .ensures .0)
+          (f .kept .1 .1 .1 .1 .0 ∙ length-take-le (length (a .body-types .now)) (a .parents .now) (fits d .parents))
+          (sym (d .before .early-refusal .ensures) ∙ d .if1 .left),
+      f .ensures .1,
+    )
 
 pub build-with-joints-spec : {M : Type 1} → statement M
 build-with-joints-spec =

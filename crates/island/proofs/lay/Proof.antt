@@ -82,18 +82,20 @@ returns c =
     let j = d .before .before .before .before .before .join-frame in
     let r = d .before .before .before .before .before .before .before .before .before .before .before .before .reset in
     let q = c .before .before .before .before .before .before .before .before .before .before .before .before .reset2 in
-    let bad : allSound (frame s) ≡ false = sym (j .ensures .answer) ∙ not-true _ (d .if1 .taken) in
-    record {
-      refusal = ap (λ (t : Bool). cond t 0 7) (sym bad);
-      accepted = λ e. clashes (allSound (frame s)) e bad;
-      refused = λ e. record {
-        count = refl;
-        alone = q .ensures .0 ∙ ap range (j .kept .1 .1 .1 .1 .0 ∙ r .kept .0 ∙ s .pre .long-parents);
-        body-labels = q .ensures .1 ∙ ap (λ (n : ℕ). replicate n none) (j .kept .1 .1 .1 .1 .1 .0 ∙ r .kept .1 .0 ∙ s .pre .long-bodies);
-        manifold-labels = c .before .before .before .before .before .before .fill .ensures ∙ ap (λ (n : ℕ). replicate n none) (s .pre .long-manifolds);
-        joint-labels = c .before .before .fill2 .ensures ∙ ap (λ (n : ℕ). replicate n none) (s .pre .long-joints);
-      };
-    }
+    let bad : allSound (frame s) ≡ false = sym (j .ensures .answer) ∙ not-true _ (d .if1 .taken) in (
+      record {
+        refusal = ap (λ (t : Bool). cond t 0 7) (sym bad);
+        accepted = λ e. clashes (allSound (frame s)) e bad;
+        refused = λ e. record {
+          count = refl;
+          alone = q .ensures .0 ∙ ap range (j .kept .1 .1 .1 .1 .0 ∙ r .kept .0 ∙ s .pre .long-parents);
+          body-labels = q .ensures .1 ∙ ap (λ (n : ℕ). replicate n none) (j .kept .1 .1 .1 .1 .1 .0 ∙ r .kept .1 .0 ∙ s .pre .long-bodies);
+          manifold-labels = c .before .before .before .before .before .before .fill .ensures ∙ ap (λ (n : ℕ). replicate n none) (s .pre .long-manifolds);
+          joint-labels = c .before .before .fill2 .ensures ∙ ap (λ (n : ℕ). replicate n none) (s .pre .long-joints);
+        };
+      },
+      refl,
+    )
 
 label-frame-requires : tie.Need-label-frame-requires
 label-frame-requires c κs = joined (c .before .before .before .before)
@@ -115,12 +117,14 @@ returns-2 c =
     let d = c .before .before .before .before .before .before .before .before .before .before .before in
     let a = start d .args in
     let j = d .before .before .before .before .before .join-frame in
-    let w = joined d in
-    record {
-      refusal = ap (λ (t : Bool). cond t 0 7) (sym (w .passed));
-      accepted = λ e. (parents-of (frame (start d)) (j .last .1 .1 .1 .1 .0) (j .last .1 .1 .1 .1 .1 .0) (a .manifold-islands .now) (a .joint-islands .now) w, c .before .before .before .before .before .before .label-frame .ensures);
-      refused = λ e. clashes (allSound (frame (start d))) (w .passed) e;
-    }
+    let w = joined d in (
+      record {
+        refusal = ap (λ (t : Bool). cond t 0 7) (sym (w .passed));
+        accepted = λ e. (parents-of (frame (start d)) (j .last .1 .1 .1 .1 .0) (j .last .1 .1 .1 .1 .1 .0) (a .manifold-islands .now) (a .joint-islands .now) w, c .before .before .before .before .before .before .label-frame .ensures);
+        refused = λ e. clashes (allSound (frame (start d))) (w .passed) e;
+      },
+      refl,
+    )
 
 pub lay-spec : {M : Type 1} → statement M
 lay-spec =

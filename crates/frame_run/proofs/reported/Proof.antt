@@ -1,7 +1,7 @@
 -- Each arm is a clause of `runReport`.
 use borrow.Author.Needs.{needs}
-use Rattle.boundary.proofs.run.reported.Statement.{statement}
-use Rattle.boundary.proofs.run.reported.Tie as tie
+use Rattle.frame_run.proofs.reported.Statement.{statement}
+use Rattle.frame_run.proofs.reported.Tie as tie
 
 enum-known-answer : tie.Need-enum-known-answer
 enum-known-answer c = search needs
