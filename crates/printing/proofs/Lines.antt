@@ -1,4 +1,4 @@
--- The lines as their fields one behind the other, each with its end, and how long a field is; and the test for room.
+-- The lines as their fields one behind the other, each with its end; and the test for room.
 use Prim.Native.Nat.{ℕ, _+_, _≤_}
 use mathlib.Core.Path.{_≡_, subst}
 use mathlib.Core.Bool.{true, false}
@@ -6,23 +6,11 @@ use mathlib.Core.List.{List, [], _∷_, _++_, append-assoc}
 use native.Mathlib.Omega.{arith}
 use lib.Dec.{leb}
 use lib.ListN.{length, length-append}
-use Rattle.schedules.specs.Print.{decimal, spaced, headOf, turnLine, refusalLine, islandsWord, turnsWord, takesWord, degreeWord, refusedWord}
-use Rattle.printing.specs.Puts.{Put, longest, ifRoom}
-use Rattle.printing.proofs.Puts.{put-nothing}
-use Rattle.printing.proofs.Digits.{decimal-few}
-
--- a number with its end; a word, a space, and a number with its end
-abbrev pub number : ℕ → ℕ → List ℕ
-number n end = decimal n ++ end ∷ []
-
-abbrev pub field : List ℕ → ℕ → ℕ → List ℕ
-field word n end = (word ++ 32 ∷ []) ++ number n end
-
-pub number-short : (n end : ℕ) → length (number n end) ≤ 21
-number-short n end = omega (arith, length-append (decimal n) (end ∷ []), decimal-few n)
-
-pub field-short : (word : List ℕ) (n end : ℕ) → length (field word n end) ≤ length word + 22
-field-short word n end = omega (arith, length-append (word ++ 32 ∷ []) (number n end), length-append word (32 ∷ []), number-short n end)
+use Rattle.schedules.specs.Print.{spaced, headOf, turnLine, refusalLine, islandsWord, turnsWord, takesWord, degreeWord, refusedWord}
+use Rattle.print_fields.specs.Puts.{Put, longest, ifRoom}
+use Rattle.print_fields.proofs.Puts.{put-nothing}
+use Rattle.print_fields.proofs.Digits.{decimal-few}
+use Rattle.print_fields.proofs.Fields.{number, field}
 
 pub head-fields : (i t k d : ℕ) → field islandsWord i 32 ++ field turnsWord t 32 ++ field takesWord k 32 ++ field degreeWord d 10 ≡ headOf i t k d
 unfolding headOf spaced

@@ -16,9 +16,9 @@ use Rattle.frame.specs.Frames.{Constraint, Frame, nothing, constraintsOf, const
 use Rattle.frame.specs.Files.{half, countB, countM, countJ, pairsAt, jointsAt, pairsFrom, manifoldsIn, jointsIn, enabledIn, decode}
 use Rattle.schedules.specs.Print.{decimal, spaced, turnLine, turnLines}
 use Rattle.schedules.proofs.Accepted.{pairs-count}
-use Rattle.printing.specs.Puts.{Put, longest, ifRoom}
+use Rattle.print_fields.specs.Puts.{Put, longest, ifRoom}
 use Rattle.printing.specs.Turns.{endsAt, lineOf, ready, ifReady, gathered, turnsFrom, linesOf, Lines}
-use Rattle.printing.proofs.Puts.{put-nothing, wrote-then}
+use Rattle.print_fields.proofs.Puts.{put-nothing, wrote-then}
 use Rattle.printing.proofs.Lines.{turn-short}
 
 -- ---- one line
@@ -77,7 +77,7 @@ line-short bs i k n h =
     subst (λ (l : List ℕ). length l ≤ longest) (line-at bs i k n h) (turn-short i k n (half bs (endsAt bs n)) (half bs (endsAt bs n + 2)))
 
 -- a line has its newline
-line-some : (bs : List ℕ) (i k n : ℕ) → 1 ≤ length (lineOf bs i k n)
+pub line-some : (bs : List ℕ) (i k n : ℕ) → 1 ≤ length (lineOf bs i k n)
 unfolding lineOf turnLine
 line-some bs i k n = omega (arith, length-append (spaced (map decimal (i ∷ k ∷ n ∷ constraintAt (decode bs) n .ends))) (10 ∷ []))
 

@@ -8,7 +8,7 @@ use lib.ListN.{length, take, drop}
 use Rattle.frame.specs.Frames.{constraintAt}
 use Rattle.frame.specs.Files.{countM, countJ, pairsAt, jointsAt, decode}
 use Rattle.schedules.specs.Print.{turnLine, turnLines}
-use Rattle.printing.specs.Puts.{Put, longest}
+use Rattle.print_fields.specs.Puts.{Put, longest}
 use Rattle.printing.specs.declared.Gathered.{Gathered}
 
 -- where the file bs has the endpoints of constraint n: manifolds first, then joints

@@ -1,15 +1,14 @@
 // The bytes that the program `turns` prints, appended to a lent buffer: a head, a line of a turn, a refusal, and the
 // lines of a turn table as far as the buffer goes. The public functions answer every buffer and every place: where
 // fewer than `MAX_LINE` bytes are left they write nothing. Each answers the place after what it wrote.
-// What a program writes that gathers its lines by `put_turns`, piece after piece, is the whole print (proofs/Whole.antt).
 ghost use mathlib.Core.Path.{_≡_};
-ghost use mathlib.Core.List.{_∷_, [], _++_};
-ghost use Prim.Native.Nat.{_+_, _*_, _≤_, _<_};
+ghost use mathlib.Core.List.{_∷_, []};
+ghost use Prim.Native.Nat.{_+_, _*_, _<_};
 ghost use lib.Dec.{leb};
 ghost use lib.ListN.{length};
 ghost use Rattle.frame.specs.Files.{byte, half};
-ghost use Rattle.schedules.specs.Print.{decimal, headOf, turnLine, refusalLine};
-ghost use Rattle.printing.specs.Puts.{Put, longest, ifRoom};
+ghost use Rattle.schedules.specs.Print.{headOf, turnLine, refusalLine};
+ghost use Rattle.print_fields.specs.Puts.{Put, longest, ifRoom};
 ghost use Rattle.printing.specs.Turns.{endsAt, ifReady, Lines};
 
 // No line is longer.
@@ -25,82 +24,6 @@ fn wide(x: u16) -> usize
     ensures { λ r. ⌜ r ≡ x ⌝ }
 {
     x as usize
-}
-
-fn digit(d: usize) -> u8
-    requires { ⌜ d < 10 ⌝ }
-    ensures { λ r. ⌜ r ≡ 48 + d ⌝ }
-{
-    48 + d as u8
-}
-
-// How many decimal digits a number has.
-fn width(n: usize) -> usize
-    ensures { λ r. ⌜ r ≡ length (decimal n) ⌝ }
-{
-    let mut digits = 1;
-    let mut rest = n;
-    while 10 <= rest {
-        rest /= 10;
-        digits += 1;
-    }
-    digits
-}
-
-// A number, from its last digit to its first.
-fn put_decimal(out: &mut [u8], at: usize, n: usize) -> usize
-    requires { ⌜ at + 20 ≤ length (now out) ⌝ }
-    ensures { λ r. ⌜ Put (decimal n) (now (out .entry)) at (now (out .exit)) r ⌝ }
-{
-    let end = at + width(n);
-    let mut i = end;
-    let mut rest = n;
-    while 10 <= rest {
-        i -= 1;
-        out[i] = digit(rest % 10);
-        rest /= 10;
-    }
-    out[at] = digit(rest);
-    end
-}
-
-fn put_word(out: &mut [u8], at: usize, word: &[u8]) -> usize
-    requires { ⌜ at + length (now word) ≤ length (now out) ⌝ }
-    ensures { λ r. ⌜ Put (now (word .entry)) (now (out .entry)) at (now (out .exit)) r ⌝ }
-{
-    let mut i = 0;
-    while i < word.len() {
-        out[at + i] = word[i];
-        i += 1;
-    }
-    at + i
-}
-
-fn put_byte(out: &mut [u8], at: usize, byte: u8) -> usize
-    requires { ⌜ at < length (now out) ⌝ }
-    ensures { λ r. ⌜ Put (byte ∷ []) (now (out .entry)) at (now (out .exit)) r ⌝ }
-{
-    out[at] = byte;
-    at + 1
-}
-
-// A number and the byte that ends its field: a space or a newline.
-fn put_number(out: &mut [u8], at: usize, n: usize, end: u8) -> usize
-    requires { ⌜ at + 21 ≤ length (now out) ⌝ }
-    ensures { λ r. ⌜ Put (decimal n ++ end ∷ []) (now (out .entry)) at (now (out .exit)) r ⌝ }
-{
-    let after = put_decimal(out, at, n);
-    put_byte(out, after, end)
-}
-
-// A word, a space, and a number with its end.
-fn put_field(out: &mut [u8], at: usize, word: &[u8], n: usize, end: u8) -> usize
-    requires { ⌜ at + length (now word) + 22 ≤ length (now out) ⌝ }
-    ensures { λ r. ⌜ Put ((now (word .entry) ++ 32 ∷ []) ++ (decimal n ++ end ∷ [])) (now (out .entry)) at (now (out .exit)) r ⌝ }
-{
-    let named = put_word(out, at, word);
-    let parted = put_byte(out, named, b' ');
-    put_number(out, parted, n, end)
 }
 
 // Are MAX_LINE bytes left from a place on?
@@ -127,10 +50,10 @@ pub fn put_head(
     if !roomy(out.len(), at) {
         return at;
     }
-    let with_islands = put_field(out, at, b"islands", islands, b' ');
-    let with_turns = put_field(out, with_islands, b"turns", turns, b' ');
-    let with_takes = put_field(out, with_turns, b"takes", takes, b' ');
-    put_field(out, with_takes, b"degree", degree, b'\n')
+    let with_islands = print_fields::put_field(out, at, b"islands", islands, b' ');
+    let with_turns = print_fields::put_field(out, with_islands, b"turns", turns, b' ');
+    let with_takes = print_fields::put_field(out, with_turns, b"takes", takes, b' ');
+    print_fields::put_field(out, with_takes, b"degree", degree, b'\n')
 }
 
 // The line of a turn: island, group, constraint and its endpoints a, b.
@@ -148,11 +71,11 @@ pub fn put_turn_line(
     if !roomy(out.len(), at) {
         return at;
     }
-    let with_island = put_number(out, at, island, b' ');
-    let with_group = put_number(out, with_island, group, b' ');
-    let with_constraint = put_number(out, with_group, constraint, b' ');
-    let with_a = put_number(out, with_constraint, a, b' ');
-    put_number(out, with_a, b, b'\n')
+    let with_island = print_fields::put_number(out, at, island, b' ');
+    let with_group = print_fields::put_number(out, with_island, group, b' ');
+    let with_constraint = print_fields::put_number(out, with_group, constraint, b' ');
+    let with_a = print_fields::put_number(out, with_constraint, a, b' ');
+    print_fields::put_number(out, with_a, b, b'\n')
 }
 
 // A refusal, by its number.
@@ -162,7 +85,7 @@ pub fn put_refusal(out: &mut [u8], at: usize, number: usize) -> usize
     if !roomy(out.len(), at) {
         return at;
     }
-    put_field(out, at, b"refused", number, b'\n')
+    print_fields::put_field(out, at, b"refused", number, b'\n')
 }
 
 // The byte at a place of a file, and 0 past its end.

@@ -6,7 +6,7 @@ use lib.Dec.{ltb, eqb}
 use lib.ListN.{length}
 use Rattle.frame.specs.Frames.{Frame, constraintAt}
 use Rattle.frame.specs.Files.{decode}
-use Rattle.schedules.specs.Runs.{Report, runOf}
+use Rattle.schedules.specs.Runs.{Report, refused, runOf}
 
 -- a number in decimal digits, at most d of them
 unfoldable pub digits : ℕ → ℕ → List ℕ
@@ -60,10 +60,14 @@ turnLines f (i ∷ []) = []
 turnLines f (i ∷ k ∷ []) = []
 turnLines f (i ∷ k ∷ n ∷ r) = turnLine i k n (constraintAt f n .ends) ++ turnLines f r
 
--- a run's report, printed
-unfoldable pub reportLines : Frame → Report → List ℕ
-reportLines f r = cond (eqb (r .refusal) 0) (headOf (r .islands) (r .turns) (r .takes) (r .degree) ++ turnLines f (r .table)) (refusalLine (r .refusal))
+-- the first line: a run's head, or its refusal
+unfoldable pub firstLine : Report → List ℕ
+firstLine r = cond (eqb (r .refusal) 0) (headOf (r .islands) (r .turns) (r .takes) (r .degree)) (refusalLine (r .refusal))
 
--- the program: above the longest frame's length it refuses 3 before any question
+-- what is printed of: above the longest frame's length refusal 3, before any question; else the run
+unfoldable pub answerTo : List ℕ → Report
+answerTo bs = cond (ltb 40971 (length bs)) (refused 3) (runOf bs true)
+
+-- the whole print: the first line, then a line a turn
 unfoldable pub printOf : List ℕ → List ℕ
-printOf bs = cond (ltb 40971 (length bs)) (refusalLine 3) (reportLines (decode bs) (runOf bs true))
+printOf bs = firstLine (answerTo bs) ++ turnLines (decode bs) (answerTo bs .table)

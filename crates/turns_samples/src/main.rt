@@ -1,6 +1,5 @@
 // What the program `turns` writes for each of several inputs: their number in one byte, then each after its length in three, the
 // high one first.
-use frame::Frame;
 use libc::STDIN_FILENO;
 
 fn length_of(high: u8, middle: u8, low: u8) -> usize {
@@ -14,8 +13,8 @@ fn print_next(frame: &mut [u8]) {
 
 // An input of a stated length, as far as it goes.
 fn print_sample(stated: usize) {
-    let mut frame = [0u8; Frame::MAX_BYTES + 1];
-    if stated <= Frame::MAX_BYTES + 1 {
+    let mut frame = [0u8; print_pieces::INPUT];
+    if stated <= print_pieces::INPUT {
         print_next(&mut frame[..stated]);
     }
 }

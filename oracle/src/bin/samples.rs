@@ -1,10 +1,11 @@
-//! Writes the inputs that the program `turns_samples` answers, and what it must print by the Rust and document 01, to the folder that is
-//! the argument: the number of inputs in one byte, then each after its length in three, the high one first.
+//! Writes stored inputs of the program `turns`, and what it must print for them by the Rust and document 01. The argument is the repository.
+//! `turns`, and `turns_too_long`, which is the same program, have one each; `turns_samples` has many: their number in one byte, then each after
+//! its length in three, the high one first.
 use oracle::calls::{Calls, Frame};
 use oracle::frames;
 use oracle::kapitsa::Rust;
 use oracle::scope;
-use std::path::PathBuf;
+use std::path::Path;
 
 /// A frame's file with one byte changed.
 fn changed(frame: &Frame, at: usize, byte: u8) -> Vec<u8> {
@@ -13,8 +14,17 @@ fn changed(frame: &Frame, at: usize, byte: u8) -> Vec<u8> {
     file
 }
 
-/// Every refusal of a file, the empty frame, document 01's longest input with a byte more, and lifts of rising size.
-fn inputs() -> Vec<Vec<u8>> {
+fn sample(root: &Path, name: &str) -> Vec<u8> {
+    std::fs::read(root.join("samples").join(name)).unwrap()
+}
+
+fn limit_file(name: &str) -> Vec<u8> {
+    frames::limit_files().into_iter().find(|(known, _)| *known == name).unwrap().1
+}
+
+/// Every refusal of a file, the empty frame, the longest input and one byte more, more than 4,096 constraints, lifts of rising size, and
+/// the two frames of samples/.
+fn inputs(root: &Path) -> Vec<Vec<u8>> {
     let small = frames::lift(1, 6, 5, 3);
     let sound = scope::write(&small);
     let types = 11;
@@ -32,22 +42,36 @@ fn inputs() -> Vec<Vec<u8>> {
         scope::write(&Frame::default()),
         sound,
     ];
-    inputs.extend(limits.filter(|file| file.len() < 20_000 || file.len() == 40_972));
+    inputs.extend(limits.filter(|file| file.len() < 20_000 || [40_971, 40_972].contains(&file.len())));
+    inputs.push(scope::write(&frames::one_pair(4097)));
     inputs.extend((2..5).map(|seed| scope::write(&frames::lift(seed, 20 * seed as usize, 30 * seed as usize, 10 * seed as usize))));
+    inputs.extend(["lift.frame", "document.frame"].map(|name| sample(root, name)));
     inputs
 }
 
+fn store(root: &Path, program: &str, input: &[u8], print: &[u8]) {
+    let folder = root.join("crates").join(program);
+    std::fs::write(folder.join("stdin"), input).unwrap();
+    std::fs::write(folder.join("stdout"), print).unwrap();
+    println!("{program}: {} bytes, print {}", input.len(), print.len());
+}
+
 fn main() {
-    let folder = PathBuf::from(std::env::args().nth(1).expect("the folder crates/turns_samples"));
-    let inputs = inputs();
+    let root = std::env::args().nth(1).expect("the repository");
+    let root = Path::new(&root);
+    let programs = [
+        ("turns", limit_file("the longest file")),
+        ("turns_too_long", limit_file("a byte more than the longest file")),
+    ];
+    for (program, input) in programs {
+        store(root, program, &input, &Rust.print(&input));
+    }
+    let inputs = inputs(root);
     let mut list = vec![u8::try_from(inputs.len()).unwrap()];
-    let mut print = Vec::new();
     for input in &inputs {
         list.extend(&(input.len() as u32).to_be_bytes()[1..]);
         list.extend(input);
-        print.extend(Rust.print(input));
     }
-    std::fs::write(folder.join("stdin"), &list).unwrap();
-    std::fs::write(folder.join("stdout"), &print).unwrap();
-    println!("{} inputs, {} bytes", inputs.len(), list.len());
+    let print: Vec<u8> = inputs.iter().flat_map(|input| Rust.print(input)).collect();
+    store(root, "turns_samples", &list, &print);
 }

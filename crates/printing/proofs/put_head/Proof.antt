@@ -9,9 +9,10 @@ use borrow.Author.Tests.{not-true, not-false, leb-true}
 use lib.Dec.{leb}
 use lib.ListN.{length}
 use Rattle.schedules.specs.Print.{headOf, islandsWord, turnsWord, takesWord, degreeWord}
-use Rattle.printing.specs.Puts.{longest}
-use Rattle.printing.proofs.Puts.{Wrote, wrote-none, wrote-then}
-use Rattle.printing.proofs.Lines.{field, field-short, no-room, with-room, head-fields}
+use Rattle.print_fields.specs.Puts.{longest}
+use Rattle.print_fields.proofs.Puts.{Wrote, wrote-none, wrote-then}
+use Rattle.print_fields.proofs.Fields.{field, field-short}
+use Rattle.printing.proofs.Lines.{no-room, with-room, head-fields}
 use Rattle.printing.proofs.put_head.Statement.{statement}
 use Rattle.printing.proofs.put_head.Tie as tie
 

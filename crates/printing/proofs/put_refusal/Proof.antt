@@ -8,8 +8,9 @@ use borrow.Author.Tests.{not-true, not-false, leb-true}
 use lib.Dec.{leb}
 use lib.ListN.{length}
 use Rattle.schedules.specs.Print.{refusalLine, refusedWord}
-use Rattle.printing.specs.Puts.{longest}
-use Rattle.printing.proofs.Lines.{field, no-room, with-room, refusal-field}
+use Rattle.print_fields.specs.Puts.{longest}
+use Rattle.print_fields.proofs.Fields.{field}
+use Rattle.printing.proofs.Lines.{no-room, with-room, refusal-field}
 use Rattle.printing.proofs.put_refusal.Statement.{statement}
 use Rattle.printing.proofs.put_refusal.Tie as tie
 

@@ -9,9 +9,10 @@ use borrow.Author.Tests.{not-true, not-false, leb-true}
 use lib.Dec.{leb}
 use lib.ListN.{length}
 use Rattle.schedules.specs.Print.{turnLine}
-use Rattle.printing.specs.Puts.{longest}
-use Rattle.printing.proofs.Puts.{Wrote, wrote-none, wrote-then}
-use Rattle.printing.proofs.Lines.{number, number-short, no-room, with-room, turn-fields}
+use Rattle.print_fields.specs.Puts.{longest}
+use Rattle.print_fields.proofs.Puts.{Wrote, wrote-none, wrote-then}
+use Rattle.print_fields.proofs.Fields.{number, number-short}
+use Rattle.printing.proofs.Lines.{no-room, with-room, turn-fields}
 use Rattle.printing.proofs.put_turn_line.Statement.{statement}
 use Rattle.printing.proofs.put_turn_line.Tie as tie
 

@@ -4,7 +4,7 @@ use mathlib.Core.Path.{sym}
 use borrow.Author.Tests.{lt-leb, le-leb, leb-true}
 use Rattle.lists.proofs.Laws.{bool-ext}
 use lib.Dec.{leb}
-use Rattle.printing.specs.Puts.{longest}
+use Rattle.print_fields.specs.Puts.{longest}
 use native.Mathlib.Omega.{arith}
 use Rattle.printing.proofs.roomy.Statement.{statement}
 use Rattle.printing.proofs.roomy.Tie as tie

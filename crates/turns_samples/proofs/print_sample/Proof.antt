@@ -8,9 +8,6 @@ use borrow.Author.Needs.{needs}
 use Rattle.turns_samples.proofs.print_sample.Statement.{statement}
 use Rattle.turns_samples.proofs.print_sample.Tie as tie
 
-add-if1 : tie.Need-add-if1
-add-if1 c = search needs
-
 array-borrow-prefix-frame : tie.Need-array-borrow-prefix-frame
 array-borrow-prefix-frame c = search needs
 
@@ -30,7 +27,6 @@ pub print-sample-spec : {M : Type 1} → statement M
 print-sample-spec =
     tie.close
     (tie.spec
-    add-if1
     array-borrow-prefix-frame
     slice-aggregate-print-next
     print-next-requires

@@ -1,0 +1,4 @@
+pub mod Puts
+pub mod Digits
+pub mod Spelling
+pub mod Fields
