@@ -17,8 +17,8 @@ use Rattle.lists.proofs.Sums.{collapse, sum-swap, sum-ext, sum-null, sum-zero, 
 use Rattle.lists.proofs.Laws.{and-left, or-right, by-cases, clashes, mem-self, range-high, max-in, getD-mem, same-sum, sum-ext-in, eqb-sym, sum-one, sum-distinct, all-map, count-any}
 use Rattle.frame.specs.Questions.{question}
 use Rattle.frame.specs.Files.{decode, frameRefusal}
-use Rattle.island.specs.Islands.{islandCount, label, ofIsland}
-use Rattle.island.proofs.Theorem.{islands-few, label-below-at}
+use Rattle.connected_sets.specs.Islands.{islandCount, label, ofIsland}
+use Rattle.connected_sets.proofs.Theorem.{islands-few, label-below-at}
 use Rattle.colored_bodies.specs.declared.BodyBinding.{BodyBinding}
 use Rattle.schedules.specs.Condition.{SameNumbers, due, takesOn, Claim}
 use Rattle.schedules.proofs.Accepted.{Accepted, accepted, live, live-number}
@@ -111,7 +111,7 @@ module _ (f : Frame) (ok : Accepted f) (p : Plans) (st : (i : ℕ) (l : i < isla
       (λ k n. let h = below k (p i .groups) n in group-right f ok i l (p i) (st i l) k h (o i k) (ord i k l h) .1))
 
   -- every take makes a turn
-  all-turns : turnsOf (schedule f p o) ≡ schedule f p o
+  pub all-turns : turnsOf (schedule f p o) ≡ schedule f p o
   unfolding turnsOf
   all-turns = filter-all (λ c. eqb (c .refusal) 0) (schedule f p o)
       (sym (all-map (λ n. eqb n 0) (λ c. c .refusal) (schedule f p o)) ∙ ap (all (λ n. eqb n 0)) all-succeed ∙ all-map (λ n. eqb n 0) (λ c. 0) (schedule f p o) ∙ all-true (schedule f p o))
@@ -235,6 +235,9 @@ module _ (f : Frame) (ok : Accepted f) where
   pub run-takes : takesOf (runCalls f) ≡ degreeSum f
   run-takes = count-takes f ok (planAt f) run-stands (rising (planAt f)) run-rises
 
+  pub run-all : turnsOf (runCalls f) ≡ runCalls f
+  run-all = all-turns f ok (planAt f) run-stands (rising (planAt f)) run-rises
+
   pub run-once : (n : ℕ) → takesOn n (runCalls f) ≡ one (touches f (constraintAt f n))
   run-once = all-once f ok (planAt f) run-stands (rising (planAt f)) run-rises
 
@@ -251,7 +254,7 @@ unfolding runOf
 run-report bs e =
     let f = decode bs in
     let ok = accepted bs e in
-    rw (runs bs e, run-turns f ok, run-takes f ok, all-turns f ok (planAt f) (run-stands f ok) (rising (planAt f)) (run-rises f ok))
+    rw (runs bs e, run-turns f ok, run-takes f ok, run-all f ok)
 
 pub condition3 : Claim
 condition3 bs p o e sch =

@@ -11,7 +11,7 @@ use borrow.Author.Tests.{eqb-true, eqb-false, ltb-true, ltb-false, lt-ltb, le-le
 use Rattle.lists.specs.Basics.{any, all, range, mem, place, distinct, rises}
 use Rattle.lists.proofs.Laws.{and-left, and-right, or-right, clashes, by-cases, not-true-false, any-in, mem-self, in-range, range-high, length-range, all-intro, all-in, filter-mem, mem-filter, getD-mem, rises-filter, rises-distinct, filter-length-le, distinct-count, count-distinct, mem-count, count-any}
 use Rattle.frame.specs.Frames.{Frame, dynamic}
-use Rattle.island.specs.Islands.{islandCount, ofIsland}
+use Rattle.connected_sets.specs.Islands.{islandCount, ofIsland}
 use Rattle.groups.specs.Groups.{Plan, members, groupBodies, positions}
 use Rattle.groups.proofs.Colors.{proper}
 use Rattle.colored_bodies.specs.Bindings.{lastBelow, bindRefusal, bindOf, Handed, takeOf}
@@ -21,7 +21,7 @@ use Rattle.schedules.proofs.Accepted.{Accepted, Live, flag-dynamic}
 use Rattle.schedules.proofs.Plans.{endsAt, pairsAt, colorsAt, of-island, touch-live, length-pairs, length-colors, ends-are, Stands}
 
 -- a member of a group is a rank of its color
-member : (cs : List ℕ) (k r : ℕ) → mem r (members cs k) ≡ true → (r < length cs) × (k ≡ getD cs r 0)
+pub member : (cs : List ℕ) (k r : ℕ) → mem r (members cs k) ≡ true → (r < length cs) × (k ≡ getD cs r 0)
 unfolding members
 member cs k r h = let o = filter-mem (λ x. eqb k (getD cs x 0)) r (range (length cs)) h in (omega (arith, range-high r 0 (length cs) (o .0)), eqb-true k (getD cs r 0) (o .1))
 
@@ -87,7 +87,7 @@ module _ (f : Frame) (ok : Accepted f) (i : ℕ) (l : i < islandCount f) (p : Pl
       (any-in (λ s. mem b (getD (pairsAt f i) s [])) r (members colors k) m (rw (q .ends-of) h))
 
   -- two members share no dynamic body
-  disjoint : (r s b : ℕ) → mem r (members colors k) ≡ true → mem s (members colors k) ≡ true → eqb r s ≡ false → typed (f .types) b ≡ true
+  pub disjoint : (r s b : ℕ) → mem r (members colors k) ≡ true → mem s (members colors k) ≡ true → eqb r s ≡ false → typed (f .types) b ≡ true
       → mem b (endsAt f (at r)) ≡ true → mem b (endsAt f (at s)) ≡ true → ⊥
   unfolding dynamic colorsAt
   disjoint r s b m n e t h j =

@@ -3,4 +3,9 @@ pub mod Standing
 pub mod Plans
 pub mod Groups
 pub mod Condition3
+pub mod Existence
+pub mod Calls
+pub mod Lanes
+pub mod Table
+pub mod Labels
 pub mod Samples

@@ -6,7 +6,8 @@ use borrow.Author.Tests.{eqb-true, eq-eqb, le-leb}
 use Rattle.lists.proofs.Laws.{and-left, and-right, and-both, by-cases, any-in, any-out, in-range, all-intro, all-map, filter-mem, max-in, filter-length-le, length-range, getD-map-lt}
 use Rattle.frame.specs.Questions.{pairCount, bits}
 use Rattle.groups.specs.Groups.{Plan, pairsOf, flagged, colorsOf, groupCount, members, groupBodies, positions, planOf}
-use Rattle.constraint_coloring.specs.Plans.{roomy, updateRefusal, fresh, planFor}
+use Rattle.plan_questions.specs.Plans.{Tables, roomy, updateRefusal}
+use Rattle.plan_history.specs.Memory.{fresh, planFor}
 use Rattle.constraint_coloring.specs.Calls.{refusalWith}
 use Rattle.schedules.specs.Condition.{Planned}
 use mathlib.Core.Bool.{cond, Bool, true, false, _&&_}
@@ -18,10 +19,10 @@ use native.Mathlib.Omega.{arith}
 use Rattle.lists.specs.Basics.{one, any, all, count, mem, joinMap}
 use Rattle.lists.proofs.Sums.{sum-le, sum-map, sum-filter, sum-getD}
 use Rattle.frame.specs.Frames.{Frame, constraints, numbers, bodies, constraintAt, nothing, conflicts, dynamic, on, touches, most, fits, degree, degreeMax, flagOf}
-use Rattle.island.specs.Islands.{islandCount, label, ofIsland}
-use Rattle.island.proofs.Theorem.{dynamic-below, islands-few, island-touches}
+use Rattle.connected_sets.specs.Islands.{islandCount, label, ofIsland}
+use Rattle.connected_sets.proofs.Theorem.{dynamic-below, islands-few, island-touches}
 use Rattle.groups.proofs.Colors.{color-few, colors-length}
-use Rattle.constraint_coloring.proofs.Memory.{remembers}
+use Rattle.plan_history.proofs.Memory.{remembers}
 use Rattle.colored_bodies.specs.declared.BodyBinding.{BodyBinding}
 use Rattle.schedules.specs.Runs.{flags, pairsFor, planAt, membersIn, bodiesIn, takeRank}
 use Rattle.schedules.proofs.Accepted.{Accepted, Live, live, flag-dynamic}
@@ -161,13 +162,18 @@ module _ (f : Frame) (ok : Accepted f) where
     pub plan-stands : Stands (planAt f i)
     plan-stands = stands (planAt f i) (rw plan-is (plan-lookups (flags f) (pairsFor f i) (omega (arith, ap length pairs-apart, length-pairs, few-here))))
 
+    -- on tables with room the update is accepted
+    pub accepted-with : (t : Tables) → roomy (length (f .types)) (length (ofIsland f i)) t ≡ true → refusalWith t (flags f) (pairsFor f i) ≡ 0
+    unfolding refusalWith
+    accepted-with t room =
+        let half : pairCount (pairsFor f i) ≡ length (ofIsland f i) = omega (arith, pairs-long) in
+        let r : roomy (length (flags f)) (pairCount (pairsFor f i)) t ≡ true = rw (length-flags, half) room in
+        rw r accepts
+
     -- the plan of an update, as its contract says
     pub planned-stands : (p : Plan) → Planned f i p → Stands p
-    unfolding refusalWith
     planned-stands p h =
-        let half : pairCount (pairsFor f i) ≡ length (ofIsland f i) = omega (arith, pairs-long) in
-        let r : roomy (length (flags f)) (pairCount (pairsFor f i)) (h .before) ≡ true = rw (length-flags, half) (h .room) in
-        let ok : refusalWith (h .before) (flags f) (pairsFor f i) ≡ 0 = rw r accepts in
+        let ok = accepted-with (h .before) (h .room) in
         rw (h .stands) (stands _ (updated-lookups (flags f) (pairsFor f i) (h .before) (h .after) (h .answer) ok (h .updated)))
 
     -- ---- few groups

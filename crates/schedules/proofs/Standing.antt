@@ -12,10 +12,10 @@ use Rattle.lists.proofs.Laws.{and-left, and-right, by-cases}
 use Rattle.groups.specs.Groups.{Plan, pairsOf, colorsOf, colorFrom, groupCount, members, groupBodies, positions, flatten, planOf}
 use Rattle.painting.proofs.Pairs.{pairs-length}
 use Rattle.constraint_coloring.specs.declared.Update.{Update}
-use Rattle.constraint_coloring.specs.Plans.{Tables, positionsRefusal, positionsAt}
+use Rattle.plan_questions.specs.Plans.{Tables, positionsRefusal, positionsAt}
 use Rattle.constraint_coloring.specs.Calls.{freshPlan, planAfter, carried, holds, refusalWith, changesWith, written, Updated}
 use Rattle.constraint_coloring.proofs.Accepted.{accepted}
-use Rattle.constraint_coloring.proofs.Lookups.{group-part, positions-asked, positions-found}
+use Rattle.plan_questions.proofs.Lookups.{group-part, positions-asked, positions-found}
 use Rattle.colored_bodies.specs.declared.BodyBinding.{BodyBinding}
 use Rattle.colored_bodies.specs.Bindings.{takeOf}
 use Rattle.schedules.specs.Runs.{membersIn, bodiesIn, takeRank}

@@ -8,14 +8,14 @@ use lib.ListN.{length, getD}
 use Rattle.lists.specs.Basics.{one, count, joinMap}
 use Rattle.frame.specs.Frames.{Frame, conflicts, constraintAt, on, touches, none, turnCount, degreeSum, degreeMax}
 use Rattle.frame.specs.Files.{decode, frameRefusal}
-use Rattle.island.specs.Islands.{islandCount, label, ofIsland}
+use Rattle.connected_sets.specs.Islands.{islandCount, label, ofIsland}
 use Rattle.groups.specs.Groups.{Plan}
 use Rattle.constraint_coloring.specs.declared.ConstraintColoring.{ConstraintColoring}
 use Rattle.constraint_coloring.specs.declared.Update.{Update}
-use Rattle.constraint_coloring.specs.Plans.{Tables, roomy}
+use Rattle.plan_questions.specs.Plans.{Tables, roomy}
 use Rattle.constraint_coloring.specs.Calls.{freshPlan, planAfter, Updated}
 use Rattle.colored_bodies.specs.Bindings.{Handed}
-use Rattle.schedules.specs.Runs.{Call, Plans, Orders, flags, pairsFor, membersIn, schedule, rising, turnOf, turnsOf, takesOf, runOf}
+use Rattle.schedules.specs.Runs.{Call, Plans, Orders, flags, pairsFor, planAt, membersIn, schedule, rising, runCalls, turnOf, turnsOf, takesOf, runOf}
 
 -- two lists of exactly the same numbers, each as often
 abbrev pub SameNumbers : List ℕ → List ℕ → Type 0
@@ -91,3 +91,33 @@ pub record Condition3 (bs : List ℕ) (f : Frame) (p : Plans) (o : Orders) : Typ
 -- of every file that is accepted, and every schedule of its frame
 abbrev pub Claim : Type 0
 Claim = (bs : List ℕ) (p : Plans) (o : Orders) → frameRefusal bs ≡ 0 → Schedule (decode bs) p o → Condition3 bs (decode bs) p o
+
+-- ---- that there are schedules
+
+-- orders that permute the members of the definition's plan, group by group
+abbrev pub Permuted : Frame → Orders → Type 0
+Permuted f o = (i k : ℕ) → i < islandCount f → k < planAt f i .groups → SameNumbers (o i k) (membersIn (planAt f i) k)
+
+-- tables for each island, with room for its update
+abbrev pub Roomy : Frame → (ℕ → Tables) → Type 0
+Roomy f t = (i : ℕ) → i < islandCount f → roomy (length (f .types)) (length (ofIsland f i)) (t i) ≡ true
+
+-- a schedule whose updates find these tables; its orders may depend on its plans
+pub record Scheduled (f : Frame) (t : ℕ → Tables) (o : Plans → Orders) : Type 0 where
+  pub plans : Plans
+  pub made : Schedule f plans (o plans)
+  pub found : (i : ℕ) (l : i < islandCount f) → made .plans i l .before ≡ t i
+
+-- of every file that is accepted: for any tables with room and any such orders there is a schedule; there are tables with room
+abbrev pub Exist : Type 0
+Exist = (bs : List ℕ) (t : ℕ → Tables) (o : Orders) → frameRefusal bs ≡ 0 → Roomy (decode bs) t → Permuted (decode bs) o → Scheduled (decode bs) t (λ p. o)
+
+abbrev pub RoomExists : Type 0
+RoomExists = (f : Frame) → (t : ℕ → Tables) × Roomy f t
+
+-- there is one with rising orders, and each such schedule is the run
+abbrev pub RisingExists : Type 0
+RisingExists = (bs : List ℕ) (t : ℕ → Tables) → frameRefusal bs ≡ 0 → Roomy (decode bs) t → Scheduled (decode bs) t rising
+
+abbrev pub RisingRuns : Type 0
+RisingRuns = (bs : List ℕ) (p : Plans) → frameRefusal bs ≡ 0 → Schedule (decode bs) p (rising p) → schedule (decode bs) p (rising p) ≡ runCalls (decode bs)

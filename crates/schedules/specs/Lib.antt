@@ -1,4 +1,6 @@
 pub mod Runs
 pub mod Condition
+pub mod Lanes
+pub mod Labels
 pub mod Print
 pub mod Samples

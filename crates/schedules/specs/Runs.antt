@@ -8,9 +8,10 @@ use Rattle.lists.specs.Basics.{filter, sumOf, count, range, joinMap}
 use Rattle.frame.specs.Frames.{Frame, constraintAt, flagOf, allSound, degreeMax}
 use Rattle.frame.specs.Questions.{question, asked}
 use Rattle.frame.specs.Files.{decode, fileQuestions}
-use Rattle.island.specs.Islands.{islandCount, ofIsland}
+use Rattle.connected_sets.specs.Islands.{islandCount, ofIsland}
 use Rattle.groups.specs.Groups.{Plan}
-use Rattle.constraint_coloring.specs.Plans.{fresh, remembered, planFor, groupPart, positionsRefusal, positionsAt}
+use Rattle.plan_questions.specs.Plans.{groupPart, positionsRefusal, positionsAt}
+use Rattle.plan_history.specs.Memory.{fresh, remembered, planFor}
 use Rattle.colored_bodies.specs.declared.BodyBinding.{BodyBinding}
 use Rattle.colored_bodies.specs.Bindings.{Handed, Taking, bindOf, takeOf}
 
