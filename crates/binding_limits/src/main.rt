@@ -1,9 +1,13 @@
 // Bindings at document 01's take sample and at their limits. Each bind prints how many types and bodies it is given, its refusal and
 // the binding's count; each take its two positions, its refusal, and the two bodies if there is none, each with 1 for "dynamic".
+// `take` is the take by value, `take_at` the take over a binding lent by `&mut`.
 use colored_bodies::BodyBinding;
+use colored_bodies::Step;
 use colored_bodies::Take;
 ghost use mathlib.Core.Path.{_≡_};
+ghost use mathlib.Core.List.{[], _∷_};
 ghost use lib.ListN.{length};
+ghost use Rattle.colored_bodies.specs.Answers.{Takes};
 
 fn put(n: u64) {
     io::write_all(1, b" ");
@@ -42,15 +46,34 @@ fn show_answer(take: Take) {
     }
 }
 
-fn show_take(binding: BodyBinding, a: usize, b: usize) -> BodyBinding {
-    let step = binding.pair_at(a, b);
+fn show_step(step: Step, a: usize, b: usize) -> BodyBinding {
     let answer = step.take;
-    io::write_all(1, b"take");
     put(a as u64);
     put(b as u64);
     show_answer(answer);
     io::write_all(1, b"\n");
     step.binding
+}
+
+fn show_take(binding: BodyBinding, a: usize, b: usize) -> BodyBinding {
+    io::write_all(1, b"take");
+    show_step(binding.pair_at(a, b), a, b)
+}
+
+// A take over a binding that this function keeps, and lends.
+fn take_kept(mut binding: BodyBinding, a: usize, b: usize) -> Step
+    ensures { λ r. ⌜ Takes binding (a ∷ b ∷ []) (r .take) (r .binding) ⌝ }
+{
+    let take = colored_bodies::take_at(&mut binding, a, b);
+    Step {
+        binding: binding,
+        take: take,
+    }
+}
+
+fn show_take_at(binding: BodyBinding, a: usize, b: usize) -> BodyBinding {
+    io::write_all(1, b"take_at");
+    show_step(take_kept(binding, a, b), a, b)
 }
 
 // Places 0, 1, 2 dynamic: (1, 2), then (0, 2) gives 11, then (0, 1) gives 10.
@@ -68,6 +91,16 @@ fn read_only() {
     b = show_take(b, 3, 0);
     b = show_take(b, 0, 2);
     show_take(b, 3, 1);
+}
+
+// The sample by `take_at`, its places 0, 1, 2 being the bodies 1, 2, 3; then two read-only bodies, taken again.
+fn lent() {
+    let mut b = show_bind(&[0, 2, 2, 2, 1, 0], &[1, 2, 3, 4, 5]);
+    b = show_take_at(b, 1, 2);
+    b = show_take_at(b, 0, 2);
+    b = show_take_at(b, 0, 1);
+    b = show_take_at(b, 3, 4);
+    show_take_at(b, 4, 3);
 }
 
 // Questions 3, 5 and 8, and a count of 0 and of 1.
@@ -127,6 +160,7 @@ fn any_value() {
 fn main() {
     sample();
     read_only();
+    lent();
     small();
     large();
     any_value();
