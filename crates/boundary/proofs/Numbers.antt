@@ -15,9 +15,10 @@ use Rattle.island.specs.Calls.{Built}
 use Rattle.constraint_coloring.specs.declared.ConstraintColoring.{ConstraintColoring}
 use Rattle.constraint_coloring.specs.declared.Update.{Update}
 use Rattle.constraint_coloring.specs.declared.Positions.{Positions}
-use Rattle.constraint_coloring.specs.Plans.{Tables, part, groupPart}
+use Rattle.plan_questions.specs.Plans.{Tables, part, groupPart}
 use Rattle.constraint_coloring.specs.Calls.{updateNumber, updateChanged, planAfter, Updated, positionsNumber, Located}
-use Rattle.boundary.specs.Exports.{planFrom, planNumbers, Updates, Found, positionNumbers, Locates}
+use Rattle.answer_numbers.specs.Numbers.{planFrom, planNumbers, positionNumbers}
+use Rattle.boundary.specs.Exports.{Updates, Found, Locates}
 
 pub built-by : {f : Frame} {k : ℕ} {p₀ b₀ m₀ j₀ p b m j : List ℕ} {number islands r count : ℕ}
     → Built f k p₀ b₀ m₀ j₀ p b m j number islands → r ≡ number → count ≡ islands → Built f k p₀ b₀ m₀ j₀ p b m j r count

@@ -6,28 +6,20 @@ use mathlib.Core.List.{List, [], _∷_}
 use lib.Dec.{eqb}
 use lib.ListN.{length, getD, take, drop}
 use Rattle.lists.specs.Basics.{one}
-use Rattle.constraint_coloring.specs.declared.ConstraintColoring.{ConstraintColoring}
 use Rattle.constraint_coloring.specs.declared.Update.{Update}
 use Rattle.constraint_coloring.specs.declared.Positions.{Positions}
-use Rattle.constraint_coloring.specs.declared.Positions.the-variants as positions
-use Rattle.constraint_coloring.specs.Plans.{Tables, groupPart}
+use Rattle.plan_questions.specs.Plans.{Tables, groupPart}
 use Rattle.constraint_coloring.specs.Calls.{updateNumber, updateChanged, planAfter, Updated, positionsNumber, Located}
 use Rattle.colored_bodies.specs.declared.BodyBinding.{BodyBinding}
 use Rattle.colored_bodies.specs.declared.Take.{Take}
-use Rattle.colored_bodies.specs.declared.Take.the-variants as take
 use Rattle.colored_bodies.specs.Answers.{takeNumber, Takes}
-use Rattle.frame_run.specs.declared.Report.{Report}
-use Rattle.frame_run.specs.declared.Answer.{Answer}
-use Rattle.frame_run.specs.Calls.{Lent, runNumber, runReport, Ran}
+use Rattle.answer_numbers.specs.Numbers.{planFrom, planNumbers, positionNumbers, handedNumbers}
+use Rattle.run_answer.specs.declared.Report.{Report}
+use Rattle.run_answer.specs.declared.Answer.{Answer}
+use Rattle.run_answer.specs.Answers.{runNumber, runReport}
+use Rattle.frame_run.specs.Calls.{Lent, Ran}
 
 -- ---- updates and lookups
-
--- a plan as four numbers: bodies, constraints, groups, and the constraints of the largest group
-abbrev pub planFrom : List ℕ → ConstraintColoring
-planFrom p = record { «body_count» = getD p 0 0; «constraint_count» = getD p 1 0; «color_count» = getD p 2 0; «max_color_constraint_count» = getD p 3 0 }
-
-abbrev pub planNumbers : ConstraintColoring → List ℕ
-planNumbers p = p .«body_count» ∷ p .«constraint_count» ∷ p .«color_count» ∷ p .«max_color_constraint_count» ∷ []
 
 -- an update of a plan with the tables t, which are left as u
 pub record Updates (plan flags pairs : List ℕ) (t u : Tables) (number changed : ℕ) (left : List ℕ) : Type 0 where
@@ -43,11 +35,7 @@ pub record Found (n : ℕ) (offsets table : List ℕ) (k start size : ℕ) : Typ
   pub as-long : size ≡ length (groupPart n offsets table k)
   pub from-offset : start ≡ cond (eqb size 0) 0 (getD offsets k 0)
 
--- the positions of a constraint; both 0 where they are refused
-abbrev pub positionNumbers : Positions → List ℕ
-positionNumbers (positions.At a b) = a ∷ b ∷ []
-positionNumbers (positions.Refused n) = 0 ∷ 0 ∷ []
-
+-- a lookup of the positions of constraint r of n
 pub record Locates (n : ℕ) (table : List ℕ) (r number : ℕ) (places : List ℕ) : Type 0 where
   pub answer : Positions
   pub located : Located n table r answer
@@ -55,11 +43,6 @@ pub record Locates (n : ℕ) (table : List ℕ) (r number : ℕ) (places : List 
   pub numbers : places ≡ positionNumbers answer
 
 -- ---- bindings
-
--- the bodies that a take hands: a body and 1 for "dynamic" or 0 for "read-only", twice; all 0 where it is refused
-abbrev pub handedNumbers : Take → List ℕ
-handedNumbers (take.Taken x p y q) = x ∷ one p ∷ y ∷ one q ∷ []
-handedNumbers (take.Refused n) = 0 ∷ 0 ∷ 0 ∷ 0 ∷ []
 
 -- a take of the positions ps from the binding b, which is left so
 pub record Took (b : BodyBinding) (ps : List ℕ) (left : BodyBinding) (number : ℕ) (handed : List ℕ) : Type 0 where

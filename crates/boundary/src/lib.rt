@@ -2,41 +2,12 @@
 mod run;
 
 use colored_bodies::BodyBinding;
-use colored_bodies::Marked;
-use constraint_coloring::ConstraintColoring;
-use constraint_coloring::Positions;
-use constraint_coloring::Update;
-use island::Answer;
-ghost use mathlib.Core.Path.{_≡_};
 ghost use mathlib.Core.List.{[], _∷_};
-ghost use mathlib.Core.Bool.{cond};
-ghost use lib.Dec.{eqb};
 ghost use lib.ListN.{length, getD};
-ghost use Rattle.lists.specs.Basics.{one};
 ghost use Rattle.frame.specs.Frames.{frameOf};
 ghost use Rattle.island.specs.Calls.{islandRefusal, Built};
-ghost use Rattle.island.specs.Answers.{answerNumber, answerIslands};
-ghost use Rattle.colored_bodies.specs.Answers.{takeNumber, withBodies, Placed, Binds};
-ghost use Rattle.constraint_coloring.specs.Calls.{updateNumber, updateChanged, planAfter, positionsNumber};
-ghost use Rattle.boundary.specs.Exports.{planFrom, Updates, Found, positionNumbers, Locates, handedNumbers, Took};
-
-fn island_refusal(answer: Answer) -> u8
-    ensures { λ r. ⌜ r ≡ answerNumber answer ⌝ }
-{
-    match answer {
-        Answer::Islands(_) => 0,
-        Answer::Refused(n) => n,
-    }
-}
-
-fn islands_in(answer: Answer) -> u16
-    ensures { λ r. ⌜ r ≡ answerIslands answer ⌝ }
-{
-    match answer {
-        Answer::Islands(count) => count,
-        Answer::Refused(_) => 0,
-    }
-}
+ghost use Rattle.colored_bodies.specs.Answers.{Binds};
+ghost use Rattle.boundary.specs.Exports.{Updates, Found, Locates, Took};
 
 // The islands of a frame, and how many; answers the refusal or 0.
 #[no_mangle]
@@ -67,49 +38,8 @@ pub extern "C" fn engkarupi_islands(
         manifold_islands,
         joint_islands,
     );
-    *island_count = islands_in(answer);
-    island_refusal(answer)
-}
-
-fn update_refusal(answer: Update) -> u8
-    ensures { λ r. ⌜ r ≡ updateNumber answer ⌝ }
-{
-    match answer {
-        Update::Changed(_) => 0,
-        Update::Unchanged => 0,
-        Update::Refused(n) => n,
-    }
-}
-
-fn is_changed(answer: Update) -> u8
-    ensures { λ r. ⌜ r ≡ one (updateChanged answer) ⌝ }
-{
-    match answer {
-        Update::Changed(_) => 1,
-        Update::Unchanged => 0,
-        Update::Refused(_) => 0,
-    }
-}
-
-fn plan_after(plan: ConstraintColoring, answer: Update) -> ConstraintColoring
-    ensures { λ r. ⌜ r ≡ planAfter plan answer ⌝ }
-{
-    match answer {
-        Update::Changed(changed) => changed,
-        Update::Unchanged => plan,
-        Update::Refused(_) => plan,
-    }
-}
-
-fn plan_from(plan: &[usize; 4]) -> ConstraintColoring
-    ensures { λ r. ⌜ r ≡ planFrom (now (plan .entry)) ⌝ }
-{
-    ConstraintColoring {
-        body_count: plan[0],
-        constraint_count: plan[1],
-        color_count: plan[2],
-        max_color_constraint_count: plan[3],
-    }
+    *island_count = island::islands_of(answer);
+    island::refusal_of(answer)
 }
 
 // An update of a plan, and 1 if it changed; answers the refusal or 0.
@@ -135,7 +65,7 @@ pub extern "C" fn engkarupi_update(
 ) -> u8
     ensures { λ r. ⌜ Updates (now (plan .entry)) (now (flags .entry)) (now (pairs .entry)) (record { dynamic-bodies = now («dynamic_bodies» .entry); endpoints = now (endpoints .entry); body-offsets = now («body_offsets» .entry); body-constraints = now («body_constraints» .entry); scratch-offsets = now («scratch_offsets» .entry); constraint-colors = now («constraint_colors» .entry); color-stamps = now («color_stamps» .entry); body-stamps = now («body_stamps» .entry); color-offsets = now («color_offsets» .entry); colored-constraints = now («colored_constraints» .entry); color-body-offsets = now («color_body_offsets» .entry); color-bodies = now («color_bodies» .entry); constraint-body-positions = now («constraint_body_positions» .entry) }) (record { dynamic-bodies = now («dynamic_bodies» .exit); endpoints = now (endpoints .exit); body-offsets = now («body_offsets» .exit); body-constraints = now («body_constraints» .exit); scratch-offsets = now («scratch_offsets» .exit); constraint-colors = now («constraint_colors» .exit); color-stamps = now («color_stamps» .exit); body-stamps = now («body_stamps» .exit); color-offsets = now («color_offsets» .exit); colored-constraints = now («colored_constraints» .exit); color-body-offsets = now («color_body_offsets» .exit); color-bodies = now («color_bodies» .exit); constraint-body-positions = now («constraint_body_positions» .exit) }) r (now (changed .exit)) (now (plan .exit)) ⌝ }
 {
-    let before = plan_from(plan);
+    let before = answer_numbers::plan_from(plan);
     let answer = before.update(
         flags,
         pairs,
@@ -153,28 +83,15 @@ pub extern "C" fn engkarupi_update(
         color_bodies,
         constraint_body_positions,
     );
-    let after = plan_after(before, answer);
+    let after = answer_numbers::plan_after(before, answer);
     *plan = [
         after.body_count,
         after.constraint_count,
         after.color_count,
         after.max_color_constraint_count,
     ];
-    *changed = is_changed(answer);
-    update_refusal(answer)
-}
-
-// Where the part of a group starts, if it is not empty.
-fn part_start(offsets: &[u16], group: usize, size: usize) -> usize
-    ensures { λ r. ⌜ r ≡ cond (eqb size 0) 0 (getD (now (offsets .entry)) group 0) ⌝ }
-{
-    if size == 0 {
-        return 0;
-    }
-    if offsets.len() <= group {
-        return 0;
-    }
-    offsets[group] as usize
+    *changed = answer_numbers::is_changed(answer);
+    answer_numbers::update_refusal(answer)
 }
 
 // The members of a group: where they start in their table; answers how many.
@@ -188,10 +105,10 @@ pub extern "C" fn engkarupi_members(
 ) -> usize
     ensures { λ r. ⌜ Found (getD (now (plan .entry)) 2 0) (now («color_offsets» .entry)) (now («colored_constraints» .entry)) group (now (start .exit)) r ⌝ }
 {
-    let planned = plan_from(plan);
+    let planned = answer_numbers::plan_from(plan);
     let part = planned.constraints_in_schedule_group(color_offsets, colored_constraints, group);
     let size = part.len();
-    *start = part_start(color_offsets, group, size);
+    *start = answer_numbers::part_start(color_offsets, group, size);
     size
 }
 
@@ -206,26 +123,11 @@ pub extern "C" fn engkarupi_bodies(
 ) -> usize
     ensures { λ r. ⌜ Found (getD (now (plan .entry)) 2 0) (now («color_body_offsets» .entry)) (now («color_bodies» .entry)) group (now (start .exit)) r ⌝ }
 {
-    let planned = plan_from(plan);
+    let planned = answer_numbers::plan_from(plan);
     let part = planned.bodies_in_schedule_group(color_body_offsets, color_bodies, group);
     let size = part.len();
-    *start = part_start(color_body_offsets, group, size);
+    *start = answer_numbers::part_start(color_body_offsets, group, size);
     size
-}
-
-fn locate(answer: Positions, places: &mut [u16; 2]) -> u8
-    ensures { λ r. ⌜ (r ≡ positionsNumber answer) × (now (places .exit) ≡ positionNumbers answer) ⌝ }
-{
-    match answer {
-        Positions::At(a, b) => {
-            *places = [a, b];
-            0
-        }
-        Positions::Refused(n) => {
-            *places = [0, 0];
-            n
-        }
-    }
 }
 
 // The positions of a constraint among its group's bodies; answers the refusal or 0.
@@ -238,9 +140,9 @@ pub extern "C" fn engkarupi_positions(
 ) -> u8
     ensures { λ r. ⌜ Locates (getD (now (plan .entry)) 1 0) (now («constraint_body_positions» .entry)) constraint r (now (places .exit)) ⌝ }
 {
-    let planned = plan_from(plan);
+    let planned = answer_numbers::plan_from(plan);
     let answer = planned.body_positions_for_constraint(constraint_body_positions, constraint);
-    locate(answer, places)
+    answer_numbers::locate(answer, places)
 }
 
 // A bind: the binding's bodies, marks and count; answers the refusal or 0.
@@ -264,31 +166,6 @@ pub extern "C" fn engkarupi_bind(
     bound.refusal
 }
 
-// The answer of a take of marks as numbers, with the bodies' numbers.
-fn hand(bodies: &[u16; 4096], a: usize, b: usize, marked: Marked, handed: &mut [u16; 4]) -> u8
-    requires { ⌜ Placed a b marked ⌝ }
-    ensures { λ r. ⌜ (r ≡ takeNumber (withBodies (now (bodies .entry)) a b marked)) × (now (handed .exit) ≡ handedNumbers (withBodies (now (bodies .entry)) a b marked)) ⌝ }
-{
-    match marked {
-        Marked::Taken {
-            first_dynamic,
-            second_dynamic,
-        } => {
-            *handed = [
-                bodies[a],
-                first_dynamic as u16,
-                bodies[b],
-                second_dynamic as u16,
-            ];
-            0
-        }
-        Marked::Refused(n) => {
-            *handed = [0, 0, 0, 0];
-            n
-        }
-    }
-}
-
 // A take from a binding: two bodies in the order asked, each with 1 for "dynamic"; answers the refusal or 0.
 #[no_mangle]
 pub extern "C" fn engkarupi_take(
@@ -302,5 +179,5 @@ pub extern "C" fn engkarupi_take(
     ensures { λ r. ⌜ Took (record { bodies = now (bodies .entry); marks = now (marks .entry); count = count }) (a ∷ b ∷ []) (record { bodies = now (bodies .entry); marks = now (marks .exit); count = count }) r (now (handed .exit)) ⌝ }
 {
     let marked = colored_bodies::take_marks(marks, count, a, b);
-    hand(bodies, a, b, marked, handed)
+    answer_numbers::hand(bodies, a, b, marked, handed)
 }

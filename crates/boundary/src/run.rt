@@ -62,12 +62,12 @@ pub extern "C" fn engkarupi_run(
         color_bodies,
         constraint_body_positions,
     );
-    let carried = frame_run::reported(answer);
+    let carried = run_answer::reported(answer);
     *report = [
         carried.islands,
         carried.turns,
         carried.takes,
         carried.degree,
     ];
-    frame_run::run_refusal(answer)
+    run_answer::run_refusal(answer)
 }

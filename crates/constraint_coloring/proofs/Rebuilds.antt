@@ -18,7 +18,7 @@ use Rattle.painting.specs.Painting.{Painted}
 use Rattle.painting.proofs.Pairs.{pairs-length, entries-in}
 use Rattle.painting.proofs.Used.{colors-low}
 use Rattle.gathering.specs.Gathers.{Colored, bodiesIn}
-use Rattle.constraint_coloring.specs.Plans.{Tables}
+use Rattle.plan_questions.specs.Plans.{Tables}
 use Rattle.constraint_coloring.specs.Calls.{carried}
 use Rattle.constraint_coloring.specs.Stages.{Scheduled}
 use Rattle.constraint_coloring.specs.declared.ConstraintColoring.{ConstraintColoring}

@@ -6,7 +6,7 @@ use lib.ListN.{length}
 use Rattle.lists.specs.Basics.{over}
 use Rattle.groups.specs.Groups.{planOf, pairsOf, members, largestGroup, positions, flatten, offsets}
 use Rattle.gathering.specs.Gathers.{Colored, bodiesIn}
-use Rattle.constraint_coloring.specs.Plans.{Tables}
+use Rattle.plan_questions.specs.Plans.{Tables}
 use Rattle.constraint_coloring.specs.Calls.{carried}
 use Rattle.constraint_coloring.specs.declared.ConstraintColoring.{ConstraintColoring}
 

@@ -11,7 +11,7 @@ ghost use Rattle.lists.specs.Basics.{all};
 ghost use Rattle.frame.specs.Frames.{constraint, constraintsOf, sound, flagOf};
 ghost use Rattle.frame.specs.Questions.{asked, fewEach, bits};
 ghost use Rattle.frame.specs.Files.{byte, half, word, pairsFrom, enabledFrom, sizeQuestions};
-ghost use Rattle.frame.specs.Answers.{Read};
+ghost use Rattle.frame.specs.Answers.{readNumber, readSizes, Read};
 
 // How many bodies, manifolds and joints a frame has.
 pub struct Frame {
@@ -24,6 +24,29 @@ pub struct Frame {
 pub enum Reading {
     Accepted(Frame),
     Refused(u8),
+}
+
+// What reading the file answered: the refusal or 0, and B, M and J.
+pub fn read_refusal(reading: Reading) -> u8
+    ensures { λ r. ⌜ r ≡ readNumber reading ⌝ }
+{
+    match reading {
+        Reading::Accepted(_) => 0,
+        Reading::Refused(n) => n,
+    }
+}
+
+pub fn read_sizes(reading: Reading) -> Frame
+    ensures { λ r. ⌜ r ≡ readSizes reading ⌝ }
+{
+    match reading {
+        Reading::Accepted(sizes) => sizes,
+        Reading::Refused(_) => Frame {
+            bodies: 0,
+            manifolds: 0,
+            joints: 0,
+        },
+    }
 }
 
 fn wide(x: u8) -> usize

@@ -29,14 +29,14 @@ module _ (bs : List ℕ) (l : Lent) (e : refusalIn bs l ≡ 0) where
   asked-rest : cond (roomIn bs l) (soundness bs) 6 ≡ 0
   asked-rest = rw read at (sym (all-asked bs (roomIn bs l)) ∙ e)
 
-  room : roomIn bs l ≡ true
+  pub room : roomIn bs l ≡ true
   room = by-cases (roomIn bs l)
       (λ t. t)
       (λ t.
       let z : 6 ≡ 0 = rw t at asked-rest in
       absurd (omega (arith, z)))
 
-  accepted : frameRefusal bs ≡ 0
+  pub accepted : frameRefusal bs ≡ 0
   unfolding frameRefusal soundness
   accepted =
       let s : soundness bs ≡ 0 = rw room at asked-rest in

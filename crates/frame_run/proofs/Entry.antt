@@ -16,14 +16,14 @@ use Rattle.frame.specs.Files.{countB, countM, countJ, decode, fileQuestions}
 use Rattle.frame.specs.declared.Reading.{Reading}
 use Rattle.frame.specs.Answers.{readSizes, sizesOf, Read}
 use Rattle.island.specs.Calls.{labelsAfter, Built}
-use Rattle.constraint_coloring.specs.Plans as plans
-use Rattle.constraint_coloring.proofs.Accepted.{Fitted, fitted, fitted-all}
+use Rattle.plan_questions.specs.Plans as plans
+use Rattle.plan_questions.proofs.Rooms.{Fitted, fitted, fitted-all}
 use Rattle.schedules.specs.Runs.{refused, runOf}
 use Rattle.island_run.proofs.Rooms.{SameLengths}
 use Rattle.frame_tables.specs.Filled.{soundness}
-use Rattle.frame_tables.proofs.Decoding.{file-sized}
-use Rattle.frame_run.specs.declared.Answer.{Answer}
-use Rattle.frame_run.specs.declared.Answer.the-variants as answer
+use Rattle.frame_parts.proofs.Decoding.{file-sized}
+use Rattle.run_answer.specs.declared.Answer.{Answer}
+use Rattle.run_answer.specs.declared.Answer.the-variants as answer
 use Rattle.frame_run.specs.Calls.{Lent, roomFor, roomIn, refusalIn, Worked, Ran}
 use Rattle.frame_run.specs.Sized.{Spacious, RanSized}
 use Rattle.frame_run.proofs.Runs.{all-asked}

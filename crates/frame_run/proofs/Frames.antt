@@ -14,17 +14,19 @@ use Rattle.lists.proofs.Sums.{length-filter, sum-le, sum-times}
 use Rattle.frame.specs.Frames.{Constraint, Frame, constraints, constraintAt, constraintsOf, nothing, numbers, bodies, conflicts, on, touches, flagOf, turnCount, degree, degreeSum}
 use Rattle.frame.specs.Questions.{asked}
 use Rattle.frame.specs.Files.{countM, countJ, pairsAt, jointsAt, typesIn, manifoldsIn, jointsIn, enabledIn, decode, fileQuestions}
-use Rattle.island.specs.Islands.{islandCount, label, ofIsland}
+use Rattle.connected_sets.specs.Islands.{islandCount, label, ofIsland}
 use Rattle.groups.specs.Groups.{pairsOf, members}
 use Rattle.painting.proofs.Pairs.{pair-at}
-use Rattle.constraint_coloring.specs.Plans.{updateRefusal}
+use Rattle.plan_questions.specs.Plans.{updateRefusal}
 use Rattle.schedules.specs.Runs.{Call, flags, pairsFor, planAt, groupCalls, schedule, rising, turnOf, turnsOf, runCalls}
 use Rattle.schedules.proofs.Accepted.{Accepted}
 use Rattle.schedules.proofs.Plans.{accepts}
 use Rattle.schedules.proofs.Condition3.{join-ext, run-turns, run-takes}
 use Rattle.island_numbers.specs.Numbers.{pairAt, pairsAmong}
-use Rattle.group_run.specs.Appends.{callsIn, planCalls, addedBy, Room}
-use Rattle.island_run.specs.Islands.{islandCalls, callsOf, none}
+use Rattle.turn_table.specs.Turns.{none, Room}
+use Rattle.group_run.specs.Appends.{callsIn, planCalls, addedBy}
+use Rattle.one_island.specs.Island.{islandCalls}
+use Rattle.island_run.specs.Islands.{callsOf}
 use Rattle.frame_tables.proofs.Tables.{pairs-long, manifolds-count, joints-count}
 
 -- three entries a turn

@@ -1,4 +1,5 @@
 pub mod Condition
+pub mod Lanes
 pub mod Entry
 pub mod Frames
 pub mod Runs

@@ -13,25 +13,26 @@ use Rattle.frame.specs.Frames.{Frame, constraints, allSound, flagOf}
 use Rattle.frame.specs.Questions.{question, asked}
 use Rattle.frame.specs.Files.{countB, countM, countJ, jointsAt, typesIn, decode, fileQuestions}
 use Rattle.frame.proofs.Questions.{asked-append}
-use Rattle.island.specs.Islands.{islandCount, label}
+use Rattle.connected_sets.specs.Islands.{islandCount, label}
 use Rattle.island.specs.Calls.{Built}
 use Rattle.groups.specs.Groups.{members}
-use Rattle.constraint_coloring.specs.Plans.{Tables, roomy, updateRefusal}
-use Rattle.constraint_coloring.proofs.Accepted.{fitted-roomy}
+use Rattle.plan_questions.specs.Plans.{Tables, roomy, updateRefusal}
+use Rattle.plan_questions.proofs.Rooms.{fitted-roomy}
 use Rattle.schedules.specs.Runs.{turnOf, turnsOf, takesOf, runCalls, runRefusal, runOf}
 use Rattle.island_numbers.specs.Numbers.{pairsAmong}
-use Rattle.group_run.specs.declared.Tally.{Tally}
-use Rattle.group_run.specs.Appends.{addedBy, Room, Appended}
-use Rattle.island_run.specs.Islands.{callsOf, Prepared, none}
+use Rattle.turn_table.specs.declared.Tally.{Tally}
+use Rattle.turn_table.specs.Turns.{none, Room, Appended}
+use Rattle.group_run.specs.Appends.{addedBy}
+use Rattle.island_run.specs.Islands.{callsOf, Prepared}
 use Rattle.island_run.proofs.Rooms.{SameLengths, room-kept}
 use Rattle.frame_tables.specs.declared.Filling.{Filling}
 use Rattle.frame_tables.specs.Filled.{labelsIn, soundness, Fills, Roomy}
-use Rattle.frame_tables.proofs.Decoding.{fronts-long}
+use Rattle.frame_parts.proofs.Decoding.{fronts-long}
 use Rattle.frame_tables.proofs.Tables.{file-accepted, types-long, labels-are, labels-sortable, enabled-long}
-use Rattle.frame_run.specs.declared.Report.{Report}
-use Rattle.frame_run.specs.declared.Answer.{Answer}
-use Rattle.frame_run.specs.Calls.{runNumber, runReport}
-use Rattle.frame_run.specs.Sized.{Told, Spacious, RanSized}
+use Rattle.run_answer.specs.declared.Report.{Report}
+use Rattle.run_answer.specs.declared.Answer.{Answer}
+use Rattle.run_answer.specs.Answers.{runNumber, runReport, Told}
+use Rattle.frame_run.specs.Sized.{Spacious, RanSized}
 use Rattle.frame_run.proofs.Frames.{turns-long, pairs-twice, calls-are, updates-accepted, run-room}
 
 put-first : (new old : List ℕ) → put 0 new old ≡ over new old

@@ -1,33 +1,17 @@
--- What a run is lent, what it answers, and what it leaves in its tables.
+-- What a run is lent, and what it leaves in its tables; run_answer/specs/Answers has its answer.
 use Prim.Native.Nat.{ℕ, _+_, _*_}
 use mathlib.Core.Path.{_≡_}
-use mathlib.Core.Bool.{Bool, true, false, not, _&&_}
+use mathlib.Core.Bool.{Bool, not, _&&_}
 use mathlib.Core.List.{List}
 use lib.Dec.{leb, eqb}
 use lib.ListN.{length}
 use Rattle.lists.specs.Basics.{over}
 use Rattle.frame.specs.Files.{countB, countM, countJ, decode}
 use Rattle.island.specs.Calls.{Built}
-use Rattle.constraint_coloring.specs.Plans as plans
+use Rattle.plan_questions.specs.Plans as plans
 use Rattle.schedules.specs.Runs.{runRefusal, runOf}
-use Rattle.frame_run.specs.declared.Report.{Report}
-use Rattle.frame_run.specs.declared.Answer.{Answer}
-use Rattle.frame_run.specs.declared.Answer.the-variants as answer
-
--- ---- the answer: document 01's number, 0 where accepted, and the four carried numbers, all 0 where refused
-
-abbrev pub runNumber : Answer → ℕ
-runNumber (answer.Ran r) = 0
-runNumber (answer.Refused n) = n
-
--- whether it is a refusal: that has a number, never 0
-abbrev pub runRefused : Answer → Bool
-runRefused (answer.Ran r) = false
-runRefused (answer.Refused n) = true
-
-abbrev pub runReport : Answer → Report
-runReport (answer.Ran r) = r
-runReport (answer.Refused n) = record { islands = 0; turns = 0; takes = 0; degree = 0 }
+use Rattle.run_answer.specs.declared.Answer.{Answer}
+use Rattle.run_answer.specs.Answers.{runNumber, runRefused, runReport}
 
 -- ---- the lent tables
 

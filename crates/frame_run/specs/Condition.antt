@@ -6,11 +6,12 @@ use lib.ListN.{length}
 use Rattle.lists.specs.Basics.{over, joinMap}
 use Rattle.frame.specs.Frames.{degreeMax}
 use Rattle.frame.specs.Files.{decode}
-use Rattle.island.specs.Islands.{islandCount}
+use Rattle.connected_sets.specs.Islands.{islandCount}
 use Rattle.schedules.specs.Runs.{Plans, Orders, schedule, rising, turnOf, turnsOf, takesOf}
 use Rattle.schedules.specs.Condition.{Schedule, Condition3}
-use Rattle.frame_run.specs.declared.Answer.{Answer}
-use Rattle.frame_run.specs.Calls.{Lent, refusalIn, Ran, runReport}
+use Rattle.run_answer.specs.declared.Answer.{Answer}
+use Rattle.run_answer.specs.Answers.{runReport}
+use Rattle.frame_run.specs.Calls.{Lent, refusalIn, Ran}
 
 -- the schedule meets condition 3; the run reports its islands, turns and takes, and D, and its turns are those of the rising orders
 pub record Conditioned (bs : List ℕ) (l m : Lent) (r : Answer) (p : Plans) (o : Orders) : Type 0 where

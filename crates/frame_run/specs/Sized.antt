@@ -1,28 +1,18 @@
 -- A run on tables of the frame's sizes, once questions 1 to 6 are passed.
-use Prim.Native.Nat.{ℕ, _+_, _*_, _/_, _≤_}
+use Prim.Native.Nat.{ℕ, _+_, _*_, _≤_}
 use mathlib.Core.Path.{_≡_}
-use mathlib.Core.Bool.{true, not, cond}
+use mathlib.Core.Bool.{true, not}
 use mathlib.Core.List.{List}
 use lib.Dec.{eqb}
 use lib.ListN.{length}
 use Rattle.lists.specs.Basics.{over}
 use Rattle.frame.specs.Files.{countB, countM, countJ, decode}
 use Rattle.island.specs.Calls.{Built}
-use Rattle.constraint_coloring.specs.Plans.{Tables, roomy}
+use Rattle.plan_questions.specs.Plans.{Tables, roomy}
 use Rattle.schedules.specs.Runs.{runOf}
-use Rattle.group_run.specs.declared.Tally.{Tally}
-use Rattle.frame_tables.specs.declared.Filling.{Filling}
 use Rattle.frame_tables.specs.Filled.{soundness}
-use Rattle.frame_run.specs.declared.Answer.{Answer}
-use Rattle.frame_run.specs.Calls.{runNumber, runRefused, runReport}
-
--- the report of a filling and a tally, three entries a turn
-pub record Told (f : Filling) (t : Tally) (r : Answer) : Type 0 where
-  pub refusal : runNumber r ≡ f .refusal
-  pub refused : runRefused r ≡ not (eqb (f .refusal) 0)
-  pub report : runReport r ≡ cond (eqb (f .refusal) 0)
-      (record { islands = f .islands; turns = t .place / 3; takes = t .takes; degree = f .degree })
-      (record { islands = 0; turns = 0; takes = 0; degree = 0 })
+use Rattle.run_answer.specs.declared.Answer.{Answer}
+use Rattle.run_answer.specs.Answers.{runNumber, runRefused, runReport}
 
 -- room in the tables that are not cut to size, and as many numbers as constraints
 pub record Spacious (bs pa bi mi ji ts ip ns : List ℕ) (t : Tables) : Type 0 where

@@ -1,71 +1,10 @@
 // The frame run: from the bytes of a file to the turns of its constraints. Questions 1 to 6 are asked before anything is written; after
 // that the tables are filled (question 7), and each island in number order is colored and its groups taken.
 use frame::Frame;
-use frame::Reading;
-use frame_tables::Filling;
-use group_run::Tally;
-ghost use Prim.Native.Nat.{_+_, _*_, _≤_};
-ghost use mathlib.Core.Path.{_≡_};
-ghost use mathlib.Core.Bool.{_&&_, cond};
-ghost use lib.Dec.{leb, eqb};
-ghost use Rattle.frame.specs.Answers.{readNumber, readSizes};
-ghost use Rattle.frame_tables.specs.Filled.{Decodable};
-ghost use Rattle.frame_run.specs.Calls.{runNumber, runReport, Ran};
-ghost use Rattle.frame_run.specs.Sized.{Told, Spacious, RanSized};
-
-// What a run carries: islands, turns, takes of dynamic bodies, and the largest number of constraints on one dynamic body.
-pub struct Report {
-    pub islands: usize,
-    pub turns: usize,
-    pub takes: usize,
-    pub degree: usize,
-}
-
-// The answer of a run: its report, or the number of the first question that got a "no".
-pub enum Answer {
-    Ran(Report),
-    Refused(u8),
-}
-
-// The number of an answer: the refusal, or 0.
-pub fn run_refusal(answer: Answer) -> u8
-    ensures { λ r. ⌜ r ≡ runNumber answer ⌝ }
-{
-    match answer {
-        Answer::Ran(_) => 0,
-        Answer::Refused(n) => n,
-    }
-}
-
-// Its values: the report, or four zeros.
-pub fn reported(answer: Answer) -> Report
-    ensures { λ r. ⌜ r ≡ runReport answer ⌝ }
-{
-    match answer {
-        Answer::Ran(report) => report,
-        Answer::Refused(_) => Report {
-            islands: 0,
-            turns: 0,
-            takes: 0,
-            degree: 0,
-        },
-    }
-}
-
-// The report of a frame that was not refused.
-fn told(filling: Filling, tally: Tally) -> Answer
-    ensures { λ r. ⌜ Told filling tally r ⌝ }
-{
-    if filling.refusal != 0 {
-        return Answer::Refused(filling.refusal);
-    }
-    Answer::Ran(Report {
-        islands: filling.islands as usize,
-        turns: tally.place / 3,
-        takes: tally.takes,
-        degree: filling.degree,
-    })
-}
+use run_answer::Answer;
+ghost use Rattle.frame_parts.specs.Parts.{Decodable};
+ghost use Rattle.frame_run.specs.Calls.{Ran};
+ghost use Rattle.frame_run.specs.Sized.{Spacious, RanSized};
 
 // The run of a file that passed questions 1 to 6, where `types`, `flags`, `pairs`, `enabled` and `numbers` have its sizes. After 7 there
 // are no islands, so that nothing is taken.
@@ -143,80 +82,7 @@ fn run_sized(
         constraint_body_positions,
         turns,
     );
-    told(filling, tally)
-}
-
-// What reading the file answered: the refusal or 0, and B, M and J.
-fn number_of(reading: Reading) -> u8
-    ensures { λ r. ⌜ r ≡ readNumber reading ⌝ }
-{
-    match reading {
-        Reading::Accepted(_) => 0,
-        Reading::Refused(n) => n,
-    }
-}
-
-fn sizes_of(reading: Reading) -> Frame
-    ensures { λ r. ⌜ r ≡ readSizes reading ⌝ }
-{
-    match reading {
-        Reading::Accepted(sizes) => sizes,
-        Reading::Refused(_) => Frame {
-            bodies: 0,
-            manifolds: 0,
-            joints: 0,
-        },
-    }
-}
-
-// Question 6 for a frame of `b` bodies, `m` manifolds and `j` joints in tables of these lengths, where `plan` answers it for the plan's.
-fn room_for(
-    b: usize,
-    m: usize,
-    j: usize,
-    parents: usize,
-    body_islands: usize,
-    manifold_islands: usize,
-    joint_islands: usize,
-    turns: usize,
-    types: usize,
-    flags: usize,
-    pairs: usize,
-    island_pairs: usize,
-    enabled: usize,
-    numbers: usize,
-    plan: bool,
-) -> bool
-    requires { ⌜ (m ≤ 4096) × (j ≤ 4096) ⌝ }
-    ensures { λ r. ⌜ r ≡ (leb b parents && leb b «body_islands» && leb m «manifold_islands» && leb j «joint_islands»
-        && leb (3 * (m + j)) turns && leb b types && leb b flags
-        && leb (2 * (m + j)) pairs && leb (2 * (m + j)) «island_pairs» && leb j enabled && leb (m + j) numbers && plan) ⌝ }
-{
-    (b <= parents)
-        & (b <= body_islands)
-        & (m <= manifold_islands)
-        & (j <= joint_islands)
-        & (3 * (m + j) <= turns)
-        & (b <= types)
-        & (b <= flags)
-        & (2 * (m + j) <= pairs)
-        & (2 * (m + j) <= island_pairs)
-        & (j <= enabled)
-        & (m + j <= numbers)
-        & plan
-}
-
-// Questions 1 to 6: the refusal of reading the file, or 6.
-fn first_refusal(read: u8, room: bool) -> u8
-    ensures { λ r. ⌜ r ≡ cond (eqb read 0) (cond room 0 6) read ⌝ }
-{
-    if read != 0 {
-        return read;
-    }
-    if !room {
-        return 6;
-    }
-    0
+    run_answer::told(filling, tally)
 }
 
 // The run of a file. Refusals 1 to 6 change nothing; after 7 the turn table is kept, and the island tables stand as a refused islands
@@ -253,12 +119,12 @@ pub fn run(
         (record { parents = now (parents .exit); body-islands = now («body_islands» .exit); manifold-islands = now («manifold_islands» .exit); joint-islands = now («joint_islands» .exit); turns = now (turns .exit); types = now (types .exit); flags = now (flags .exit); pairs = now (pairs .exit); island-pairs = now («island_pairs» .exit); enabled = now (enabled .exit); numbers = now (numbers .exit); plan = record { dynamic-bodies = now («dynamic_bodies» .exit); endpoints = now (endpoints .exit); body-offsets = now («body_offsets» .exit); body-constraints = now («body_constraints» .exit); scratch-offsets = now («scratch_offsets» .exit); constraint-colors = now («constraint_colors» .exit); color-stamps = now («color_stamps» .exit); body-stamps = now («body_stamps» .exit); color-offsets = now («color_offsets» .exit); colored-constraints = now («colored_constraints» .exit); color-body-offsets = now («color_body_offsets» .exit); color-bodies = now («color_bodies» .exit); constraint-body-positions = now («constraint_body_positions» .exit) } }) r ⌝ }
 {
     let reading = Frame::read(frame);
-    let sizes = sizes_of(reading);
+    let sizes = frame::read_sizes(reading);
     let bodies = sizes.bodies;
     let manifolds = sizes.manifolds;
     let joints = sizes.joints;
     let constraints = manifolds + joints;
-    let plan = constraint_coloring::roomy(
+    let plan = plan_questions::roomy(
         bodies,
         constraints,
         dynamic_bodies.len(),
@@ -275,7 +141,7 @@ pub fn run(
         color_bodies.len(),
         constraint_body_positions.len(),
     );
-    let room = room_for(
+    let room = run_answer::room_for(
         bodies,
         manifolds,
         joints,
@@ -292,7 +158,7 @@ pub fn run(
         numbers.len(),
         plan,
     );
-    let refusal = first_refusal(number_of(reading), room);
+    let refusal = run_answer::first_refusal(frame::read_refusal(reading), room);
     if refusal != 0 {
         return Answer::Refused(refusal);
     }

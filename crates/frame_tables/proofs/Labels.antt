@@ -12,9 +12,9 @@ use borrow.Author.Tests.{eqb-true, eqb-false, eq-eqb, ltb-true, ltb-false, lt-lt
 use Rattle.lists.specs.Basics.{one, any, all, count, range, mem}
 use Rattle.lists.proofs.Laws.{by-cases, or-cases, or-left, or-right, and-left, and-right, clashes, all-map}
 use Rattle.frame.specs.Frames.{Constraint, Frame, constraints, dynamic, on, none}
-use Rattle.island.specs.Islands.{islandCount, leads, inIsland, lowest, bodyLabel, label}
-use Rattle.island.proofs.Counts.{count-next}
-use Rattle.island.proofs.Theorem.{label-each, label-below, islands-few, island-touches}
+use Rattle.connected_sets.specs.Islands.{islandCount, leads, inIsland, lowest, bodyLabel, label}
+use Rattle.lists.proofs.Counts.{count-next}
+use Rattle.connected_sets.proofs.Theorem.{label-each, label-below, islands-few, island-touches}
 use Rattle.schedules.proofs.Accepted.{Accepted}
 use Rattle.island_numbers.specs.Numbers.{Labels}
 

@@ -16,12 +16,13 @@ use Rattle.frame.specs.Questions.{question, asked, fewEach, typesKnown, bits}
 use Rattle.frame.specs.Files.{countB, countM, countJ, pairsAt, jointsAt, typesIn, manifoldsIn, jointsIn, enabledIn, pairsFrom, enabledFrom, decode, sizeQuestions, fileQuestions, frameRefusal}
 use Rattle.frame.proofs.Questions.{passed, asked-append}
 use Rattle.frame.proofs.Files.{Sized}
-use Rattle.island.specs.Islands.{label}
+use Rattle.connected_sets.specs.Islands.{label}
 use Rattle.island.specs.Calls.{Rooms, islandRefusal, labelsAfter, Built}
 use Rattle.schedules.proofs.Accepted.{Accepted, accepted, pairs-count}
 use Rattle.island_numbers.specs.Numbers.{Labels, Sortable, byIsland}
-use Rattle.frame_tables.specs.Filled.{Decoded, Countable, Roomy, Fills, labelsIn, soundness}
-use Rattle.frame_tables.proofs.Decoding.{file-sized}
+use Rattle.frame_parts.specs.Parts.{Decoded, Countable}
+use Rattle.frame_parts.proofs.Decoding.{file-sized}
+use Rattle.frame_tables.specs.Filled.{Roomy, Fills, labelsIn, soundness}
 use Rattle.frame_tables.proofs.Labels.{frame-labels, none-labels}
 
 -- ---- the lengths of a file's parts

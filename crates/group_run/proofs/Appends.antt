@@ -2,30 +2,20 @@
 -- turn of a loop moves the next calls from the one list to the other, and at the end all are done.
 use Prim.Native.Nat.{ℕ, suc, _+_, _-_, _≤_, _<_}
 use mathlib.Core.Path.{_≡_, sym, ap, _∙_}
-use mathlib.Core.List.{List, [], _∷_, _++_, append-assoc, append-nil}
+use mathlib.Core.List.{List, [], _++_, append-assoc, append-nil}
 use native.Mathlib.Omega.{arith}
 use native.Mathlib.Numerals.{add-one}
 use lib.Dec.{eqb}
-use lib.ListN.{length, set, length-append}
+use lib.ListN.{length, length-append}
 use Rattle.lists.specs.Basics.{count, put, joinMap, rangeFrom}
-use Rattle.lists.proofs.Puts.{put-none, length-put, put-put, set-put}
+use Rattle.lists.proofs.Puts.{length-put, put-put}
 use Rattle.lists.proofs.Ranges.{filter-append, joinMap-append}
 use Rattle.lists.proofs.Sums.{sum-append}
 use Rattle.schedules.specs.Runs.{Call, turnOf, turnsOf, takesOf}
-use Rattle.group_run.specs.declared.Tally.{Tally}
-use Rattle.group_run.specs.Appends.{Added, addedBy, Room, Appended}
-
--- ---- writing over a table
-
--- a turn: three stores
-pub set-turn : (n x y z : ℕ) (old : List ℕ) → n + 3 ≤ length old → set (set (set old n x) (n + 1) y) (n + 2) z ≡ put n (x ∷ y ∷ z ∷ []) old
-set-turn n x y z old h =
-    let a : set old n x ≡ put n (x ∷ []) old = set-put n x old (omega arith) in
-    let la : length (put n (x ∷ []) old) ≡ length old = length-put n (x ∷ []) old (omega arith) in
-    let b : set (put n (x ∷ []) old) (n + 1) y ≡ put n (x ∷ y ∷ []) old = set-put (n + 1) y (put n (x ∷ []) old) (omega arith) ∙ put-put n (x ∷ []) (y ∷ []) old (omega arith) in
-    let lb : length (put n (x ∷ y ∷ []) old) ≡ length old = length-put n (x ∷ y ∷ []) old (omega arith) in
-    let c : set (put n (x ∷ y ∷ []) old) (n + 2) z ≡ put n (x ∷ y ∷ z ∷ []) old = set-put (n + 2) z (put n (x ∷ y ∷ []) old) (omega arith) ∙ put-put n (x ∷ y ∷ []) (z ∷ []) old (omega arith) in
-    ap (λ (l : List ℕ). set (set l (n + 1) y) (n + 2) z) a ∙ ap (λ (l : List ℕ). set l (n + 2) z) b ∙ c
+use Rattle.turn_table.specs.declared.Tally.{Tally}
+use Rattle.turn_table.specs.Turns.{Added, Room, Appended}
+use Rattle.turn_table.proofs.Turns.{appended-none}
+use Rattle.group_run.specs.Appends.{addedBy}
 
 -- ---- calls one after another
 
@@ -36,10 +26,6 @@ added-turns a b = rw (filter-append (λ c. eqb (c .refusal) 0) a b) (joinMap-app
 pub added-takes : (a b : List Call) → addedBy (a ++ b) .takes ≡ addedBy a .takes + addedBy b .takes
 unfolding takesOf
 added-takes a b = sum-append (λ c. count (λ h. h .dynamic) (c .handed)) a b
-
--- nothing is added
-pub appended-none : (t : List ℕ) (s : Tally) → Appended (record { turns = []; takes = 0 }) t s t s
-appended-none t s = record { table = sym (put-none (s .place) t); place = omega arith; takes = omega arith }
 
 -- what is added may be said in other words
 pub room-by : {a b : Added} {t : List ℕ} {s : Tally} → a ≡ b → Room a t s → Room b t s

@@ -1,16 +1,15 @@
 -- What a take adds can be seen from its answer on the marks alone: the plan's other tables and the binding's bodies make no difference.
-use Prim.Native.Nat.{ℕ, _+_, _-_, _*_, _≤_, _<_}
+use Prim.Native.Nat.{ℕ, _+_, _-_, _≤_, _<_}
 use mathlib.Core.Path.{_≡_, refl, sym, ap, _∙_}
-use mathlib.Core.Bool.{Bool, true, false, cond}
+use mathlib.Core.Bool.{cond}
 use mathlib.Core.List.{List, [], _∷_, _++_, map}
 use native.Mathlib.Omega.{arith}
 use native.Mathlib.Numerals.{add-one}
 use lib.Dec.{eqb}
 use lib.ListN.{length, length-map, getD, drop, drop-of-length-le}
 use lib.Seq.{drop-cons}
-use mir.Val.{boolByte}
 use borrow.Author.Tests.{eqb-false, ne-eqb}
-use Rattle.lists.specs.Basics.{one, count, sumOf, put, joinMap, rangeFrom}
+use Rattle.lists.specs.Basics.{one, count, sumOf, joinMap, rangeFrom}
 use Rattle.lists.proofs.Laws.{by-cases}
 use Rattle.lists.proofs.Fills.{whole}
 use Rattle.lists.proofs.Sums.{sum-map}
@@ -18,7 +17,7 @@ use Rattle.groups.specs.Groups.{Plan}
 use Rattle.constraint_coloring.specs.declared.ConstraintColoring.{ConstraintColoring}
 use Rattle.constraint_coloring.specs.declared.Positions.{Positions}
 use Rattle.constraint_coloring.specs.declared.Positions.the-variants as positions
-use Rattle.constraint_coloring.specs.Plans.{groupPart, positionsRefusal, positionsAt}
+use Rattle.plan_questions.specs.Plans.{groupPart, positionsRefusal, positionsAt}
 use Rattle.constraint_coloring.specs.Calls.{positionsNumber, positionsValues, Located}
 use Rattle.colored_bodies.specs.declared.BodyBinding.{BodyBinding}
 use Rattle.colored_bodies.specs.declared.Marked.{Marked}
@@ -27,9 +26,10 @@ use Rattle.colored_bodies.specs.Bindings.{Handed, bindOf, takeOf, takeRefusal, 
 use Rattle.colored_bodies.specs.Answers.{markedNumber, markedDynamic, Marks}
 use Rattle.schedules.specs.Runs.{Call, membersIn, bodiesIn, takeRank, callsFrom, turnsOf, takesOf}
 use Rattle.schedules.proofs.Condition3.{same-calls}
-use Rattle.group_run.specs.declared.Tally.{Tally}
-use Rattle.group_run.specs.Appends.{seen, callsIn, planCalls, Added, addedBy, addedByTake, Room, Appended, marksOnly, RankTaken, MemberTaken}
-use Rattle.group_run.proofs.Appends.{appended-none, parts-next}
+use Rattle.turn_table.specs.declared.Tally.{Tally}
+use Rattle.turn_table.specs.Turns.{Added, addedByTake, Room, Appended}
+use Rattle.group_run.specs.Appends.{seen, callsIn, planCalls, addedBy, marksOnly, RankTaken, MemberTaken}
+use Rattle.group_run.proofs.Appends.{parts-next}
 
 -- ---- a take of a rank, from the answers of the lookup and of the take of marks
 
@@ -73,7 +73,7 @@ count-map : (hs : List Handed) → count (λ h. h .dynamic) hs ≡ sumOf one (ma
 count-map hs = sym (sum-map one (λ h. h .dynamic) hs)
 
 -- the same as its answer on the marks
-call-added : (c : Call) (m : Marked) → markedNumber m ≡ c .refusal → markedDynamic m ≡ map (λ h. h .dynamic) (c .handed) → (c .refusal ≡ 0 → length (c .handed) ≡ 2)
+pub call-added : (c : Call) (m : Marked) → markedNumber m ≡ c .refusal → markedDynamic m ≡ map (λ h. h .dynamic) (c .handed) → (c .refusal ≡ 0 → length (c .handed) ≡ 2)
     → addedBy (c ∷ []) ≡ addedByTake (c .island) (c .group) (c .constraint) m
 unfolding turnsOf takesOf
 call-added c (marked.Taken x y) e d two =
@@ -90,25 +90,6 @@ pub rank-added : (p : Plan) (ns : List ℕ) (i k : ℕ) (marks left : List ℕ) 
     → addedBy (callsFrom p ns i k (marksOnly marks n) (r ∷ [])) ≡ addedByTake i k (getD ns r 0) m
 unfolding callsFrom
 rank-added p ns i k marks left n r m h = call-added _ m (h .refusal) (h .dynamic) (two-handed p (marksOnly marks n) r)
-
--- ---- the two answers of a take of marks
-
-bit : (b : Bool) → boolByte b ≡ one b
-bit true = refl
-bit false = refl
-
-module _ (i k n : ℕ) (m : Marked) (t : List ℕ) (s : Tally) where
-  pub taken-room : (x y : Bool) → m ≡ marked.Taken x y → Room (addedByTake i k n m) t s → (s .place + 3 ≤ length t) × (s .takes + (boolByte x + boolByte y) ≤ 4096 * 8192)
-  taken-room x y e r =
-      let q : Room (addedByTake i k n (marked.Taken x y)) t s = rw e at r in
-      (omega (arith, q .places), omega (arith, q .count, bit x, bit y))
-
-  pub taken-added : (x y : Bool) (t′ : List ℕ) → m ≡ marked.Taken x y → t′ ≡ put (s .place) (i ∷ k ∷ n ∷ []) t
-      → Appended (addedByTake i k n m) t s t′ (record { place = s .place + 3; takes = s .takes + (boolByte x + boolByte y) })
-  taken-added x y t′ e h = rw (e, bit x, bit y) (record { table = h; place = refl; takes = refl })
-
-  pub refused-added : (r : ℕ) → m ≡ marked.Refused r → Appended (addedByTake i k n m) t s t s
-  refused-added r e = rw e (appended-none t s)
 
 -- ---- a member, and the members one after another
 

@@ -1,18 +1,17 @@
 -- What a part of the run adds to the turn table and to the takes.
-use Prim.Native.Nat.{ℕ, _+_, _*_, _≤_}
+use Prim.Native.Nat.{ℕ}
 use mathlib.Core.Path.{_≡_}
 use mathlib.Core.List.{List, [], _∷_, map}
-use lib.ListN.{length}
-use Rattle.lists.specs.Basics.{one, put, joinMap, range}
+use Rattle.lists.specs.Basics.{joinMap, range}
 use Rattle.groups.specs.Groups.{Plan}
 use Rattle.constraint_coloring.specs.declared.ConstraintColoring.{ConstraintColoring}
 use Rattle.colored_bodies.specs.declared.BodyBinding.{BodyBinding}
 use Rattle.colored_bodies.specs.declared.Marked.{Marked}
-use Rattle.colored_bodies.specs.declared.Marked.the-variants as marked
 use Rattle.colored_bodies.specs.Bindings.{bindOf}
 use Rattle.colored_bodies.specs.Answers.{markedNumber, markedDynamic}
 use Rattle.schedules.specs.Runs.{Call, membersIn, bodiesIn, takeRank, callsFrom, turnOf, turnsOf, takesOf}
-use Rattle.group_run.specs.declared.Tally.{Tally}
+use Rattle.turn_table.specs.declared.Tally.{Tally}
+use Rattle.turn_table.specs.Turns.{Added, Appended}
 
 -- ---- the calls
 
@@ -41,29 +40,9 @@ planCalls p types ns i = joinMap (callsIn p types ns i) (range (p .groups))
 
 -- ---- what they add
 
--- entries of the turn table, and takes of dynamic bodies
-pub record Added : Type 0 where
-  pub turns : List ℕ
-  pub takes : ℕ
-
+-- turns and takes
 abbrev pub addedBy : List Call → Added
 addedBy cs = record { turns = joinMap turnOf (turnsOf cs); takes = takesOf cs }
-
--- the same of one take of marks
-abbrev pub addedByTake : ℕ → ℕ → ℕ → Marked → Added
-addedByTake i k n (marked.Taken p q) = record { turns = i ∷ k ∷ n ∷ []; takes = one p + one q }
-addedByTake i k n (marked.Refused r) = record { turns = []; takes = 0 }
-
--- there is room for it: places of the turn table, and takes of 4,096 bodies by 8,192 constraints at most
-pub record Room (a : Added) (t : List ℕ) (s : Tally) : Type 0 where
-  pub places : s .place + length (a .turns) ≤ length t
-  pub count : s .takes + a .takes ≤ 4096 * 8192
-
--- it is added: from the table t and the tally s to t′ and s′
-pub record Appended (a : Added) (t : List ℕ) (s : Tally) (t′ : List ℕ) (s′ : Tally) : Type 0 where
-  pub table : t′ ≡ put (s .place) (a .turns) t
-  pub place : s′ .place ≡ s .place + length (a .turns)
-  pub takes : s′ .takes ≡ s .takes + a .takes
 
 -- ---- a take by its marks
 

@@ -3,57 +3,15 @@
 use colored_bodies::Marked;
 use constraint_coloring::ConstraintColoring;
 use constraint_coloring::Positions;
+use turn_table::Tally;
 ghost use mathlib.Core.Path.{_≡_};
 ghost use mathlib.Core.List.{[], _∷_};
-ghost use Prim.Native.Nat.{_+_, _≤_};
-ghost use lib.ListN.{length, getD};
-ghost use Rattle.lists.specs.Basics.{put};
+ghost use Prim.Native.Nat.{_≤_};
+ghost use lib.ListN.{getD};
 ghost use Rattle.colored_bodies.specs.Bindings.{bindOf};
 ghost use Rattle.schedules.specs.Runs.{callsFrom};
-ghost use Rattle.group_run.specs.Appends.{seen, planCalls, addedBy, addedByTake, Room, Appended, marksOnly, RankTaken, MemberTaken};
-
-// The next place of the turn table, and how many dynamic bodies were taken.
-pub struct Tally {
-    pub place: usize,
-    pub takes: usize,
-}
-
-fn put_turn(turns: &mut [u16], place: usize, island: u16, group: u16, number: u16)
-    requires { ⌜ place + 3 ≤ length (now turns) ⌝ }
-    ensures { λ _. ⌜ now (turns .exit) ≡ put place (island ∷ group ∷ number ∷ []) (now (turns .entry)) ⌝ }
-{
-    turns[place] = island;
-    turns[place + 1] = group;
-    turns[place + 2] = number;
-}
-
-// A take that is not refused makes one turn.
-fn append(
-    marked: Marked,
-    island: u16,
-    group: u16,
-    number: u16,
-    turns: &mut [u16],
-    tally: Tally,
-) -> Tally
-    requires { ⌜ Room (addedByTake island group number marked) (now turns) tally ⌝ }
-    ensures { λ r. ⌜ Appended (addedByTake island group number marked) (now (turns .entry)) tally (now (turns .exit)) r ⌝ }
-{
-    match marked {
-        Marked::Taken {
-            first_dynamic,
-            second_dynamic,
-        } => {
-            put_turn(turns, tally.place, island, group, number);
-            let dynamic = first_dynamic as usize + second_dynamic as usize;
-            Tally {
-                place: tally.place + 3,
-                takes: tally.takes + dynamic,
-            }
-        }
-        Marked::Refused(_) => tally,
-    }
-}
+ghost use Rattle.turn_table.specs.Turns.{Room, Appended};
+ghost use Rattle.group_run.specs.Appends.{seen, planCalls, addedBy, marksOnly, RankTaken, MemberTaken};
 
 // A take asks for its constraint's positions, by its rank in the island, and takes them.
 fn take_rank(
@@ -98,7 +56,7 @@ fn take_member(
     ensures { λ r. ⌜ MemberTaken (seen plan [] [] [] [] (now (positions .entry))) (now (numbers .entry)) island group (now (marks .entry)) count rank (now (turns .entry)) tally (now (marks .exit)) (now (turns .exit)) r ⌝ }
 {
     let marked = take_rank(plan, positions, rank, marks, count);
-    append(
+    turn_table::append(
         marked,
         island,
         group,

@@ -12,7 +12,7 @@ use borrow.Author.Tests.{leb-true, eqb-false, ne-eqb}
 use Rattle.lists.specs.Basics.{over}
 use Rattle.lists.proofs.Laws.{and-left, and-right, length-range}
 use Rattle.frame.specs.Frames.{Frame, frameOf, constraintsOf, bodies, allSound, none}
-use Rattle.island.specs.Islands.{islandCount, bodyLabel, label}
+use Rattle.connected_sets.specs.Islands.{islandCount, bodyLabel, label}
 use Rattle.island.specs.Calls.{Rooms, islandRefusal, Parents, labelsAfter, Built}
 use Rattle.island.specs.Steps.{Sized, Laid}
 use Rattle.island.proofs.Refusals.{early, early-few, early-room, early-below, refused-early, refused-late}

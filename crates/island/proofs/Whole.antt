@@ -9,12 +9,16 @@ use lib.ListN.{length, getD, replicate}
 use Rattle.lists.specs.Basics.{any, all, count, range}
 use Rattle.lists.proofs.Laws.{and-left, and-right}
 use Rattle.frame.specs.Frames.{Frame, constraints, dynamic, on, sound, allSound, none}
-use Rattle.island.specs.Islands.{edgesOf, edges, join, lowest, inIsland, leads, islandCount, bodyLabel}
-use Rattle.island.specs.Calls.{rootOf, Parents}
-use Rattle.island.specs.Steps.{bare, Falls, Joined, marked, leadsBy, Together, Numbered, labelBy, Sized, Ready, Labelled}
-use Rattle.island.proofs.Theorem.{lowest-connected, connected-island}
-use Rattle.island.proofs.Tables.{none-at, falls-self, root-self, tabled}
-use Rattle.island.proofs.Joining.{all-append}
+use Rattle.island_sets.specs.Sets.{rootOf, Falls}
+use Rattle.island_sets.proofs.Alone.{falls-self, root-self}
+use Rattle.island_labels.specs.Labels.{bare, marked, leadsBy, Together, Numbered, labelBy}
+use Rattle.connected_sets.specs.Islands.{edgesOf, edges, join, lowest, inIsland, leads, islandCount, bodyLabel}
+use Rattle.island.specs.Calls.{Parents}
+use Rattle.island_joins.specs.Joins.{Joined}
+use Rattle.island.specs.Steps.{Sized, Ready, Labelled}
+use Rattle.connected_sets.proofs.Theorem.{lowest-connected, connected-island}
+use Rattle.island.proofs.Tables.{none-at, tabled}
+use Rattle.island_joins.proofs.Joining.{all-append}
 use Rattle.island.proofs.Labelling.{labels-are}
 
 -- ---- fresh tables p₁ and b₁, all constraints joined and marked

@@ -1,14 +1,15 @@
 -- What an islands call answers, and what it leaves in its four tables.
-use Prim.Native.Nat.{ℕ, zero, suc, _≤_}
+use Prim.Native.Nat.{ℕ, _≤_}
 use mathlib.Core.Path.{_≡_}
 use mathlib.Core.Bool.{Bool, _&&_, cond}
 use mathlib.Core.List.{List, [], _∷_, map}
 use lib.Dec.{eqb, leb}
-use lib.ListN.{length, getD, take, drop, replicate}
+use lib.ListN.{length, take, drop, replicate}
 use Rattle.lists.specs.Basics.{over}
 use Rattle.frame.specs.Frames.{Frame, frameOf, bodies, allSound, none}
 use Rattle.frame.specs.Questions.{question, asked, fewEach, even, pairCount, typesKnown, bits}
-use Rattle.island.specs.Islands.{lowest, islandCount, bodyLabel, label}
+use Rattle.island_sets.specs.Sets.{link, rootOf}
+use Rattle.connected_sets.specs.Islands.{lowest, islandCount, bodyLabel, label}
 
 -- ---- the lengths of the lent tables, and the questions 3 to 7
 pub record Rooms : Type 0 where
@@ -31,19 +32,7 @@ islandRefusal ts ps js es r = asked
     ∷ question 7 (allSound (frameOf ts ps js es))
     ∷ [])
 
--- ---- parents: links from body to body
-
--- where a body's link leads; past the table's end, to itself
-abbrev pub link : List ℕ → ℕ → ℕ
-link p b = getD p b b
-
--- n links on from b; links that do not rise can change the body at most b times
-abbrev pub follow : List ℕ → ℕ → ℕ → ℕ
-follow p zero b = b
-follow p (suc n) b = follow p n (link p b)
-
-unfoldable pub rootOf : List ℕ → ℕ → ℕ
-rootOf p b = follow p b b
+-- ---- parents
 
 -- no link rises, and following them ends at the lowest body of the set
 pub record Parents (f : Frame) (p : List ℕ) : Type 0 where

@@ -1,4 +1,3 @@
-pub mod Islands
 pub mod Calls
 pub mod Answers
 pub mod Steps

@@ -1,3 +1,2 @@
-pub mod Islands
 pub mod Rooms
 pub mod Loop

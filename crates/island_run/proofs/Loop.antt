@@ -12,12 +12,13 @@ use Rattle.lists.specs.Basics.{joinMap, range, rangeFrom, mem}
 use Rattle.lists.proofs.Laws.{all-intro, filter-mem, range-high, filter-length-le, length-range}
 use Rattle.lists.proofs.Fills.{whole}
 use Rattle.groups.specs.Groups.{members, flatten}
-use Rattle.constraint_coloring.specs.Plans.{Tables}
+use Rattle.plan_questions.specs.Plans.{Tables}
 use Rattle.schedules.specs.Runs.{Call}
 use Rattle.island_numbers.specs.Numbers.{keysOf, leading, within}
 use Rattle.island_numbers.proofs.Sorting.{leading-taken, island-part, island-end, island-inside}
 use Rattle.group_run.proofs.Appends.{parts-next}
-use Rattle.island_run.specs.Islands.{islandCalls, callsOf, Ready, Prepared}
+use Rattle.one_island.specs.Island.{islandCalls, Ready}
+use Rattle.island_run.specs.Islands.{callsOf, Prepared}
 use Rattle.island_run.proofs.Rooms.{SameLengths, room-kept}
 
 -- the takes of island i

@@ -4,8 +4,8 @@ use mathlib.Core.Path.{_≡_, refl}
 use mathlib.Core.Bool.{true}
 use native.Mathlib.Omega.{arith}
 use lib.ListN.{length}
-use Rattle.constraint_coloring.specs.Plans.{Tables, roomy}
-use Rattle.constraint_coloring.proofs.Accepted.{fitted-roomy, roomy-fitted}
+use Rattle.plan_questions.specs.Plans.{Tables, roomy}
+use Rattle.plan_questions.proofs.Rooms.{fitted-roomy, roomy-fitted}
 
 -- the tables of a plan keep their lengths
 pub record SameLengths (t u : Tables) : Type 0 where

@@ -10,11 +10,11 @@ use borrow.Author.Tests.{le-leb, eqb-true}
 use Rattle.lists.proofs.Laws.{by-cases}
 use Rattle.frame.specs.Questions.{question, asked}
 use Rattle.frame.specs.Files.{countB, countM, countJ, fileQuestions}
-use Rattle.constraint_coloring.specs.Plans as plans
-use Rattle.constraint_coloring.proofs.Accepted.{roomy-fitted}
+use Rattle.plan_questions.specs.Plans as plans
+use Rattle.plan_questions.proofs.Rooms.{roomy-fitted}
 use Rattle.schedules.specs.Runs.{runRefusal, runOf}
-use Rattle.frame_tables.proofs.Decoding.{file-sized}
-use Rattle.frame_run.specs.declared.Answer.{Answer}
+use Rattle.frame_parts.proofs.Decoding.{file-sized}
+use Rattle.run_answer.specs.declared.Answer.{Answer}
 use Rattle.frame_run.specs.Calls.{Lent, roomFor, roomIn, Ran}
 use Rattle.frame_run.proofs.Runs.{all-asked}
 use Rattle.own_tables.specs.Runs.{turnsFit, RanAlone}

@@ -8,8 +8,8 @@ use lib.ListN.{length}
 use Rattle.lists.specs.Basics.{over}
 use Rattle.frame.specs.Files.{countM, countJ}
 use Rattle.schedules.specs.Runs.{runRefusal, runOf}
-use Rattle.frame_run.specs.declared.Answer.{Answer}
-use Rattle.frame_run.specs.Calls.{runNumber, runRefused, runReport}
+use Rattle.run_answer.specs.declared.Answer.{Answer}
+use Rattle.run_answer.specs.Answers.{runNumber, runRefused, runReport}
 
 -- question 6 of the turn table
 abbrev pub turnsFit : List ℕ → List ℕ → Bool

@@ -1,6 +1,6 @@
 // The run of a file on tables of its own, for programs: all but the turn table have the largest frame's sizes.
 use frame::Frame;
-use frame_run::Answer;
+use run_answer::Answer;
 ghost use Rattle.own_tables.specs.Runs.{RanAlone};
 
 // Question 6 is left of the turn table alone.

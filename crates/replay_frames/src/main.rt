@@ -5,7 +5,6 @@
 // The list is records: the byte 1, the lengths of the question and of the answer in 16 bits each, the question, the answer. A head of
 // zeros ends it. A question is the length of the turn table in 16 bits, and the file. An answer is the refusal or 0, the four
 // numbers and the turn table in 16 bits each. The other tables have the largest frame's sizes.
-use frame_run::Report;
 use records::byte_at;
 use records::half_at;
 use records::least;
@@ -16,6 +15,7 @@ use records::put_half;
 use records::put_halves;
 use records::same;
 use records::sum_of;
+use run_answer::Report;
 
 // How many frames were replayed and refused, how many answers differ, the sum of the bytes, and whether the list goes on.
 struct Tally {
@@ -40,8 +40,8 @@ fn put_report(out: &mut [u8], at: usize, report: Report) -> usize {
 fn answer_on(question: &[u8], turns: &mut [u16], out: &mut [u8]) -> usize {
     let start = least(2, question.len());
     let answer = own_tables::run_file(&question[start..], turns);
-    let refused = put(out, 0, frame_run::run_refusal(answer));
-    let reported = put_report(out, refused, frame_run::reported(answer));
+    let refused = put(out, 0, run_answer::run_refusal(answer));
+    let reported = put_report(out, refused, run_answer::reported(answer));
     put_halves(out, reported, turns)
 }
 

@@ -7,11 +7,11 @@ use Rattle.boundary.proofs.engkarupi_islands.Tie as tie
 build-with-joints-requires : tie.Need-build-with-joints-requires
 build-with-joints-requires c κs = search needs
 
-islands-in-requires : tie.Need-islands-in-requires
-islands-in-requires c κs = search needs
+islands-of-requires : tie.Need-islands-of-requires
+islands-of-requires c κs = search needs
 
-island-refusal-requires : tie.Need-island-refusal-requires
-island-refusal-requires c κs = search needs
+refusal-of-requires : tie.Need-refusal-of-requires
+refusal-of-requires c κs = search needs
 
 same-length : tie.Need-same-length
 same-length c = search needs
@@ -28,15 +28,15 @@ same-length-4 c = search needs
 returns : tie.Need-returns
 returns c =
     let built = c .before .before .before .before .before .before .before .before .before .before .build-with-joints .ensures .0 in
-    built-by built (c .island-refusal .ensures) (c .before .islands-in .ensures)
+    built-by built (c .refusal-of .ensures) (c .before .islands-of .ensures)
 
 pub engkarupi-islands-spec : {M : Type 1} → statement M
 engkarupi-islands-spec =
     tie.close
     (tie.spec
     build-with-joints-requires
-    islands-in-requires
-    island-refusal-requires
+    islands-of-requires
+    refusal-of-requires
     same-length
     same-length-2
     same-length-3

@@ -9,7 +9,7 @@ use lib.ListN.{length, take, drop}
 use lib.Seq.{length-take-le, length-front}
 use Rattle.groups.specs.Groups.{planOf}
 use Rattle.painting.specs.Painting.{Painted}
-use Rattle.constraint_coloring.specs.Plans.{Tables}
+use Rattle.plan_questions.specs.Plans.{Tables}
 use Rattle.constraint_coloring.proofs.Tables.{front-over, part-over}
 use Rattle.constraint_coloring.proofs.Accepted.{Accepted, accepted}
 use Rattle.constraint_coloring.proofs.Rebuilds.{painted-front, colors-long, groups-few, colored, colors-planned, plan-is, starts-planned, constraints-planned, body-starts-planned, bodies-planned, positions-planned}

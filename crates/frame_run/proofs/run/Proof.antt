@@ -11,8 +11,8 @@ use Rattle.frame.specs.declared.Frame.{Frame}
 use Rattle.frame.specs.Questions.{asked}
 use Rattle.frame.specs.Files.{countB, countM, countJ, fileQuestions}
 use Rattle.frame.specs.Answers.{readSizes, sizesOf, Read}
-use Rattle.constraint_coloring.specs.Plans.{roomy}
-use Rattle.constraint_coloring.proofs.Accepted.{Fitted}
+use Rattle.plan_questions.specs.Plans.{roomy}
+use Rattle.plan_questions.proofs.Rooms.{Fitted}
 use Rattle.island_numbers.proofs.Scans.{front-back}
 use Rattle.frame_run.specs.Calls.{Lent, roomIn}
 use Rattle.frame_run.proofs.Entry.{few-constraints, sizes-read, room-read, file-passed, room-passed, stopped, wanted, wanted-fit, spacious, sized-ran}
@@ -64,13 +64,13 @@ abbrev bytes : tie.After-first-refusal → List ℕ
 bytes w = start w .args .frame .now
 
 abbrev sized : tie.After-first-refusal → Frame
-sized w = w .before .before .before .before .sizes-of .result
+sized w = w .before .before .before .before .read-sizes .result
 
 was-read : (w : tie.After-first-refusal) → Read (bytes w) (w .before .before .before .before .before .read .result)
 was-read w = w .before .before .before .before .before .read .ensures
 
 sizes : (w : tie.After-first-refusal) → sized w ≡ readSizes (w .before .before .before .before .before .read .result)
-sizes w = w .before .before .before .before .sizes-of .ensures
+sizes w = w .before .before .before .before .read-sizes .ensures
 
 roomed : (w : tie.After-first-refusal) → asked (fileQuestions (bytes w)) ≡ 0 → w .before .before .room-for .result ≡ roomIn (bytes w) (lent (start w))
 unfolding roomy
@@ -78,8 +78,8 @@ roomed w q = room-read (bytes w) _ (was-read w) q (lent (start w)) _ _ _ (w .bef
     (ap (λ (f : Frame). f .bodies) (sizes w)) (ap (λ (f : Frame). f .manifolds) (sizes w)) (ap (λ (f : Frame). f .joints) (sizes w))
     (w .before .before .before .roomy .ensures) (w .before .before .room-for .ensures)
 
-file : (w : tie.After-first-refusal) → w .before .number-of .result ≡ asked (fileQuestions (bytes w))
-file w = w .before .number-of .ensures ∙ was-read w .refusal
+file : (w : tie.After-first-refusal) → w .before .read-refusal .result ≡ asked (fileQuestions (bytes w))
+file w = w .before .read-refusal .ensures ∙ was-read w .refusal
 
 -- ---- questions 1 to 6 are passed
 
@@ -105,11 +105,11 @@ module _ (w : tie.After-first-refusal) (z : w .first-refusal .result ≡ 0) wher
 read-requires : tie.Need-read-requires
 read-requires c κs = search needs
 
-sizes-of-requires : tie.Need-sizes-of-requires
-sizes-of-requires c κs = search needs
+read-sizes-requires : tie.Need-read-sizes-requires
+read-sizes-requires c κs = search needs
 
-few : (w : tie.After-sizes-of) → (w .sizes-of .result .manifolds ≤ 4096) × (w .sizes-of .result .joints ≤ 4096)
-few w = rw (w .sizes-of .ensures) (few-constraints _ _ (w .before .read .ensures))
+few : (w : tie.After-read-sizes) → (w .read-sizes .result .manifolds ≤ 4096) × (w .read-sizes .result .joints ≤ 4096)
+few w = rw (w .read-sizes .ensures) (few-constraints _ _ (w .before .read .ensures))
 
 add-constraints : tie.Need-add-constraints
 add-constraints c = omega (arith, few c .0, few c .1)
@@ -120,8 +120,8 @@ roomy-requires c κs = search needs
 room-for-requires : tie.Need-room-for-requires
 room-for-requires c κs = few (c .before)
 
-number-of-requires : tie.Need-number-of-requires
-number-of-requires c κs = search needs
+read-refusal-requires : tie.Need-read-refusal-requires
+read-refusal-requires c κs = search needs
 
 first-refusal-requires : tie.Need-first-refusal-requires
 first-refusal-requires c κs = search needs
@@ -319,11 +319,11 @@ run-spec =
     tie.close
     (tie.spec
     read-requires
-    sizes-of-requires
+    read-sizes-requires
     add-constraints
     roomy-requires
     room-for-requires
-    number-of-requires
+    read-refusal-requires
     first-refusal-requires
     returns
     slice-relend-prefix-run-sized

@@ -3,7 +3,7 @@ use mathlib.Core.Path.{refl, sym, _∙_}
 use lib.ListN.{length}
 use lib.Seq.{length-take-le}
 use Rattle.frame.specs.Files.{countM, countJ}
-use Rattle.constraint_coloring.specs.Plans.{Tables}
+use Rattle.plan_questions.specs.Plans.{Tables}
 use Rattle.island_run.proofs.Rooms.{SameLengths}
 use Rattle.frame_run.proofs.Runs.{roomy-of, joints-inside, prepared-cut, room-cut, ran}
 use native.Mathlib.Omega.{arith}

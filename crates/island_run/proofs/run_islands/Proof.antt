@@ -6,10 +6,11 @@ use mathlib.Core.List.{List, _++_}
 use lib.ListN.{length}
 use lib.Seq.{length-take-le}
 use Rattle.lists.specs.Basics.{joinMap, rangeFrom}
-use Rattle.constraint_coloring.specs.Plans.{Tables}
+use Rattle.plan_questions.specs.Plans.{Tables}
 use Rattle.island_numbers.proofs.Scans.{front-back}
+use Rattle.turn_table.specs.Turns.{none}
 use Rattle.group_run.proofs.Appends.{Going, going-first, going-length, going-room, going-more, going-last, parts-end}
-use Rattle.island_run.specs.Islands.{callsOf, none}
+use Rattle.island_run.specs.Islands.{callsOf}
 use Rattle.island_run.proofs.Rooms.{SameLengths, same-first}
 use Rattle.island_run.proofs.Loop.{callsAt, startOf, islands-first, part-count, next-start, part-inside, pairs-room, ready, island-next}
 use borrow.Author.Needs.{needs}
@@ -36,7 +37,7 @@ entry s = record { dynamic-bodies = s .args .dynamic-bodies .now; endpoints = s 
 
 -- the start and the loop's head, seen from the place where the end of the island's part is known
 abbrev start : tie.After-part-end Inv-loop μ-loop → tie.Start Inv-loop μ-loop
-start e = e .before .before .before .before .before .before .before .before .before .before .before .before .before .before .before .before .before .before .before .before .before .before .before .before
+start e = e .before .before .before .before .before .before .before .before .before .before .before .before .before .before .before .before .before .before .before .before .before .before .before .before .before
 
 abbrev head : tie.After-part-end Inv-loop μ-loop → tie.At-loop Inv-loop μ-loop
 head e = e .before .before
@@ -54,14 +55,17 @@ roomy e = omega (arith, pairs-room (start e .args .islands) (start e .args .type
 next : (e : tie.After-part-end Inv-loop μ-loop) → e .part-end .result ≡ startOf (start e .args .islands) (labels (start e)) (head e .loop .island + 1)
 next e = next-start (start e .args .islands) (start e .args .types .now) (start e .args .flags .now) (start e .args .pairs .now) (labels (start e)) (start e .args .numbers .now) (start e .args .island-pairs .now) (entry (start e)) (start e .pre .0) (head e .loop .island) (head e .loop .start) (e .part-end .result) (e .before .loop-test .taken) (head e .loop .inv .1) (e .part-end .ensures)
 
+no-turns-requires : tie.Need-no-turns-requires Inv-loop μ-loop
+no-turns-requires c κs = search needs
+
 loop-holds : tie.Need-loop-holds Inv-loop μ-loop
-loop-holds c = (omega arith, sym (ap length (flatten-zero _)), refl, same-first _, going-first (islands-first _ _ _ _ _))
+loop-holds c = (omega arith, sym (ap length (flatten-zero _)), refl, same-first _, rw (c .no-turns .ensures) (going-first (islands-first _ _ _ _ _)))
 
 part-end-requires : tie.Need-part-end-requires Inv-loop μ-loop
 part-end-requires c κs = search needs
 
 mul-run-island : tie.Need-mul-run-island Inv-loop μ-loop
-mul-run-island c = omega (arith, below c, inside c, c .before .before .before .before .before .before .before .before .before .before .before .before .before .before .before .before .before .before .before .before .before .before .before .before .good)
+mul-run-island c = omega (arith, below c, inside c, c .before .before .before .before .before .before .before .before .before .before .before .before .before .before .before .before .before .before .before .before .before .before .before .before .before .good)
 
 sub-run-island : tie.Need-sub-run-island Inv-loop μ-loop
 sub-run-island c = below c
@@ -76,7 +80,7 @@ sub-run-island-2 : tie.Need-sub-run-island-2 Inv-loop μ-loop
 sub-run-island-2 c = below (c .before)
 
 mul-run-island-2 : tie.Need-mul-run-island-2 Inv-loop μ-loop
-mul-run-island-2 c = omega (arith, below (c .before), inside (c .before), c .before .before .before .before .before .before .before .before .before .before .before .before .before .before .before .before .before .before .before .before .before .before .before .before .before .good)
+mul-run-island-2 c = omega (arith, below (c .before), inside (c .before), c .before .before .before .before .before .before .before .before .before .before .before .before .before .before .before .before .before .before .before .before .before .before .before .before .before .before .good)
 
 slice-relend-prefix-run-island : tie.Need-slice-relend-prefix-run-island Inv-loop μ-loop
 slice-relend-prefix-run-island c = roomy (c .before)
@@ -90,7 +94,7 @@ run-island-requires c κs =
     (ready (start e .args .islands) (start e .args .types .now) (start e .args .flags .now) (start e .args .pairs .now) (labels (start e)) (start e .args .numbers .now) (start e .args .island-pairs .now) (entry (start e)) (start e .pre .0) (head e .loop .island) (head e .loop .start) (e .part-end .result) (e .before .loop-test .taken) (head e .loop .inv .1) (e .part-end .ensures) _ _ (length-take-le _ (head e .loop .island-pairs) (roomy e)) (head e .loop .inv .3), going-room (start e .pre .1) (head e .loop .inv .4) _ _ (island-next (start e .args .islands) (start e .args .types .now) (start e .args .flags .now) (start e .args .pairs .now) (labels (start e)) (start e .args .numbers .now) (start e .args .island-pairs .now) (entry (start e)) (start e .pre .0) (head e .loop .island) (head e .loop .start) (e .part-end .result) (e .before .loop-test .taken) (head e .loop .inv .1) (e .part-end .ensures)))
 
 add-island : tie.Need-add-island Inv-loop μ-loop
-add-island c = omega (arith, c .before .before .before .before .before .before .before .before .before .before .before .before .before .before .before .before .before .before .before .before .before .before .before .before .before .before .before .before .before .before .before .before .before .before .before .before .before .before .before .before .before .before .before .before .before .before .before .before .loop-test .taken, c .before .before .before .before .before .before .before .before .before .before .before .before .before .before .before .before .before .before .before .before .before .before .before .before .before .before .before .before .before .before .before .before .before .before .before .before .before .before .before .before .before .before .before .before .before .before .before .before .before .before .before .before .before .before .before .before .before .before .before .before .before .before .before .before .before .before .before .before .before .before .before .fits .islands)
+add-island c = omega (arith, c .before .before .before .before .before .before .before .before .before .before .before .before .before .before .before .before .before .before .before .before .before .before .before .before .before .before .before .before .before .before .before .before .before .before .before .before .before .before .before .before .before .before .before .before .before .before .before .before .loop-test .taken, c .before .before .before .before .before .before .before .before .before .before .before .before .before .before .before .before .before .before .before .before .before .before .before .before .before .before .before .before .before .before .before .before .before .before .before .before .before .before .before .before .before .before .before .before .before .before .before .before .before .before .before .before .before .before .before .before .before .before .before .before .before .before .before .before .before .before .before .before .before .before .before .before .fits .islands)
 
 loop-less : tie.Need-loop-less Inv-loop μ-loop
 loop-less c = omega (arith, c .before .before .before .before .before .before .before .before .before .before .before .before .before .before .before .before .before .before .before .before .before .before .before .before .before .before .before .before .before .before .before .before .before .before .before .before .before .before .before .before .before .before .before .before .before .before .before .before .loop-test .taken)
@@ -150,10 +154,10 @@ same-length-14 : tie.Need-same-length-14 Inv-loop μ-loop
 same-length-14 c = c .before .loop .inv .3 .constraint-body-positions
 
 same-length-15 : tie.Need-same-length-15 Inv-loop μ-loop
-same-length-15 c = going-length (c .before .before .before .before .before .before .before .before .before .before .before .before .before .before .before .before .before .before .before .before .before .before .before .pre .1) (c .before .loop .inv .4)
+same-length-15 c = going-length (c .before .before .before .before .before .before .before .before .before .before .before .before .before .before .before .before .before .before .before .before .before .before .before .before .pre .1) (c .before .loop .inv .4)
 
 returns : tie.Need-returns Inv-loop μ-loop
-returns c = going-last (c .before .before .before .before .before .before .before .before .before .before .before .before .before .before .before .before .before .before .before .before .before .before .before .pre .1) (c .before .loop .inv .4) (parts-end _ _ _ (c .loop-test .left))
+returns c = going-last (c .before .before .before .before .before .before .before .before .before .before .before .before .before .before .before .before .before .before .before .before .before .before .before .before .pre .1) (c .before .loop .inv .4) (parts-end _ _ _ (c .loop-test .left))
 
 pub run-islands-spec : {M : Type 1} → statement M
 run-islands-spec =
@@ -161,6 +165,7 @@ run-islands-spec =
     (tie.spec
     Inv-loop
     μ-loop
+    no-turns-requires
     loop-holds
     part-end-requires
     mul-run-island

@@ -1,0 +1,1 @@
+// Islands as connected sets: definitions and laws, no code.

@@ -1,0 +1,121 @@
+-- A file that passed questions 1 to 5 has room for all its parts; the two runs of pairs fill the front and the rest of one table.
+use Prim.Native.Nat.{ℕ, _+_, _-_, _*_, _/_, _%_, _≤_}
+use mathlib.Core.Path.{_≡_, refl, sym, ap, _∙_}
+use mathlib.Core.Bool.{Bool, true, _&&_, cond}
+use mathlib.Core.List.{List, [], _∷_, _++_, map, append-nil}
+use native.Mathlib.Omega.{arith}
+use lib.Dec.{eqb}
+use lib.ListN.{length, take, drop, length-drop, length-append, drop-of-length-le}
+use lib.Seq.{take-at, drop-at, take-all, length-take-le}
+use borrow.Author.Tests.{eqb-true, eqb-false}
+use Rattle.lists.proofs.Laws.{by-cases}
+use Rattle.frame.specs.Questions.{question, asked, typesKnown, bits}
+use Rattle.frame.specs.Files.{countB, countM, countJ, typesIn, enabledIn, manifoldsIn, jointsIn, pairsFrom, enabledFrom, sizeQuestions, fileQuestions}
+use Rattle.frame.proofs.Questions.{asked-append}
+use Rattle.frame.proofs.Files.{Sized, sized}
+use Rattle.frame.specs.Frames.{flagOf, frameOf, constraints, allSound, degreeMax}
+use Rattle.island.specs.Calls.{Rooms, islandRefusal, Built}
+use Rattle.island_numbers.specs.Numbers.{Sortable}
+use Rattle.frame_parts.specs.Parts.{Paired, Decodable, Decoded, Countable}
+
+pub file-sized : (bs : List ℕ) → asked (fileQuestions bs) ≡ 0 → Sized bs
+file-sized bs e = sized bs (by-cases (eqb (asked (sizeQuestions bs)) 0) (eqb-true (asked (sizeQuestions bs)) 0)
+    (λ n. absurd (eqb-false (asked (sizeQuestions bs)) 0 n (sym (ap (λ (t : Bool). cond t (asked (question 5 (typesKnown (typesIn bs) && bits (enabledIn bs)) ∷ [])) (asked (sizeQuestions bs))) n) ∙ sym (asked-append (sizeQuestions bs) (question 5 (typesKnown (typesIn bs) && bits (enabledIn bs)) ∷ []) refl) ∙ e))))
+
+-- ---- a table in two parts
+
+pub rest-part : (n : ℕ) (l : List ℕ) → take (length l - n) (drop n l) ≡ drop n l
+rest-part n l = take-all (length l - n) (drop n l) (omega (arith, length-drop n l))
+
+pub rest-long : (n : ℕ) (l : List ℕ) → length (take (length l - n) (drop n l)) ≡ length l - n
+rest-long n l = ap length (rest-part n l) ∙ omega (arith, length-drop n l)
+
+pub two-parts : (n : ℕ) (l a b : List ℕ) → length a ≡ n → take n (a ++ drop n l) ++ (b ++ drop (length (a ++ drop n l) - n) (drop n (a ++ drop n l))) ≡ a ++ b
+two-parts n l a b e =
+    let d = drop n l in
+    let k : length d ≤ length (a ++ d) - n = omega (arith, length-append a d) in
+    rw (take-at a d n e, drop-at a d n e, drop-of-length-le d k, append-nil b)
+
+-- ---- the parts of a file
+
+module _ (bs : List ℕ) (b m : ℕ) (ps : List ℕ) (h : Paired bs b m ps) where
+  abbrev s : Sized bs
+  s = file-sized bs (h .file)
+
+  pub few-manifolds : m ≤ 4096
+  few-manifolds = omega (arith, h .manifolds, s .manifolds)
+
+  pub few-bodies : b ≤ 4096
+  few-bodies = omega (arith, h .bodies, s .bodies)
+
+  pub front-inside : 2 * m ≤ length ps
+  front-inside = omega (arith, h .manifolds, h .pairs)
+
+  pub front-long : length (take (2 * m) ps) ≡ 2 * m
+  front-long = length-take-le (2 * m) ps front-inside
+
+  pub front-decodable : (4 ≤ 4) × (11 + b + 4 * (length (take (2 * m) ps) / 2) ≤ length bs) × (length (take (2 * m) ps) % 2 ≡ 0)
+  front-decodable = (omega arith, omega (arith, front-long, h .bodies, h .manifolds, s .bytes), omega (arith, front-long))
+
+  module _ (a cur : List ℕ) (e : length a ≡ length (take (2 * m) ps)) (is : cur ≡ a ++ drop (2 * m) ps) where
+    pub cur-long : length cur ≡ length ps
+    cur-long = ap length is ∙ length-append a (drop (2 * m) ps) ∙ omega (arith, front-long, front-inside, length-drop (2 * m) ps)
+
+    rest-is : length (take (length cur - 2 * m) (drop (2 * m) cur)) ≡ 2 * countJ bs
+    rest-is = rest-long (2 * m) cur ∙ omega (arith, cur-long, h .pairs, h .manifolds)
+
+    pub rest-decodable : (4 ≤ 5) × (11 + b + 4 * m + 5 * (length (take (length cur - 2 * m) (drop (2 * m) cur)) / 2) ≤ length bs) × (length (take (length cur - 2 * m) (drop (2 * m) cur)) % 2 ≡ 0)
+    rest-decodable = (omega arith, omega (arith, rest-is, h .bodies, h .manifolds, s .bytes), omega (arith, rest-is))
+
+    pub both-decoded : (c : List ℕ) → a ≡ pairsFrom bs (11 + b) 4 (length (take (2 * m) ps) / 2) → c ≡ pairsFrom bs (11 + b + 4 * m) 5 (length (take (length cur - 2 * m) (drop (2 * m) cur)) / 2)
+        → take (2 * m) cur ++ (c ++ drop (length cur - 2 * m) (drop (2 * m) cur)) ≡ manifoldsIn bs ++ jointsIn bs
+    both-decoded c ea ec =
+        let na : length (take (2 * m) ps) / 2 ≡ countM bs = omega (arith, front-long, h .manifolds) in
+        let nc : length (take (length cur - 2 * m) (drop (2 * m) cur)) / 2 ≡ countJ bs = omega (arith, rest-is) in
+        let x : a ≡ manifoldsIn bs = ea ∙ rw (na, h .bodies) in
+        let y : c ≡ jointsIn bs = ec ∙ rw (nc, h .bodies, h .manifolds) in
+        ap (λ (l : List ℕ). take (2 * m) l ++ (c ++ drop (length l - 2 * m) (drop (2 * m) l))) is
+        ∙ two-parts (2 * m) ps a c (e ∙ front-long)
+        ∙ ap (λ (l : List ℕ). l ++ c) x ∙ ap (λ (l : List ℕ). manifoldsIn bs ++ l) y
+
+module _ (bs : List ℕ) (m : ℕ) (ts fs ps es : List ℕ) (h : Decodable bs m ts fs ps es) where
+  pub types-inside : 11 + length ts ≤ length bs
+  types-inside = omega (arith, h .types, file-sized bs (h .file) .bytes)
+
+  module _ (ts′ : List ℕ) (long : length ts′ ≡ length ts) where
+    pub flags-fit : length fs ≡ length ts′
+    flags-fit = omega (arith, long, h .types, h .flags)
+
+    pub pairs-fit : Paired bs (length ts′) m ps
+    pairs-fit = record { file = h .file; bodies = omega (arith, long, h .types); manifolds = h .manifolds; pairs = h .pairs }
+
+    pub enabled-inside : 11 + length ts′ + 4 * m + 5 * length es ≤ length bs
+    enabled-inside = omega (arith, long, h .types, h .manifolds, h .enabled, file-sized bs (h .file) .bytes)
+
+    pub decoded : (fs′ ps′ es′ : List ℕ) → ts′ ≡ take (length ts) (drop 11 bs) → fs′ ≡ map flagOf ts′ → ps′ ≡ manifoldsIn bs ++ jointsIn bs → es′ ≡ enabledFrom bs (11 + length ts′ + 4 * m) (length es) → Decoded bs ts′ fs′ ps′ es′
+    decoded fs′ ps′ es′ et ef ep ee =
+        let t : ts′ ≡ typesIn bs = et ∙ ap (λ (n : ℕ). take n (drop 11 bs)) (h .types) in
+        let l : length ts′ ≡ countB bs = omega (arith, long, h .types) in
+        record { types = t; flags = ef ∙ ap (map flagOf) t; pairs = ep; enabled = ee ∙ rw (l, h .manifolds, h .enabled) }
+
+-- ---- islands, from a table of both
+
+pub built-by : (ts ms js js′ es p₀ b₀ m₀ j₀ p b m j : List ℕ) (r : Rooms) (k n : ℕ) → js ≡ js′
+    → Built (frameOf ts ms js es) (islandRefusal ts ms js es r) p₀ b₀ m₀ j₀ p b m j k n → Built (frameOf ts ms js′ es) (islandRefusal ts ms js′ es r) p₀ b₀ m₀ j₀ p b m j k n
+built-by ts ms js js′ es p₀ b₀ m₀ j₀ p b m j r k n e h = rw e at h
+
+-- ---- D and the sort, on parts of tables
+
+pub degree-ready : (k : ℕ) (ts ps : List ℕ) (m : ℕ) (es cs : List ℕ) → Countable k ts ps m es cs → k ≡ 0
+    → (length (take (length ts) cs) ≡ length ts) × (allSound (frameOf ts (take (2 * m) ps) (take (length ps - 2 * m) (drop (2 * m) ps)) es) ≡ true) × (length (constraints (frameOf ts (take (2 * m) ps) (take (length ps - 2 * m) (drop (2 * m) ps)) es)) ≤ 8192)
+degree-ready k ts ps m es cs h z = (length-take-le (length ts) cs (h .counts), rw (rest-part (2 * m) ps) (h .sound z), rw (rest-part (2 * m) ps) (h .few))
+
+pub degree-rest : (k : ℕ) (ts ps : List ℕ) (m : ℕ) (es : List ℕ) (r : ℕ) → k ≡ 0 → r ≡ degreeMax (frameOf ts (take (2 * m) ps) (take (length ps - 2 * m) (drop (2 * m) ps)) es)
+    → r ≡ cond (eqb k 0) (degreeMax (frameOf ts (take (2 * m) ps) (drop (2 * m) ps) es)) 0
+degree-rest k ts ps m es r z e = e ∙ rw (z, rest-part (2 * m) ps)
+
+pub fronts-long : (m j : ℕ) (ms js : List ℕ) → m ≤ length ms → j ≤ length js → length (take m ms ++ take j js) ≡ m + j
+fronts-long m j ms js h l = length-append (take m ms) (take j js) ∙ omega (arith, length-take-le m ms h, length-take-le j js l)
+
+pub sortable-by : {n m : ℕ} {ks ss os ns : List ℕ} → n ≡ m → Sortable m ks ss os ns → Sortable n ks ss os ns
+sortable-by e h = rw e h

@@ -1,0 +1,58 @@
+-- What numbers the islands and labels the constraints, step by step.
+use Prim.Native.Nat.{ℕ, _+_, min}
+use mathlib.Core.Path.{_≡_}
+use mathlib.Core.Bool.{Bool, not, _&&_, cond}
+use mathlib.Core.List.{List, [], _∷_}
+use lib.Dec.{eqb}
+use lib.ListN.{length, getD, set}
+use Rattle.lists.specs.Basics.{one, count, range}
+use Rattle.frame.specs.Frames.{Constraint, Frame, frameOf, dynamic, none}
+use Rattle.island_sets.specs.Sets.{Falls}
+
+-- a frame's bodies alone
+abbrev pub bare : List ℕ → Frame
+bare ts = frameOf ts [] [] []
+
+-- links that do not rise and a table of labels, as many of each as bodies
+pub record Fit (ts p l : List ℕ) : Type 0 where
+  pub falls : Falls p
+  pub long-parents : length p ≡ length ts
+  pub long-bodies : length l ≡ length ts
+
+-- ---- numbering
+
+-- a body is in an island: it is dynamic and marked
+abbrev pub marked : List ℕ → List ℕ → ℕ → Bool
+marked ts l x = dynamic (bare ts) x && not (eqb (getD l x none) none)
+
+-- it is the lowest of its set
+abbrev pub leadsBy : (ℕ → Bool) → (ℕ → ℕ) → ℕ → Bool
+leadsBy m low x = m x && eqb (low x) x
+
+-- bodies of one set are marked or not together
+unfoldable pub Together : (ℕ → Bool) → (ℕ → ℕ) → Type 0
+Together m low = (x y : ℕ) → low x ≡ low y → m x ≡ m y
+
+-- body b with n islands before it: its label, and the islands then
+abbrev pub nextLabel : List ℕ → List ℕ → List ℕ → ℕ → ℕ → ℕ
+nextLabel ts p l b n = cond (marked ts l b) (cond (eqb (getD p b 0) b) n (getD l (getD p b 0) 0)) none
+
+abbrev pub nextCount : List ℕ → List ℕ → List ℕ → ℕ → ℕ → ℕ
+nextCount ts p l b n = n + one (marked ts l b && eqb (getD p b 0) b)
+
+pub record Stepped (ts p l : List ℕ) (b n : ℕ) (l′ : List ℕ) (n′ : ℕ) : Type 0 where
+  pub count : n′ ≡ nextCount ts p l b n
+  pub labels : l′ ≡ set l b (nextLabel ts p l b n)
+
+-- the marked bodies have the number of marked lowest bodies below their own, any other has none
+pub record Numbered (m : ℕ → Bool) (low : ℕ → ℕ) (size islands : ℕ) (l : List ℕ) : Type 0 where
+  pub islands-are : islands ≡ count (leadsBy m low) (range size)
+  pub labels-are : (x : ℕ) → getD l x none ≡ cond (m x) (count (leadsBy m low) (range (low x))) none
+
+-- ---- a live constraint's label is the least of its bodies' labels
+abbrev pub least : List ℕ → List ℕ → ℕ
+least l [] = none
+least l (x ∷ xs) = min (getD l x none) (least l xs)
+
+abbrev pub labelBy : List ℕ → Constraint → ℕ
+labelBy l c = cond (c .live) (least l (c .ends)) none

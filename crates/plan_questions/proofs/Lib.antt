@@ -1,0 +1,4 @@
+pub mod Questions
+pub mod Rooms
+pub mod Scans
+pub mod Lookups

@@ -1,0 +1,31 @@
+-- What a run answers: document 01's number, 0 where accepted, and the four carried numbers, all 0 where refused.
+use Prim.Native.Nat.{ℕ, _/_}
+use mathlib.Core.Path.{_≡_}
+use mathlib.Core.Bool.{Bool, true, false, not, cond}
+use lib.Dec.{eqb}
+use Rattle.turn_table.specs.declared.Tally.{Tally}
+use Rattle.frame_tables.specs.declared.Filling.{Filling}
+use Rattle.run_answer.specs.declared.Report.{Report}
+use Rattle.run_answer.specs.declared.Answer.{Answer}
+use Rattle.run_answer.specs.declared.Answer.the-variants as answer
+
+abbrev pub runNumber : Answer → ℕ
+runNumber (answer.Ran r) = 0
+runNumber (answer.Refused n) = n
+
+-- whether it is a refusal: that has a number, never 0
+abbrev pub runRefused : Answer → Bool
+runRefused (answer.Ran r) = false
+runRefused (answer.Refused n) = true
+
+abbrev pub runReport : Answer → Report
+runReport (answer.Ran r) = r
+runReport (answer.Refused n) = record { islands = 0; turns = 0; takes = 0; degree = 0 }
+
+-- the report of a filling and a tally, three entries a turn
+pub record Told (f : Filling) (t : Tally) (r : Answer) : Type 0 where
+  pub refusal : runNumber r ≡ f .refusal
+  pub refused : runRefused r ≡ not (eqb (f .refusal) 0)
+  pub report : runReport r ≡ cond (eqb (f .refusal) 0)
+      (record { islands = f .islands; turns = t .place / 3; takes = t .takes; degree = f .degree })
+      (record { islands = 0; turns = 0; takes = 0; degree = 0 })
