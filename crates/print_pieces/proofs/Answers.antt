@@ -22,7 +22,7 @@ use Rattle.run_answer.specs.declared.Answer.the-variants as answer
 use Rattle.run_answer.specs.Answers.{runNumber, runRefused, runReport}
 use Rattle.frame_run.proofs.Runs.{all-asked}
 use Rattle.own_tables.specs.Runs.{turnsFit, RanAlone}
-use Rattle.print_pieces.specs.Pieces.{answerLine, Answered}
+use Rattle.print_pieces.specs.Pieces.{answerLine, InputAnswered}
 
 pub run-refusal : (bs : List ℕ) (room : Bool) → runOf bs room .refusal ≡ runRefusal bs room
 unfolding runOf
@@ -62,7 +62,7 @@ long-answer : (bs : List ℕ) → 40971 < length bs → answerTo bs ≡ refused 
 unfolding answerTo
 long-answer bs many = rw (lt-ltb 40971 (length bs) many)
 
-pub run-answered : (bs ts ts′ : List ℕ) (r : Answer) → 24576 ≤ length ts → length bs ≤ 40971 → RanAlone bs ts ts′ r → Answered bs ts ts′ r
+pub run-answered : (bs ts ts′ : List ℕ) (r : Answer) → 24576 ≤ length ts → length bs ≤ 40971 → RanAlone bs ts ts′ r → InputAnswered bs ts ts′ r
 run-answered bs ts ts′ r room few a =
     let e : runOf bs (turnsFit bs ts) ≡ answerTo bs = same-run bs ts room ∙ sym (run-answer bs few) in
     record {
@@ -71,7 +71,7 @@ run-answered bs ts ts′ r room few a =
       table = a .turns ∙ ap (λ (s : runs.Report). over (s .table) ts) e;
     }
 
-pub long-answered : (bs ts : List ℕ) → 40971 < length bs → Answered bs ts ts (answer.Refused 3)
+pub long-answered : (bs ts : List ℕ) → 40971 < length bs → InputAnswered bs ts ts (answer.Refused 3)
 unfolding firstLine
 long-answered bs ts many =
     let e : refused 3 ≡ answerTo bs = sym (long-answer bs many) in

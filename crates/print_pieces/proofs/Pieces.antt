@@ -18,7 +18,7 @@ use Rattle.printing.specs.Turns.{gathered, turnsFrom, linesOf, Lines}
 use Rattle.print_fields.proofs.Puts.{put-nothing}
 use Rattle.printing.proofs.Turns.{gathered-few}
 use Rattle.print_pieces.specs.declared.Piece.{Piece}
-use Rattle.print_pieces.specs.Pieces.{answerLine, Answered, bufferSize, pieceText, Stands, turnsLeft, FirstPiece, NextPiece}
+use Rattle.print_pieces.specs.Pieces.{answerLine, InputAnswered, bufferSize, pieceText, PieceStands, turnsLeft, FirstPiece, NextPiece}
 use Rattle.print_pieces.proofs.Answers.{table-long}
 
 put-first : (new old : List ℕ) → put 0 new old ≡ over new old
@@ -32,7 +32,7 @@ put-line line text old new r e room p = rw (← e) (rw (le-leb (0 + longest) (le
 
 module _ (bs opening turns : List ℕ) (first : ℕ) (old mid new : List ℕ) (at : ℕ) (p : Piece) (long : length old ≡ bufferSize) (kept : length mid ≡ length old) where
   -- the opening, then the lines
-  stands : Put opening old 0 mid at → Lines bs turns first mid at new (record { at = p .size; turn = p .next }) → Stands bs opening (turnsFrom turns first) first old new p
+  stands : Put opening old 0 mid at → Lines bs turns first mid at new (record { at = p .size; turn = p .next }) → PieceStands bs opening (turnsFrom turns first) first old new p
   unfolding pieceText
   stands o l =
       let rest = turnsFrom turns first in
@@ -59,7 +59,7 @@ module _ (bs opening turns : List ℕ) (first : ℕ) (old mid new : List ℕ) (a
 
 -- the first piece, and the next one
 pub first-stands : (bs ts ts′ old mid new : List ℕ) (r : Answer) (count at : ℕ) (p : Piece) → length old ≡ bufferSize → length mid ≡ length old
-    → Answered bs ts ts′ r → count ≡ runReport r .turns → Put (answerLine r) old 0 mid at → p .turns ≡ count
+    → InputAnswered bs ts ts′ r → count ≡ runReport r .turns → Put (answerLine r) old 0 mid at → p .turns ≡ count
     → Lines bs (take (3 * count) ts′) 0 mid at new (record { at = p .size; turn = p .next }) → FirstPiece bs ts old ts′ new p
 first-stands bs ts ts′ old mid new r count at p long kept a c o t l =
     let n : count ≡ answerTo bs .turns = c ∙ a .turns in
@@ -88,7 +88,7 @@ module _ (bs : List ℕ) where
   abbrev pub held : List ℕ → List ℕ → ℕ
   held opening turns = gathered bs bufferSize (length opening) turns
 
-  module _ {opening turns old new : List ℕ} {first : ℕ} {p : Piece} (s : Stands bs opening turns first old new p) where
+  module _ {opening turns old new : List ℕ} {first : ℕ} {p : Piece} (s : PieceStands bs opening turns first old new p) where
     pub opening-fits : length opening ≤ p .size
     unfolding pieceText
     opening-fits = omega (arith, s .size, length-append opening (linesOf bs turns (held opening turns)))
@@ -97,7 +97,7 @@ module _ (bs : List ℕ) where
     piece-fits = omega (arith, s .size, ap length (s .text), length-append (pieceText bs opening turns) (drop (length (pieceText bs opening turns)) old))
 
   -- the turns behind it
-  pub left-behind : (all table : List ℕ) {opening old new : List ℕ} {first : ℕ} {p : Piece} → take (3 * p .turns) table ≡ all → Stands bs opening (turnsFrom all first) first old new p
+  pub left-behind : (all table : List ℕ) {opening old new : List ℕ} {first : ℕ} {p : Piece} → take (3 * p .turns) table ≡ all → PieceStands bs opening (turnsFrom all first) first old new p
       → turnsLeft table p ≡ turnsFrom (turnsFrom all first) (held opening (turnsFrom all first))
   left-behind all table {opening} {old} {new} {first} {p} e s =
       let d = held opening (turnsFrom all first) in

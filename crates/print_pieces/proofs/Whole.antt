@@ -23,7 +23,7 @@ use Rattle.print_fields.specs.Puts.{longest}
 use Rattle.printing.specs.Turns.{lineOf, ready, gathered, turnsFrom, linesOf}
 use Rattle.printing.proofs.Turns.{line-some, lines-append, gathered-few}
 use Rattle.print_pieces.specs.declared.Piece.{Piece}
-use Rattle.print_pieces.specs.Pieces.{bufferSize, pieceText, Stands, turnsLeft, NextPiece, Written, done, more, WholePrint}
+use Rattle.print_pieces.specs.Pieces.{bufferSize, pieceText, PieceStands, turnsLeft, NextPiece, Written, done, more, WholePrint}
 use Rattle.print_pieces.proofs.Answers.{table-long}
 use Rattle.print_pieces.proofs.Pieces.{held, opening-fits, left-behind, next-left}
 
@@ -133,7 +133,7 @@ module _ (bs : List ℕ) where
       ∙ ap (turnLines f) (take-append-drop (3 * d) turns))
 
   -- what is written of a piece
-  text-out : {opening turns old new : List ℕ} {first : ℕ} {p : Piece} → Stands bs opening turns first old new p → take (p .size) new ≡ pieceText bs opening turns
+  text-out : {opening turns old new : List ℕ} {first : ℕ} {p : Piece} → PieceStands bs opening turns first old new p → take (p .size) new ≡ pieceText bs opening turns
   text-out {opening} {turns} {old} s = rw (s .text) (take-at (pieceText bs opening turns) (drop (length (pieceText bs opening turns)) old) _ (sym (s .size)))
 
   module _ (table : List ℕ) where

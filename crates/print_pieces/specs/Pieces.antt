@@ -17,7 +17,7 @@ answerLine (answer.Ran r) = headOf (r .islands) (r .turns) (r .takes) (r .degree
 answerLine (answer.Refused n) = refusalLine n
 
 -- the answer to the input bs, and the turn table at entry and at exit
-pub record Answered (bs ts ts′ : List ℕ) (r : Answer) : Type 0 where
+pub record InputAnswered (bs ts ts′ : List ℕ) (r : Answer) : Type 0 where
   pub line : answerLine r ≡ firstLine (answerTo bs)
   pub turns : runReport r .turns ≡ answerTo bs .turns
   pub table : ts′ ≡ over (answerTo bs .table) ts
@@ -32,7 +32,7 @@ unfoldable pub pieceText : List ℕ → List ℕ → List ℕ → List ℕ
 pieceText bs opening turns = opening ++ linesOf bs turns (gathered bs bufferSize (length opening) turns)
 
 -- it stands in the buffer, which was `old`, from place 0 on; its size; and the first turn that is left, where `first` was the first
-pub record Stands (bs opening turns : List ℕ) (first : ℕ) (old new : List ℕ) (p : Piece) : Type 0 where
+pub record PieceStands (bs opening turns : List ℕ) (first : ℕ) (old new : List ℕ) (p : Piece) : Type 0 where
   pub text : new ≡ over (pieceText bs opening turns) old
   pub long : length new ≡ length old
   pub size : p .size ≡ length (pieceText bs opening turns)
@@ -46,12 +46,12 @@ turnsLeft table p = turnsFrom (take (3 * p .turns) table) (p .next)
 pub record FirstPiece (bs ts old ts′ new : List ℕ) (p : Piece) : Type 0 where
   pub table : ts′ ≡ over (answerTo bs .table) ts
   pub turns : p .turns ≡ answerTo bs .turns
-  pub stands : Stands bs (firstLine (answerTo bs)) (answerTo bs .table) 0 old new p
+  pub stands : PieceStands bs (firstLine (answerTo bs)) (answerTo bs .table) 0 old new p
 
 -- the next piece goes on with the turns that the piece p left
 pub record NextPiece (bs table old : List ℕ) (p : Piece) (new : List ℕ) (q : Piece) : Type 0 where
   pub turns : q .turns ≡ p .turns
-  pub stands : Stands bs [] (turnsLeft table p) (p .next) old new q
+  pub stands : PieceStands bs [] (turnsLeft table p) (p .next) old new q
 
 -- ---- all pieces
 

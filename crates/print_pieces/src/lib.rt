@@ -9,7 +9,7 @@ ghost use mathlib.Core.Bool.{true};
 ghost use lib.ListN.{length, take};
 ghost use Rattle.print_fields.specs.Puts.{Put, longest};
 ghost use Rattle.printing.specs.Turns.{Lines};
-ghost use Rattle.print_pieces.specs.Pieces.{answerLine, Answered, FirstPiece, NextPiece};
+ghost use Rattle.print_pieces.specs.Pieces.{answerLine, InputAnswered, FirstPiece, NextPiece};
 
 // The program's buffers: the input, with one byte more than a frame can have; the turn table of the largest frame; the output.
 pub const INPUT: usize = Frame::MAX_BYTES + 1;
@@ -39,7 +39,7 @@ pub struct Piece {
 // The answer to an input, with its turns in the turn table.
 fn answer_to(frame: &[u8], turns: &mut [u16]) -> Answer
     requires { ⌜ 24576 ≤ length (now turns) ⌝ }
-    ensures { λ r. ⌜ Answered (now (frame .entry)) (now (turns .entry)) (now (turns .exit)) r ⌝ }
+    ensures { λ r. ⌜ InputAnswered (now (frame .entry)) (now (turns .entry)) (now (turns .exit)) r ⌝ }
 {
     if Frame::MAX_BYTES < frame.len() {
         return Answer::Refused(3);
