@@ -1,5 +1,5 @@
--- Two lanes never hold one body. Two turns of one group have different constraints of one color, and the coloring is proper, so no dynamic
--- body is on both. Turns of two islands have constraints of different labels, and a constraint has the label of each of its dynamic bodies.
+-- Two lanes never hold one body. Two turns of one group have different constraints of one color, and the coloring is proper, so no body that
+-- makes conflicts is on both. Turns of two islands have constraints of different labels, and a constraint has the label of each of its dynamic bodies.
 use Prim.Native.Nat.{ℕ, zero, suc, _≤_, _<_}
 use mathlib.Core.Path.{_≡_, refl, sym, ap, _∙_}
 use mathlib.Core.Bool.{Bool, true, false, _&&_, _||_}
@@ -18,12 +18,17 @@ use Rattle.groups.specs.Groups.{members}
 use Rattle.colored_bodies.specs.Bindings.{Handed}
 use Rattle.schedules.specs.Runs.{Call, Plans, Orders, schedule}
 use Rattle.schedules.specs.Condition.{Schedule, due}
-use Rattle.schedules.specs.Lanes.{holds, Turns, Apart, LanesApart, IslandsApart}
+use Rattle.schedules.specs.Lanes.{holdsBody, Turns, conflicting, Apart, LanesApart, IslandsApart}
 use Rattle.schedules.proofs.Accepted.{Accepted, accepted}
 use Rattle.schedules.proofs.Plans.{endsAt, colorsAt, Stands, of-island, length-colors, planned-stands}
 use Rattle.schedules.proofs.Groups.{member, disjoint}
 use Rattle.schedules.proofs.Condition3.{all-turns, condition3}
 use Rattle.schedules.proofs.Calls.{map-each, Member, call-member, numbers-differ, first-listed, second-listed}
+
+-- a constraint on a body has it as an endpoint
+on-end : (c : Constraint) (b : ℕ) → on b c ≡ true → mem b (c .ends) ≡ true
+unfolding on
+on-end c b h = and-right (c .live) (mem b (c .ends)) h
 
 -- ---- what a turn holds
 
@@ -31,9 +36,8 @@ any-map : {A B : Type 0} (q : B → Bool) (g : A → B) (xs : List A) → any q 
 any-map q g [] = refl
 any-map q g (x ∷ xs) = ap (λ (t : Bool). q (g x) || t) (any-map q g xs)
 
--- a body that a turn holds is dynamic, and an endpoint of its constraint
-held-by : (f : Frame) (b n : ℕ) (hs : List Handed) → hs ≡ due f n → any (λ h. h .dynamic && eqb b (h .body)) hs ≡ true → (dynamic f b ≡ true) × (mem b (endsAt f n) ≡ true)
-unfolding dynamic
+-- a body that a turn holds makes conflicts, and is an endpoint of its constraint
+held-by : (f : Frame) (b n : ℕ) (hs : List Handed) → hs ≡ due f n → any (λ h. h .dynamic && eqb b (h .body)) hs ≡ true → (conflicting f b ≡ true) × (mem b (endsAt f n) ≡ true)
 held-by f b n hs e h =
     let q : Handed → Bool = λ x. x .dynamic && eqb b (x .body) in
     let o = any-out (λ x. conflicts (getD (f .types) x 0) && eqb b x) (endsAt f n) (sym (any-map q (λ x. record { body = x; dynamic = conflicts (getD (f .types) x 0) }) (endsAt f n)) ∙ ap (any q) (sym e) ∙ h) in
@@ -59,10 +63,9 @@ module _ (f : Frame) (ok : Accepted f) where
       sym (known .1) ∙ label-each f (constraintAt f n) b (at-listed (constraints f) n inside) (and-both (constraintAt f n .live) (mem b (endsAt f n)) live h) d
 
   module _ (p : Plans) (st : (i : ℕ) (l : i < islandCount f) → Stands f ok i l (p i)) where
-    -- two constraints of one group share no dynamic body
+    -- two constraints of one group share no body that makes conflicts
     group-apart : (i k r s n m b : ℕ) → i < islandCount f → k < p i .groups → mem r (members (colorsAt f i) k) ≡ true → mem s (members (colorsAt f i) k) ≡ true
-        → n ≡ getD (ofIsland f i) r 0 → m ≡ getD (ofIsland f i) s 0 → (n ≡ m → ⊥) → dynamic f b ≡ true → mem b (endsAt f n) ≡ true → mem b (endsAt f m) ≡ true → ⊥
-    unfolding dynamic
+        → n ≡ getD (ofIsland f i) r 0 → m ≡ getD (ofIsland f i) s 0 → (n ≡ m → ⊥) → conflicting f b ≡ true → mem b (endsAt f n) ≡ true → mem b (endsAt f m) ≡ true → ⊥
     group-apart i k r s n m b l h mr ms en em differ d hn hm =
         disjoint f ok i l (p i) (st i l) k h r s b mr ms (ne-eqb r s (λ q. differ (en ∙ ap (λ (x : ℕ). getD (ofIsland f i) x 0) q ∙ sym em))) d (rw en at hn) (rw em at hm)
 
@@ -101,18 +104,17 @@ module _ (bs : List ℕ) (p : Plans) (o : Orders) (c d : Call) (e : frameRefusal
       one-le true = omega arith
       one-le false = omega arith
 
-  -- no dynamic body on both constraints: that is what being apart comes to
-  apart : ((b : ℕ) → dynamic f b ≡ true → mem b (endsAt f (c .constraint)) ≡ true → mem b (endsAt f (d .constraint)) ≡ true → ⊥) → Apart f c d
-  unfolding on
+  -- no body that makes conflicts on both constraints: that is what being apart comes to
+  apart : ((b : ℕ) → conflicting f b ≡ true → mem b (endsAt f (c .constraint)) ≡ true → mem b (endsAt f (d .constraint)) ≡ true → ⊥) → Apart f c d
   apart none =
       let handed = condition3 bs p o e sch .handed in
       record {
-        held = λ b hc. not-true-false (holds b d) (λ hd.
+        held = λ b hc. not-true-false (holdsBody b d) (λ hd.
             let x = held-by f b (c .constraint) (c .handed) (map-each (λ a. a .handed) (λ a. due f (a .constraint)) c (schedule f p o) handed c-listed) hc in
             let y = held-by f b (d .constraint) (d .handed) (map-each (λ a. a .handed) (λ a. due f (a .constraint)) d (schedule f p o) handed d-listed) hd in
             none b (x .0) (x .1) (y .1));
         bodies = λ b t hc. not-true-false (on b (constraintAt f (d .constraint))) (λ hd.
-            none b t (and-right (constraintAt f (c .constraint) .live) (mem b (endsAt f (c .constraint))) hc) (and-right (constraintAt f (d .constraint) .live) (mem b (endsAt f (d .constraint))) hd));
+            none b t (on-end (constraintAt f (c .constraint)) b hc) (on-end (constraintAt f (d .constraint)) b hd));
       }
 
 -- the second turn's group is the first's
@@ -134,6 +136,6 @@ islands-apart bs p o c d e sch two other =
     let ok = accepted bs e in
     let x = c-member bs p o c d e sch two in
     let y = d-member bs p o c d e sch two in
-    apart bs p o c d e sch two (λ b t hc hd. other
-    (body-island f ok (c .island) (c .group) (x .rank) (c .constraint) b (x .island-inside) (x .listed) (x .number) t hc
-    ∙ sym (body-island f ok (d .island) (d .group) (y .rank) (d .constraint) b (y .island-inside) (y .listed) (y .number) t hd)))
+    λ b t hc. not-true-false (on b (constraintAt f (d .constraint))) (λ hd. other
+    (body-island f ok (c .island) (c .group) (x .rank) (c .constraint) b (x .island-inside) (x .listed) (x .number) t (on-end (constraintAt f (c .constraint)) b hc)
+    ∙ sym (body-island f ok (d .island) (d .group) (y .rank) (d .constraint) b (y .island-inside) (y .listed) (y .number) t (on-end (constraintAt f (d .constraint)) b hd))))
