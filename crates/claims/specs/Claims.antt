@@ -23,7 +23,7 @@ use Rattle.colored_bodies.specs.declared.Marked.{Marked}
 use Rattle.colored_bodies.specs.Answers.{Marks}
 use Rattle.schedules.specs.Runs.{Call, Plans, Orders, callsFrom, schedule, rising, runCalls}
 use Rattle.schedules.specs.Condition.{Schedule, Condition3, Permuted, Roomy, Scheduled}
-use Rattle.schedules.specs.Lanes.{Turns, Apart, ApartIn}
+use Rattle.schedules.specs.Lanes.{Turns, NoneOnBoth, Apart, ApartIn}
 use Rattle.schedules.specs.Labels.{IslandsRead}
 use Rattle.schedules.specs.Samples.{answer, samples}
 use Rattle.schedules.proofs.Lanes.{lanes-apart, islands-apart}
@@ -48,18 +48,18 @@ use Rattle.print_pieces.proofs.Whole.{whole-print}
 -- ---- lanes
 
 -- Two lanes never hold one body: of every accepted file and every schedule of its frame, two different turns of one group of one island
--- hold no body in common, and no dynamic body is on both constraints.
+-- hold no body in common, and no body that makes conflicts is on both constraints.
 pub two-lanes : (bs : List ℕ) (p : Plans) (o : Orders) (c d : Call) → frameRefusal bs ≡ 0 → Schedule (decode bs) p o → Turns (decode bs) p o c d
     → c .island ≡ d .island → c .group ≡ d .group → Apart (decode bs) c d
 two-lanes = lanes-apart
 
--- Nor do turns of two different islands, whatever their groups.
+-- And turns of two different islands, whatever their groups, have no dynamic body on both constraints.
 pub two-islands : (bs : List ℕ) (p : Plans) (o : Orders) (c d : Call) → frameRefusal bs ≡ 0 → Schedule (decode bs) p o → Turns (decode bs) p o c d
-    → (c .island ≡ d .island → ⊥) → Apart (decode bs) c d
+    → (c .island ≡ d .island → ⊥) → NoneOnBoth (dynamic (decode bs)) (decode bs) (c .constraint) (d .constraint)
 two-islands = islands-apart
 
--- Of the code: any two turns of one island and group in the turn table that an accepted call of `run` leaves have no dynamic body on both
--- constraints.
+-- Of the code: any two turns of one island and group in the turn table that an accepted call of `run` leaves have no body that makes
+-- conflicts on both constraints.
 pub two-lanes-of-run : (bs : List ℕ) (l m : Lent) (r : Answer) (a b : ℕ) → refusalIn bs l ≡ 0 → Ran bs l m r → a < b → b < runReport r .turns → ApartIn (decode bs) (m .turns) a b
 two-lanes-of-run = run-apart
 

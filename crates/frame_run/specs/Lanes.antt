@@ -8,6 +8,6 @@ use Rattle.run_answer.specs.declared.Answer.{Answer}
 use Rattle.run_answer.specs.Answers.{runReport}
 use Rattle.frame_run.specs.Calls.{Lent, refusalIn, Ran}
 
--- two different turns of one island and group have no dynamic body on both constraints
+-- two different turns of one island and group have no body that makes conflicts on both constraints
 abbrev pub RunApart : Type 0
 RunApart = (bs : List ℕ) (l m : Lent) (r : Answer) (a b : ℕ) → refusalIn bs l ≡ 0 → Ran bs l m r → a < b → b < runReport r .turns → ApartIn (decode bs) (m .turns) a b
