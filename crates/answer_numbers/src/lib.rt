@@ -1,4 +1,4 @@
-// Answers as numbers, for the calls of C.
+// Answers as numbers, for the calls of C. Internal to the boundary.
 use colored_bodies::Marked;
 use constraint_coloring::ConstraintColoring;
 use constraint_coloring::Positions;
