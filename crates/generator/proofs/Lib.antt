@@ -1,0 +1,5 @@
+pub mod Calls
+pub mod Draws
+pub mod Loops
+pub mod Whole
+pub mod Lifts

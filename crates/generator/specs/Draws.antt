@@ -1,0 +1,38 @@
+-- Test lifts from a number: the states from a seed on, the draws, and the file that they give.
+use Prim.Native.Nat.{ℕ, zero, suc, _+_, _-_, _*_, _/_, _%_}
+use mathlib.Core.List.{List, [], _∷_, map}
+use Rattle.lists.specs.Basics.{joinMap, range}
+use Rattle.frame_file.specs.Written.{fileOf}
+
+-- the state after s
+unfoldable pub nextState : ℕ → ℕ
+nextState s = (1664525 * s + 1013904223) % 4294967296
+
+-- the state after k steps from s
+unfoldable pub stateAfter : ℕ → ℕ → ℕ
+stateAfter zero s = s
+stateAfter (suc k) s = nextState (stateAfter k s)
+
+-- draw k from s, the first being draw 0: the upper 16 bits of the new state
+unfoldable pub draw : ℕ → ℕ → ℕ
+draw k s = stateAfter (suc k) s / 65536
+
+-- two different bodies below b, a and then b, by two draws, the first being draw k
+unfoldable pub pairDrawn : ℕ → ℕ → ℕ → List ℕ
+pairDrawn b k s = (draw k s % b) ∷ ((draw k s % b + 1 + draw (suc k) s % (b - 1)) % b) ∷ []
+
+-- n types, from draw 0 on
+unfoldable pub typesDrawn : ℕ → ℕ → List ℕ
+typesDrawn n s = map (λ i. draw i s % 3) (range n)
+
+-- n pairs, the first from draw k on and each `step` draws after the one before
+unfoldable pub pairsDrawn : ℕ → ℕ → ℕ → ℕ → ℕ → List ℕ
+pairsDrawn b k step n s = joinMap (λ i. pairDrawn b (k + step * i) s) (range n)
+
+-- n joints' enabled bytes: each is drawn behind its joint's pair
+unfoldable pub enabledDrawn : ℕ → ℕ → ℕ → List ℕ
+enabledDrawn k n s = map (λ i. draw (k + 3 * i + 2) s % 2) (range n)
+
+-- the file of a seed: b bodies first, then m manifolds, then j joints
+unfoldable pub generatedBytes : ℕ → ℕ → ℕ → ℕ → List ℕ
+generatedBytes seed b m j = fileOf (typesDrawn b seed) (pairsDrawn b b 2 m seed) (pairsDrawn b (b + 2 * m) 3 j seed) (enabledDrawn (b + 2 * m) j seed)
