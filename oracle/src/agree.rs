@@ -11,6 +11,8 @@ pub struct Tally {
     pub frames: usize,
     pub calls: usize,
     pub prints: usize,
+    /// lines through the program that makes lifts
+    pub lines: usize,
     pub agree: usize,
     pub differ: usize,
     /// how often each call met each refusal, or 0
@@ -40,6 +42,9 @@ pub struct Step {
 /// A bind and its takes: each answer with the count and whether the bodies are as at first, the marks after each, the bodies.
 type Session = (Vec<(Answer, usize, bool, usize)>, Vec<u8>, Option<Vec<u16>>);
 
+/// What the call that makes a lift answered, a refusal or 0 and a length, and the lent bytes after it.
+pub type Lift = ((u8, usize), Vec<u8>);
+
 /// The links followed to their ends; false if a link rises.
 fn follow(parents: &mut [u16]) -> bool {
     for body in 0..parents.len() {
@@ -58,7 +63,12 @@ fn fixed(t: &PlanTables) -> [&[u16]; 7] {
     [&t.pairs, &t.colors, &t.group_offsets, &t.members, &t.body_offsets, &t.bodies, &t.positions]
 }
 
-fn shorten(bytes: &[u8]) -> String {
+/// The refusal that a program printed, or 0.
+fn refused(print: &[u8]) -> u8 {
+    String::from_utf8_lossy(print).strip_prefix("refused ").map_or(0, |number| number.trim().parse().unwrap())
+}
+
+pub fn shorten(bytes: &[u8]) -> String {
     let hex: String = bytes.iter().take(96).map(|b| format!("{b:02X}")).collect();
     format!("{hex}{} ({} bytes)", if bytes.len() > 96 { ".." } else { "" }, bytes.len())
 }
@@ -68,7 +78,7 @@ impl<'a, L: Calls, R: Calls> Agree<'a, L, R> {
         Agree { left, right, tally: Tally::default(), random: Random(seed) }
     }
 
-    fn check(&mut self, same: bool, what: impl FnOnce() -> String) {
+    pub fn check(&mut self, same: bool, what: impl FnOnce() -> String) {
         if same {
             self.tally.agree += 1;
             return;
@@ -353,7 +363,8 @@ impl<'a, L: Calls, R: Calls> Agree<'a, L, R> {
 
     // ---- files: runs and prints
 
-    pub fn run(&mut self, file: &[u8], tables: &RunTables) {
+    /// The run of a file on these tables; answers the left side's report.
+    pub fn run(&mut self, file: &[u8], tables: &RunTables) -> Report {
         let (mut l, mut r) = (tables.clone(), tables.clone());
         let left = self.left.run(file, &mut l);
         let right = self.right.run(file, &mut r);
@@ -376,6 +387,7 @@ impl<'a, L: Calls, R: Calls> Agree<'a, L, R> {
                 tables.turns.len()
             )
         });
+        left
     }
 
     /// The lengths that a run of this file asks for; any will do for one that is refused before question 6.
@@ -386,11 +398,11 @@ impl<'a, L: Calls, R: Calls> Agree<'a, L, R> {
         }
     }
 
-    /// A file through the run.
-    pub fn file(&mut self, file: &[u8]) {
+    /// A file through the run; answers the left side's report.
+    pub fn file(&mut self, file: &[u8]) -> Report {
         self.tally.frames += 1;
         let tables = self.lend(&Self::run_lengths(file), true);
-        self.run(file, &tables);
+        self.run(file, &tables)
     }
 
     /// Every table of a run exact, and each in turn one place short.
@@ -409,8 +421,7 @@ impl<'a, L: Calls, R: Calls> Agree<'a, L, R> {
     pub fn print(&mut self, file: &[u8]) {
         let (left, right) = (self.left.print(file), self.right.print(file));
         self.tally.prints += 1;
-        let refused = String::from_utf8_lossy(&left).strip_prefix("refused ").map(|n| n.trim().parse().unwrap());
-        self.tally.meets("print", refused.unwrap_or(0));
+        self.tally.meets("print", refused(&left));
         let text = |b: &[u8]| String::from_utf8_lossy(&b[..b.len().min(400)]).to_string();
         self.check(left == right, || format!("print of {}:\n{}and\n{}", shorten(file), text(&left), text(&right)));
     }
@@ -420,6 +431,47 @@ impl<'a, L: Calls, R: Calls> Agree<'a, L, R> {
         self.print(file);
         let left = self.left.print(file);
         self.check(left == text, || format!("print of {}: {}", shorten(file), String::from_utf8_lossy(&left)));
+    }
+
+    // ---- test lifts
+
+    /// So many bytes with a pattern.
+    pub fn lend_bytes(&mut self, room: usize) -> Vec<u8> {
+        let mut bytes = Vec::new();
+        Table::Bytes(&mut bytes).fill(room, self.random.next() as u32);
+        bytes
+    }
+
+    /// The lift of a seed in copies of the lent bytes; answers what each side made of it.
+    pub fn generate(&mut self, seed: u32, sizes: [usize; 3], lent: &[u8]) -> [Lift; 2] {
+        let (mut l, mut r) = (lent.to_vec(), lent.to_vec());
+        let left = self.left.generate(seed, sizes, &mut l);
+        let right = self.right.generate(seed, sizes, &mut r);
+        self.tally.calls += 1;
+        self.tally.meets("generate", left.0);
+        self.check(left == right && l == r, || {
+            format!(
+                "lift of {seed} with {sizes:?} in {} bytes: {left:?} {} and {right:?} {}",
+                lent.len(),
+                shorten(&l),
+                shorten(&r)
+            )
+        });
+        [(left, l), (right, r)]
+    }
+
+    /// A line through the program that makes lifts; answers what the left side prints.
+    pub fn lift_line(&mut self, line: &[u8]) -> Option<Vec<u8>> {
+        let (left, right) = (self.left.lift_line(line), self.right.lift_line(line));
+        self.tally.lines += 1;
+        if let Some(print) = &left {
+            self.tally.meets("line", refused(print));
+        }
+        self.check(left == right, || {
+            let text = |print: &Option<Vec<u8>>| print.as_ref().map(|bytes| shorten(bytes));
+            format!("lift of the line {:?}: {:?} and {:?}", String::from_utf8_lossy(line), text(&left), text(&right))
+        });
+        left
     }
 
     // ---- frames

@@ -1,4 +1,5 @@
-//! The calls that document 01 knows, with their lent tables and answers: what the sides of a comparison have in common.
+//! The calls that document 01 and request 3 know, with their lent tables and answers: what the sides of a comparison have in
+//! common.
 
 pub const NONE: u16 = 65535;
 pub const BODIES: usize = 4096;
@@ -231,6 +232,11 @@ pub fn run_lengths(b: usize, m: usize, j: usize) -> Vec<usize> {
     all
 }
 
+/// The bytes of a file with so many bodies, manifolds and joints.
+pub fn file_length(b: usize, m: usize, j: usize) -> usize {
+    11 + b + 4 * m + 5 * j
+}
+
 /// Whether every lent table is at least as long as wanted.
 pub fn roomy(tables: &mut impl Lent, lengths: &[usize]) -> bool {
     tables.tables().iter().zip(lengths).all(|(t, n)| t.len() >= *n)
@@ -317,6 +323,13 @@ pub trait Calls {
 
     /// What the program prints.
     fn print(&self, file: &[u8]) -> Vec<u8>;
+
+    /// The lift of a seed with so many bodies, manifolds and joints, as a file from place 0 of lent bytes: the refusal or 0,
+    /// and the file's length.
+    fn generate(&self, seed: u32, sizes: [usize; 3], bytes: &mut [u8]) -> (u8, usize);
+
+    /// What the program `generate_frame` prints for a line; None for a line that it cannot read.
+    fn lift_line(&self, line: &[u8]) -> Option<Vec<u8>>;
 }
 
 /// What a bind or a take answered, and the binding after it.

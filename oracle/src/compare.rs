@@ -2,6 +2,7 @@
 use crate::agree::{Agree, Step};
 use crate::calls::*;
 use crate::frames;
+use crate::lifts;
 use crate::scope;
 use std::process::exit;
 
@@ -10,7 +11,8 @@ const FILE: &str = "01 0000002B 0006 0004 0003 02 02 00 02 02 01 0000 0002 0001 
     0001 0002 01 0000 0000 00 0005 0003 01";
 const PRINT: &str = "islands 2 turns 5 takes 6 degree 2\n0 0 0 0 2\n0 0 4 1 2\n0 1 1 1 0\n1 0 2 3 2\n1 1 6 5 3\n";
 
-fn bytes(hex: &str) -> Vec<u8> {
+/// The bytes that a text gives in hex, with spaces anywhere between them.
+pub fn bytes(hex: &str) -> Vec<u8> {
     let digits: Vec<u8> = hex.bytes().filter(|b| *b != b' ').collect();
     let byte = |pair: &[u8]| u8::from_str_radix(std::str::from_utf8(pair).unwrap(), 16).unwrap();
     digits.chunks(2).map(byte).collect()
@@ -60,6 +62,8 @@ const REFUSALS: &[(&str, &[u8])] = &[
     ("take", &[0, 9, 10, 11]),
     ("run", &[0, 1, 2, 3, 4, 5, 6, 7]),
     ("print", &[0, 1, 2, 3, 4, 5, 7]),
+    ("generate", &[0, 3, 6, 13]),
+    ("line", &[0, 3, 13]),
 ];
 
 /// Compares and exits: 0 only if nothing differs. `more` multiplies the random part.
@@ -125,6 +129,7 @@ pub fn compare<L: Calls, R: Calls>(left: &L, right: &R, more: usize) -> ! {
             }
         });
     }
+    lifts::compare(&mut agree, more);
 
     let tally = agree.tally;
     let mut all_met = true;
@@ -138,7 +143,7 @@ pub fn compare<L: Calls, R: Calls>(left: &L, right: &R, more: usize) -> ! {
         println!("a refusal was never met");
         exit(1)
     }
-    println!("frames {} calls {} prints {}", tally.frames, tally.calls, tally.prints);
+    println!("frames {} calls {} prints {} lines {}", tally.frames, tally.calls, tally.prints, tally.lines);
     println!("{} agree, {} differ", tally.agree, tally.differ);
     exit((tally.differ != 0) as i32)
 }

@@ -1,5 +1,5 @@
 //! The Rust as a side: its own answers wherever it can be asked. From `scope` come only the limits and lengths
-//! (questions 1 to 6), the bindings' limits, the degree and the places that a table keeps.
+//! (questions 1 to 6), the bindings' limits, the degree, the places that a table keeps, and test lifts, which it does not know.
 use crate::calls::*;
 use crate::collision::CollisionError;
 use crate::collision::constraint_coloring::ConstraintColoring;
@@ -282,5 +282,13 @@ impl Calls for Rust {
 
     fn print(&self, file: &[u8]) -> Vec<u8> {
         scope::print_by(self, file)
+    }
+
+    fn generate(&self, seed: u32, sizes: [usize; 3], bytes: &mut [u8]) -> (u8, usize) {
+        scope::generate(seed, sizes, bytes)
+    }
+
+    fn lift_line(&self, line: &[u8]) -> Option<Vec<u8>> {
+        scope::lift_line(line)
     }
 }

@@ -1,7 +1,8 @@
-//! The proved code as a side: through the functions of include/engkarupi.h, and the program `turns`.
+//! The proved code as a side: through the functions of include/engkarupi.h, and the programs `turns` and `generate_frame`.
 use crate::calls::*;
-use std::io::{Read, Write};
-use std::process::{Command, Stdio};
+use std::io::Write;
+use std::path::{Path, PathBuf};
+use std::process::{Command, Output, Stdio};
 
 unsafe extern "C" {
     fn engkarupi_islands(
@@ -151,6 +152,16 @@ unsafe extern "C" {
         constraint_body_positions: *mut u16,
         constraint_body_positions_len: usize,
         report: *mut usize,
+    ) -> u8;
+
+    fn engkarupi_generate(
+        seed: u32,
+        bodies: usize,
+        manifolds: usize,
+        joints: usize,
+        frame: *mut u8,
+        frame_len: usize,
+        length: *mut usize,
     ) -> u8;
 }
 
@@ -368,9 +379,35 @@ pub fn run(file: &[u8], tables: &mut RunTables) -> Report {
     Report { refusal, islands, turns, takes, degree }
 }
 
-/// The proved code; `turns` is the program.
+/// The lift of a seed in lent bytes.
+pub fn generate(seed: u32, [b, m, j]: [usize; 3], bytes: &mut [u8]) -> (u8, usize) {
+    let mut length = 0xABCD;
+    // SAFETY: as above.
+    let refusal = unsafe { engkarupi_generate(seed, b, m, j, bytes.as_mut_ptr(), bytes.len(), &mut length) };
+    match (refusal, length) {
+        (0, length) if length <= bytes.len() => (0, length),
+        (1.., 0) => (refusal, 0),
+        _ => panic!("a lift in {} bytes answered {refusal} and {length}", bytes.len()),
+    }
+}
+
+/// What a program says to an input.
+fn said(program: &Path, input: &[u8]) -> Output {
+    let mut child = Command::new(program)
+        .stdin(Stdio::piped())
+        .stdout(Stdio::piped())
+        .stderr(Stdio::piped())
+        .spawn()
+        .unwrap_or_else(|e| panic!("{}: {e}", program.display()));
+    // the program may stop reading before the end
+    let _ = child.stdin.take().unwrap().write_all(input);
+    child.wait_with_output().unwrap()
+}
+
+/// The proved code; `turns` and `generate_frame` are the programs.
 pub struct Ours {
-    pub turns: std::path::PathBuf,
+    pub turns: PathBuf,
+    pub generate_frame: PathBuf,
 }
 
 impl Calls for Ours {
@@ -434,16 +471,27 @@ impl Calls for Ours {
     }
 
     fn print(&self, file: &[u8]) -> Vec<u8> {
-        let mut program = Command::new(&self.turns)
-            .stdin(Stdio::piped())
-            .stdout(Stdio::piped())
-            .spawn()
-            .unwrap_or_else(|e| panic!("{}: {e}", self.turns.display()));
-        // the program may stop reading before the end
-        let _ = program.stdin.take().unwrap().write_all(file);
-        let mut text = Vec::new();
-        program.stdout.take().unwrap().read_to_end(&mut text).unwrap();
-        assert!(program.wait().unwrap().success(), "turns failed");
-        text
+        let Output { status, stdout, stderr } = said(&self.turns, file);
+        assert!(status.success(), "turns failed: {}", String::from_utf8_lossy(&stderr));
+        stdout
+    }
+
+    fn generate(&self, seed: u32, sizes: [usize; 3], bytes: &mut [u8]) -> (u8, usize) {
+        generate(seed, sizes, bytes)
+    }
+
+    /// A line that cannot be read gives a message on standard error and nothing else.
+    fn lift_line(&self, line: &[u8]) -> Option<Vec<u8>> {
+        let Output { status, stdout, stderr } = said(&self.generate_frame, line);
+        match (stdout.is_empty(), stderr.is_empty()) {
+            (false, true) if status.success() => Some(stdout),
+            (true, false) => None,
+            _ => panic!(
+                "generate_frame printed {} bytes and ended with {status} for {:?}: {}",
+                stdout.len(),
+                String::from_utf8_lossy(line),
+                String::from_utf8_lossy(&stderr)
+            ),
+        }
     }
 }

@@ -1,9 +1,10 @@
 //! The lists that `crates/replay` and `crates/replay_frames` replay: questions with the Rust's answers, in bytes. The forms stand
 //! in those programs' heads; what a question of each kind holds, and what its answer shows, stands at the functions that answer
-//! it there.
+//! it there. Also what `crates/generator_samples` prints.
 use crate::calls::*;
 use crate::frames::{self, Random};
 use crate::kapitsa::Rust;
+use crate::lifts;
 use crate::scope;
 
 const PATTERN: u16 = 43981;
@@ -259,4 +260,34 @@ pub fn runs(small: usize) -> (Vec<u8>, String) {
     let refused = frames - met[0];
     let (list, sum) = list.ended();
     (list, format!("frames {frames}\nrefused {refused}\ndiffer 0\nsum {sum}\n"))
+}
+
+// ---- test lifts
+
+/// A sample's line: name, number and length, then what is shown of its bytes, if there are any.
+fn lift_line(name: &str, (number, length): (u8, usize), shown: &str) -> String {
+    let space = if shown.is_empty() { "" } else { " " };
+    format!("{name} {number} {length}{space}{shown}\n")
+}
+
+/// What `generator_samples` prints: of each sample of request 3's page the whole lent bytes in hex, which hold 0xAB before the call;
+/// of a long one the sum and the FNV-1a of its bytes. The page's own figures are asserted.
+pub fn lift_samples() -> String {
+    let mut text = String::new();
+    for (name, (seed, sizes, room), known, hex) in lifts::SAMPLES {
+        let lent = vec![0xAB; *room];
+        let mut bytes = lent.clone();
+        assert_eq!(scope::generate(*seed, *sizes, &mut bytes), *known, "{name}");
+        assert_eq!(bytes, lifts::after(lent, hex), "{name}");
+        let shown: String = bytes.iter().map(|b| format!("{b:02x}")).collect();
+        text += &lift_line(name, *known, &shown);
+    }
+    for (name, (seed, sizes), length, known, _) in lifts::LONG_SAMPLES {
+        let mut bytes = vec![0xAB; *length];
+        assert_eq!(scope::generate(*seed, *sizes, &mut bytes), (0, *length), "{name}");
+        let [sum, fnv] = lifts::sums(&bytes);
+        assert_eq!([sum, fnv], *known, "{name}");
+        text += &lift_line(name, (0, *length), &format!("sum {sum} fnv {fnv}"));
+    }
+    text
 }

@@ -1,6 +1,8 @@
-//! Document 01, sentence by sentence: the side that answers where the Rust cannot be asked (limits, numbers, question 6,
-//! what lies beyond, the file, the run, the print), and a second opinion where it can. Written for plainness, not speed.
+//! Document 01, sentence by sentence, and request 3: the side that answers where the Rust cannot be asked (limits, numbers,
+//! question 6, what lies beyond, the file, the run, the print, test lifts), and a second opinion where it can. Written for
+//! plainness, not speed.
 use crate::calls::*;
+use crate::frames;
 use std::collections::{BTreeMap, BTreeSet};
 
 // ---- the questions
@@ -416,7 +418,58 @@ pub fn print_by(side: &impl Calls, file: &[u8]) -> Vec<u8> {
     }
 }
 
-// ---- document 01 as a side
+// ---- test lifts from a number (request 3)
+
+/// Questions 3, 13 and 6 of the call that makes a lift, in this order.
+fn lift_refusal([b, m, j]: [usize; 3], room: usize) -> u8 {
+    if b > BODIES || m > MANIFOLDS || j > JOINTS {
+        3
+    } else if b < 2 && m + j > 0 {
+        13
+    } else if room < file_length(b, m, j) {
+        6
+    } else {
+        0
+    }
+}
+
+/// The lift's file stands from place 0; the bytes past it, and all of them after a refusal, are kept.
+pub fn generate(seed: u32, sizes: [usize; 3], bytes: &mut [u8]) -> (u8, usize) {
+    let refusal = lift_refusal(sizes, bytes.len());
+    if refusal != 0 {
+        return (refusal, 0);
+    }
+    let [b, m, j] = sizes;
+    let file = write(&frames::lift(seed, b, m, j));
+    bytes[..file.len()].copy_from_slice(&file);
+    (0, file.len())
+}
+
+/// A number of a line: 1 to 19 decimal digits and nothing else.
+fn decimal(word: &[u8]) -> Option<usize> {
+    let known = (1..=19).contains(&word.len()) && word.iter().all(u8::is_ascii_digit);
+    known.then(|| word.iter().fold(0, |number, digit| 10 * number + (digit - b'0') as usize))
+}
+
+/// What a line asks for: seed, bodies, manifolds and joints, parted by one space each, up to a newline or the end.
+fn lift_asked(text: &[u8]) -> Option<(u32, [usize; 3])> {
+    let line = text.split(|byte| *byte == b'\n').next()?;
+    let numbers: Option<Vec<usize>> = line.split(|byte| *byte == b' ').map(decimal).collect();
+    let [seed, b, m, j]: [usize; 4] = numbers?.try_into().ok()?;
+    Some((seed.try_into().ok()?, [b, m, j]))
+}
+
+/// The lift that a line asks for, or its refusal; the program has room for the longest frame.
+pub fn lift_line(text: &[u8]) -> Option<Vec<u8>> {
+    let (seed, sizes) = lift_asked(text)?;
+    let mut bytes = vec![0; FILE_BYTES];
+    match generate(seed, sizes, &mut bytes) {
+        (0, length) => Some(bytes[..length].to_vec()),
+        (number, _) => Some(print_refusal(number)),
+    }
+}
+
+// ---- the documents as a side
 
 pub struct Scope;
 
@@ -539,5 +592,13 @@ impl Calls for Scope {
 
     fn print(&self, file: &[u8]) -> Vec<u8> {
         print_by(self, file)
+    }
+
+    fn generate(&self, seed: u32, sizes: [usize; 3], bytes: &mut [u8]) -> (u8, usize) {
+        generate(seed, sizes, bytes)
+    }
+
+    fn lift_line(&self, line: &[u8]) -> Option<Vec<u8>> {
+        lift_line(line)
     }
 }

@@ -7,6 +7,7 @@ ghost use lib.ListN.{length, getD};
 ghost use Rattle.frame.specs.Frames.{frameOf};
 ghost use Rattle.island.specs.Calls.{islandRefusal, Built};
 ghost use Rattle.colored_bodies.specs.Answers.{Binds};
+ghost use Rattle.generator.specs.Calls.{Made};
 ghost use Rattle.boundary.specs.Exports.{Updates, Found, Locates, Took};
 
 // The islands of a frame, and how many; answers the refusal or 0.
@@ -180,4 +181,21 @@ pub extern "C" fn engkarupi_take(
 {
     let marked = colored_bodies::take_marks(marks, count, a, b);
     answer_numbers::hand(bodies, a, b, marked, handed)
+}
+
+// The frame of a seed with these sizes, and its length; answers the refusal or 0.
+#[no_mangle]
+pub extern "C" fn engkarupi_generate(
+    seed: u32,
+    bodies: usize,
+    manifolds: usize,
+    joints: usize,
+    frame: &mut [u8],
+    length: &mut usize,
+) -> u8
+    ensures { λ r. ⌜ Made seed bodies manifolds joints (now (frame .entry)) (now (frame .exit)) r (now (length .exit)) ⌝ }
+{
+    let answer = generator::generate(seed, bodies, manifolds, joints, frame);
+    *length = generator::length_of(answer);
+    generator::refusal_of(answer)
 }

@@ -1,7 +1,7 @@
 //! Ours beside the Rust, in one process: request 9's frames (request 3's generator, seeds 0 to 99, 4,096 bodies, 4,096
 //! manifolds, no joints). Each frame is measured several times by turns, the least time of each side counts, and of the 100
 //! frames the median. Tables are cleared by each side inside the measurement. After that, the run of each shape that strains a
-//! limit, by the least time of each side.
+//! limit, by the least time of each side, and our generator alone at the longest frame.
 use oracle::bench::{RustFrame, RustIslands};
 use oracle::calls::*;
 use oracle::frames;
@@ -34,10 +34,13 @@ fn medians<A, B>(times: usize, mut one: impl FnMut(usize) -> A, mut other: impl 
             least[1][seed] = least[1][seed].min(microseconds(|| other(seed)));
         }
     }
-    least.map(|mut times| {
-        times.sort_by(f64::total_cmp);
-        (times[49] + times[50]) / 2.0
-    })
+    least.map(|times| least_and_median(times)[1])
+}
+
+/// The least and the median of the times, one for each seed.
+fn least_and_median(mut times: Vec<f64>) -> [f64; 2] {
+    times.sort_by(f64::total_cmp);
+    [times[0], (times[49] + times[50]) / 2.0]
 }
 
 /// Tables of these lengths.
@@ -121,6 +124,30 @@ fn shapes(times: usize) {
     }
 }
 
+/// Our generator makes the bytes of these lifts.
+fn same_lifts(lifts: &[Frame]) {
+    for (seed, lift) in lifts.iter().enumerate() {
+        let mut bytes = vec![0xAB; file_length(4096, 4096, 0)];
+        let answer = ours::generate(seed as u32, [4096, 4096, 0], &mut bytes);
+        assert_eq!(answer, (0, bytes.len()));
+        assert!(bytes == scope::write(lift), "the lift of seed {seed} differs");
+    }
+}
+
+/// Our generator at the longest frame: the least and the median of the seeds' least times.
+fn generate(times: usize) {
+    let mut bytes = vec![0; FILE_BYTES];
+    let mut least = vec![f64::MAX; SEEDS as usize];
+    for _ in 0..times {
+        for seed in 0..SEEDS {
+            let taken = microseconds(|| ours::generate(seed, [4096; 3], black_box(&mut bytes)));
+            least[seed as usize] = least[seed as usize].min(taken);
+        }
+    }
+    let [least, median] = least_and_median(least);
+    println!("generate of the longest frame: least {least:.1} us, median {median:.1} us");
+}
+
 fn main() {
     let times = std::env::args().nth(1).map_or(TURNS, |n| n.parse().expect("how often each frame is measured"));
     let lifts: Vec<Frame> = (0..SEEDS).map(|seed| frames::lift(seed, 4096, 4096, 0)).collect();
@@ -129,5 +156,7 @@ fn main() {
     let plan = plan(times, &lifts, &rust);
     let run = run(times, &lifts);
     shapes(times);
+    same_lifts(&lifts);
+    generate(times);
     println!("plan ratio {plan:.2} run ratio {run:.2}");
 }

@@ -1,9 +1,11 @@
 //! Writes stored inputs of the program `turns`, and what it must print for them by the Rust and document 01. The argument is the repository.
 //! `turns`, and `turns_too_long`, which is the same program, have one each; `turns_samples` has many: their number in one byte, then each after
-//! its length in three, the high one first.
+//! its length in three, the high one first. Writes also a line for `generate_frame`, with its print, and what `generator_samples` must print,
+//! both by request 3.
 use oracle::calls::{Calls, Frame};
 use oracle::frames;
 use oracle::kapitsa::Rust;
+use oracle::record;
 use oracle::scope;
 use std::path::Path;
 
@@ -44,16 +46,22 @@ fn inputs(root: &Path) -> Vec<Vec<u8>> {
     ];
     inputs.extend(limits.filter(|file| file.len() < 20_000 || [40_971, 40_972].contains(&file.len())));
     inputs.push(scope::write(&frames::one_pair(4097)));
-    inputs.extend((2..5).map(|seed| scope::write(&frames::lift(seed, 20 * seed as usize, 30 * seed as usize, 10 * seed as usize))));
+    inputs.extend((2..5).map(|seed| {
+        let [b, m, j] = [20, 30, 10].map(|n| n * seed as usize);
+        scope::write(&frames::lift(seed, b, m, j))
+    }));
     inputs.extend(["lift.frame", "document.frame"].map(|name| sample(root, name)));
     inputs
 }
 
 fn store(root: &Path, program: &str, input: &[u8], print: &[u8]) {
-    let folder = root.join("crates").join(program);
-    std::fs::write(folder.join("stdin"), input).unwrap();
-    std::fs::write(folder.join("stdout"), print).unwrap();
+    std::fs::write(root.join("crates").join(program).join("stdin"), input).unwrap();
+    store_print(root, program, print);
     println!("{program}: {} bytes, print {}", input.len(), print.len());
+}
+
+fn store_print(root: &Path, program: &str, print: &[u8]) {
+    std::fs::write(root.join("crates").join(program).join("stdout"), print).unwrap();
 }
 
 fn main() {
@@ -74,4 +82,9 @@ fn main() {
     }
     let print: Vec<u8> = inputs.iter().flat_map(|input| Rust.print(input)).collect();
     store(root, "turns_samples", &list, &print);
+    let line = b"1 6 5 3\n";
+    store(root, "generate_frame", line, &Rust.lift_line(line).unwrap());
+    let print = record::lift_samples();
+    store_print(root, "generator_samples", print.as_bytes());
+    println!("generator_samples:\n{print}");
 }

@@ -1,0 +1,5 @@
+pub mod Tests
+pub mod Numbers
+pub mod Lines
+pub mod Written
+pub mod Samples
