@@ -3,10 +3,16 @@ use Prim.Native.Nat.{ℕ, _≤_, _<_}
 use mathlib.Core.Path.{_≡_}
 use mathlib.Core.Bool.{true, false}
 use mathlib.Core.List.{List, [], _∷_, _++_, map, List·Memᴰ}
-use lib.ListN.{length, getD}
+use lib.ListN.{length, getD, take}
 use Rattle.lists.specs.Basics.{any, mem}
-use Rattle.frame.specs.Frames.{Constraint, Frame, constraints, dynamic, on}
+use Rattle.frame.specs.Frames.{Constraint, Frame, constraints, dynamic, on, frameOf}
 use Rattle.frame.specs.Files.{decode, frameRefusal}
+use Rattle.frame_file.specs.Written.{fileOf, Writable}
+use Rattle.frame_file.proofs.Decoded.{written-decoded}
+use Rattle.generator.specs.Draws.{stateAfter}
+use Rattle.generator.specs.Calls.{Made}
+use Rattle.generator.specs.Lifts.{Lift}
+use Rattle.generator.proofs.Lifts.{lift-made, states-from-0}
 use Rattle.connected_sets.specs.Islands.{Connected, lowest, inIsland, islandCount, bodyLabel, label}
 use Rattle.island.specs.Calls.{Built}
 use Rattle.connected_sets.proofs.Theorem.{connected-label, label-connected, lowest-in, lowest-least, label-rises, body-below, label-each}
@@ -160,6 +166,21 @@ group-by-marks = groups-by-marks
 -- The pieces that `first_piece` and `next_piece` make, from the first to the last, are the whole print of the input.
 pub print-whole : (bs ts old table buffer : List ℕ) (p : Piece) (text : List ℕ) → FirstPiece bs ts old table buffer p → Written bs table buffer p text → text ≡ printOf bs
 print-whole = whole-print
+
+-- ---- files and test lifts
+
+-- A frame written in the file form is the frame that is read from it.
+pub file-read : (ts ps js es : List ℕ) → Writable ts ps js es → decode (fileOf ts ps js es) ≡ frameOf ts ps js es
+file-read = written-decoded
+
+-- The first bytes that an accepted call of `generate` leaves, as many as it answers, pass questions 1 to 5 and 7 and hold the frame of the
+-- draws: every type, every pair and every enabled byte.
+pub lift-accepted : (seed b m j : ℕ) (old new : List ℕ) (number long : ℕ) → Made seed b m j old new number long → number ≡ 0 → Lift seed b m j (take long new)
+lift-accepted = lift-made
+
+-- The first states from seed 0 are those of document 02.
+pub first-states : (stateAfter 1 0 ≡ 1013904223) × (stateAfter 2 0 ≡ 1196435762) × (stateAfter 3 0 ≡ 3519870697)
+first-states = states-from-0
 
 -- ---- samples
 

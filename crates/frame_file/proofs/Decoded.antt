@@ -13,14 +13,7 @@ use borrow.Author.Tests.{lt-ltb, le-leb, eq-eqb}
 use Rattle.frame.specs.Frames.{frameOf, allSound}
 use Rattle.frame.specs.Questions.{fewEach, pairCount, typesKnown, bits}
 use Rattle.frame.specs.Files.{byte, half, word, countB, countM, countJ, pairsAt, jointsAt, pairsFrom, enabledFrom, typesIn, manifoldsIn, jointsIn, enabledIn, decode, frameRefusal}
-use Rattle.frame_file.specs.Written.{halfBytes, wordBytes, fileLength, headerBytes, pairBytes, jointBytes, fileOf}
-
--- what a frame must be for its file to say it: sizes within the limits, even pair lists, one enabled byte a joint. Endpoints
--- need no bound: one above 65,535 gives an entry above 255, which no file of bytes holds.
-pub record Writable (ts ps js es : List ℕ) : Type 0 where
-  pub few : fewEach (length ts) (pairCount ps) (length es) ≡ true
-  pub even-manifolds : length ps ≡ 2 * pairCount ps
-  pub even-joints : length js ≡ 2 * length es
+use Rattle.frame_file.specs.Written.{halfBytes, wordBytes, fileLength, headerBytes, pairBytes, jointBytes, fileOf, Writable}
 
 -- ---- numbers, at a place s of a file bs
 byte-at : (bs : List ℕ) (s x : ℕ) (rest : List ℕ) → drop s bs ≡ x ∷ rest → byte bs s ≡ x

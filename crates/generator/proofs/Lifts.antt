@@ -16,8 +16,8 @@ use Rattle.lists.proofs.Laws.{and-left, and-right, and-both, by-cases}
 use Rattle.frame.specs.Frames.{Constraint, constraint, constraintsOf, frameOf, sound, allSound}
 use Rattle.frame.specs.Questions.{fewEach, pairCount, typesKnown, bits}
 use Rattle.frame.proofs.Pairs.{sound-live, sound-dead}
-use Rattle.frame_file.specs.Written.{fileLength}
-use Rattle.frame_file.proofs.Decoded.{Writable, file-long, written-decoded, written-passes}
+use Rattle.frame_file.specs.Written.{fileLength, Writable}
+use Rattle.frame_file.proofs.Decoded.{file-long, written-decoded, written-passes}
 use Rattle.generator.specs.Draws.{nextState, stateAfter, draw, pairDrawn, typesDrawn, pairsDrawn, enabledDrawn, generatedBytes}
 use Rattle.generator.specs.Calls.{pairable, generateRefusal, Made}
 use Rattle.generator.specs.Lifts.{Lift}
