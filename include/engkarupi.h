@@ -1,4 +1,5 @@
-/* Engkarupi: islands, conflict-free groups, bindings and turns of a frame of bodies and constraints, proved.
+/* Engkarupi: islands, conflict-free groups, bindings and turns of a frame of bodies and constraints, and test frames from a
+ * number, proved.
  *
  * Link libboundary.a (`rt staticlib boundary`). No call allocates, keeps a pointer or has state of its own: all memory is
  * lent by the caller for the length of the call. No two tables of one call may overlap, and none may overlap what is read.
@@ -20,7 +21,8 @@
  *   10  the body at the lower position is gone
  *   11  the body at the higher position is gone; a dynamic body at the lower one is now taken
  *   12  there is no such constraint
- * Refusals 1 to 6, 8 to 10 and 12 change no lent table; a refused bind still writes its empty binding.
+ *   13  fewer than two bodies for a pair that is wanted
+ * Refusals 1 to 6, 8 to 10, 12 and 13 change no lent table; a refused bind still writes its empty binding.
  */
 #ifndef ENGKARUPI_H
 #define ENGKARUPI_H
@@ -196,6 +198,24 @@ uint8_t engkarupi_run(
     uint16_t *color_bodies, size_t color_bodies_len,                            /* 2 * C, free */
     uint16_t *constraint_body_positions, size_t constraint_body_positions_len,  /* 2 * C, free */
     size_t report[ENGKARUPI_REPORT_NUMBERS]);
+
+/* ---- test frames: the same frame on every unit from one seed
+ *
+ * State s becomes 1,664,525 * s + 1,013,904,223 modulo 2^32, from the seed on; a draw is the upper 16 bits of the new state.
+ * In the file's order: a type is a draw modulo 3; a pair is a = draw modulo B, then b = (a + 1 + draw modulo (B - 1)) modulo
+ * B; a joint's enabled byte is a further draw modulo 2. The seed and the sizes fix the frame.
+ *
+ * Answers 0, 3, 13 or 6, asked in this order. After 0 the frame stands in the file form (see the run) from place 0, *length
+ * is its length, and the bytes past it are kept; engkarupi_run accepts it, given room. After a refusal all bytes are kept
+ * and *length is 0.
+ */
+uint8_t engkarupi_generate(
+    uint32_t seed,
+    size_t bodies,
+    size_t manifolds,
+    size_t joints,
+    uint8_t *frame, size_t frame_len,                           /* 11 + B + 4 * M + 5 * J */
+    size_t *length);
 
 #ifdef __cplusplus
 }

@@ -17,11 +17,11 @@ stateAfter (suc k) s = nextState (stateAfter k s)
 unfoldable pub draw : ℕ → ℕ → ℕ
 draw k s = stateAfter (suc k) s / 65536
 
--- two different bodies below b, a and then b, by two draws, the first being draw k
+-- a pair out of b bodies, by draws k and k + 1: a = draw modulo B, then b = (a + 1 + draw modulo (B - 1)) modulo B
 unfoldable pub pairDrawn : ℕ → ℕ → ℕ → List ℕ
 pairDrawn b k s = (draw k s % b) ∷ ((draw k s % b + 1 + draw (suc k) s % (b - 1)) % b) ∷ []
 
--- n types, from draw 0 on
+-- n types, each a draw modulo 3, from draw 0 on
 unfoldable pub typesDrawn : ℕ → ℕ → List ℕ
 typesDrawn n s = map (λ i. draw i s % 3) (range n)
 
@@ -29,7 +29,7 @@ typesDrawn n s = map (λ i. draw i s % 3) (range n)
 unfoldable pub pairsDrawn : ℕ → ℕ → ℕ → ℕ → ℕ → List ℕ
 pairsDrawn b k step n s = joinMap (λ i. pairDrawn b (k + step * i) s) (range n)
 
--- n joints' enabled bytes: each is drawn behind its joint's pair
+-- n joints' enabled bytes, the first joint's pair being draws k and k + 1: each is a further draw modulo 2, behind its pair
 unfoldable pub enabledDrawn : ℕ → ℕ → ℕ → List ℕ
 enabledDrawn k n s = map (λ i. draw (k + 3 * i + 2) s % 2) (range n)
 

@@ -7,9 +7,10 @@ use native.Mathlib.Omega.{arith}
 use lib.Dec.{ltb, eqb}
 use lib.ListN.{length, getD}
 use borrow.Author.Tests.{eqb-true, lt-ltb, le-ltb}
+use Rattle.lists.proofs.Laws.{and-right}
 use Rattle.lift_line.specs.declared.Line.the-variants.{Lift, Unreadable}
 use Rattle.lift_line.specs.Lines.{endOf, numberAt, second, third, fourth, written, parted, readable, lineOf}
-use Rattle.lift_line.proofs.Tests.{and-right, inside}
+use Rattle.lift_line.proofs.Tests.{inside}
 
 -- the code's tests of a field are the definitions'
 pub test-parted : (text : List ℕ) (at end start : ℕ) → at ≡ start → end ≡ endOf text at → (ltb at end && eqb (getD text end 0) 32) ≡ parted text start

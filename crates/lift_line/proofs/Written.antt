@@ -1,32 +1,23 @@
 -- A line that was written is read back: four fields of 1 to 19 digits, parted by a space, with a newline at the end.
 use Prim.Native.Nat.{ℕ, zero, suc, _+_, _≤_, _<_}
 use mathlib.Core.Path.{_≡_, refl, sym, ap, _∙_}
-use mathlib.Core.Bool.{Bool, true, false, _&&_}
+use mathlib.Core.Bool.{true, false}
 use mathlib.Core.List.{List, [], _∷_, _++_, append-assoc}
 use native.Mathlib.Omega.{arith}
 use lib.ListN.{length, getD, drop, length-append}
 use lib.Seq.{drop-at, getD-at}
 use borrow.Author.Tests.{lt-ltb}
+use Rattle.lists.specs.Basics.{all}
+use Rattle.lists.proofs.Laws.{and-left, and-right}
 use Rattle.lift_line.specs.declared.Line.the-variants.{Lift}
-use Rattle.lift_line.specs.Lines.{digit, digitsOf, valueOf, fieldAt, endOf, numberAt, second, third, fourth, written, parted, readable, lineOf}
-use Rattle.lift_line.proofs.Tests.{and-left, and-right}
+use Rattle.lift_line.specs.Lines.{digit, digitsOf, valueOf, fieldAt, endOf, numberAt, second, third, fourth, written, parted, readable, lineOf, Spelled, lineText}
 
-abbrev pub allDigits : List ℕ → Bool
-allDigits [] = true
-allDigits (x ∷ xs) = digit x && allDigits xs
-
--- what a field may be
-pub record Spelled (ds : List ℕ) : Type 0 where
-  pub digits : allDigits ds ≡ true
-  pub some : 1 ≤ length ds
-  pub few : length ds ≤ 19
-
-digits-back : (n : ℕ) (ds : List ℕ) (x : ℕ) (rest : List ℕ) → allDigits ds ≡ true → length ds ≤ n → digit x ≡ false → digitsOf n (ds ++ x ∷ rest) ≡ ds
+digits-back : (n : ℕ) (ds : List ℕ) (x : ℕ) (rest : List ℕ) → all digit ds ≡ true → length ds ≤ n → digit x ≡ false → digitsOf n (ds ++ x ∷ rest) ≡ ds
 digits-back zero [] x rest a l h = refl
 digits-back zero (d ∷ ds) x rest a l h = absurd (omega arith)
 digits-back (suc n) [] x rest a l h = rw h
 digits-back (suc n) (d ∷ ds) x rest a l h =
-    rw (and-left (digit d) (allDigits ds) a) (ap (λ (l : List ℕ). d ∷ l) (digits-back n ds x rest (and-right (digit d) (allDigits ds) a) (omega arith) h))
+    rw (and-left (digit d) (all digit ds) a) (ap (λ (l : List ℕ). d ∷ l) (digits-back n ds x rest (and-right (digit d) (all digit ds) a) (omega arith) h))
 
 -- a field stands at a place, and a byte that is no digit behind it
 record Placed (text : List ℕ) (at : ℕ) (ds : List ℕ) (x : ℕ) (rest : List ℕ) : Type 0 where
@@ -71,9 +62,6 @@ onward text at ds x es y rest p s h = record {
   here = omega (arith, length-append (p .front ++ ds) (x ∷ []), length-append (p .front) ds, p .here, end-back text at ds x (es ++ y ∷ rest) p s h);
   whole = forward text at ds x (es ++ y ∷ rest) p s h ∙ sym (append-assoc (p .front ++ ds) (x ∷ []) (es ++ y ∷ rest));
 }
-
-abbrev pub lineText : List ℕ → List ℕ → List ℕ → List ℕ → List ℕ
-lineText seed bodies manifolds joints = seed ++ 32 ∷ (bodies ++ 32 ∷ (manifolds ++ 32 ∷ (joints ++ 10 ∷ [])))
 
 pub line-read-back : (seed bodies manifolds joints : List ℕ) → Spelled seed → Spelled bodies → Spelled manifolds → Spelled joints → valueOf 0 seed < 4294967296 →
     lineOf (lineText seed bodies manifolds joints) ≡ Lift (valueOf 0 seed) (valueOf 0 bodies) (valueOf 0 manifolds) (valueOf 0 joints)

@@ -1,9 +1,11 @@
 -- A line that asks for a test lift: seed, bodies, manifolds and joints in decimal, parted by one space.
-use Prim.Native.Nat.{ℕ, zero, suc, _+_, _-_, _*_}
-use mathlib.Core.Bool.{Bool, _&&_, cond}
-use mathlib.Core.List.{List, [], _∷_}
+use Prim.Native.Nat.{ℕ, zero, suc, _+_, _-_, _*_, _≤_}
+use mathlib.Core.Path.{_≡_}
+use mathlib.Core.Bool.{Bool, true, _&&_, cond}
+use mathlib.Core.List.{List, [], _∷_, _++_}
 use lib.Dec.{leb, ltb, eqb}
 use lib.ListN.{length, getD, drop}
+use Rattle.lists.specs.Basics.{all}
 use Rattle.lift_line.specs.declared.Line.{Line}
 use Rattle.lift_line.specs.declared.Line.the-variants.{Lift, Unreadable}
 
@@ -56,3 +58,13 @@ readable text =
 -- what the text asks for
 unfoldable pub lineOf : List ℕ → Line
 lineOf text = cond (readable text) (Lift (numberAt text 0) (numberAt text (second text)) (numberAt text (third text)) (numberAt text (fourth text))) Unreadable
+
+-- ---- a line that was written: what a field may be, and four of them
+
+pub record Spelled (ds : List ℕ) : Type 0 where
+  pub digits : all digit ds ≡ true
+  pub some : 1 ≤ length ds
+  pub few : length ds ≤ 19
+
+abbrev pub lineText : List ℕ → List ℕ → List ℕ → List ℕ → List ℕ
+lineText seed bodies manifolds joints = seed ++ 32 ∷ (bodies ++ 32 ∷ (manifolds ++ 32 ∷ (joints ++ 10 ∷ [])))

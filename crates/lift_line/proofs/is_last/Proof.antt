@@ -2,7 +2,7 @@
 use lib.ListN.{List·getD-eq-default}
 use borrow.Author.Tests.{le-ltb, lt-ltb}
 use borrow.Author.Needs.{needs}
-use Rattle.lift_line.proofs.Tests.{getD-any}
+use Rattle.lists.proofs.Laws.{getD-any}
 use Rattle.lift_line.proofs.is_last.Statement.{statement}
 use Rattle.lift_line.proofs.is_last.Tie as tie
 
