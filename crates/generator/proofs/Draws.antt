@@ -1,6 +1,6 @@
 -- Draws go on where others stopped: k steps and then i steps are k + i steps, so what is drawn from draw k on is what is drawn from the state after
 -- k steps. One pair, type or joint more stands behind those before it, and is drawn from the state that they left.
-use Prim.Native.Nat.{ℕ, zero, suc, _+_, _-_, _*_, _/_, _%_, _≤_, _<_}
+use Prim.Native.Nat.{ℕ, zero, suc, _+_, _-_, _*_, _/_, _%_, _<_}
 use mathlib.Core.Path.{_≡_, refl, sym, ap, _∙_}
 use mathlib.Core.List.{List, [], _∷_, _++_, map, append-nil, append-assoc}
 use native.Mathlib.Omega.{arith}

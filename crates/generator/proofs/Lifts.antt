@@ -19,7 +19,7 @@ use Rattle.frame.proofs.Pairs.{sound-live, sound-dead}
 use Rattle.frame_file.specs.Written.{fileLength, Writable}
 use Rattle.frame_file.proofs.Decoded.{file-long, written-decoded, written-passes}
 use Rattle.generator.specs.Draws.{nextState, stateAfter, draw, pairDrawn, typesDrawn, pairsDrawn, enabledDrawn, generatedBytes}
-use Rattle.generator.specs.Calls.{pairable, generateRefusal, Made}
+use Rattle.generator.specs.Calls.{pairsPossible, generateRefusal, Made}
 use Rattle.generator.specs.Lifts.{Lift}
 use Rattle.generator.proofs.Calls.{two-bodies, all-yes}
 use Rattle.generator.proofs.Draws.{types-long, pairs-long, enabled-long}
@@ -83,7 +83,7 @@ all-append p (x ∷ xs) ys e f = and-both (p x) (all p (xs ++ ys)) (and-left (p 
 
 -- ---- the file of a seed
 
-module _ (seed b m j : ℕ) (few : fewEach b m j ≡ true) (two : pairable b m j ≡ true) where
+module _ (seed b m j : ℕ) (few : fewEach b m j ≡ true) (two : pairsPossible b m j ≡ true) where
   abbrev types : List ℕ
   types = typesDrawn b seed
 

@@ -1,22 +1,16 @@
 -- What the loops keep: after i turns the first i types, pairs or joints stand in the bytes, and the state is the one that they left.
 use Prim.Native.Nat.{ℕ, _+_, _-_, _*_, _/_, _%_, _≤_, _<_}
 use mathlib.Core.Path.{_≡_, refl, sym, ap, _∙_}
-use mathlib.Core.Bool.{Bool, true, _||_}
 use mathlib.Core.List.{List, [], _∷_, _++_}
 use native.Mathlib.Omega.{arith}
-use native.Mathlib.Nat.{mod-lt}
-use lib.Dec.{leb, eqb}
-use lib.ListN.{length, set, length-append}
-use borrow.Author.Tests.{leb-true, eqb-true}
+use lib.ListN.{length, set}
 use Rattle.lists.specs.Basics.{put}
-use Rattle.lists.proofs.Laws.{or-cases}
 use Rattle.lists.proofs.Puts.{put-none, set-put}
 use Rattle.lists.proofs.Ranges.{joinMap-append}
 use Rattle.frame_file.specs.Written.{halfBytes, pairBytes, jointBytes}
 use Rattle.frame_file.proofs.Writes.{put-long, put-then}
 use Rattle.frame_file.proofs.Decoded.{pair-bytes-long, joint-bytes-long}
 use Rattle.generator.specs.Draws.{nextState, stateAfter, draw, pairDrawn, typesDrawn, pairsDrawn, enabledDrawn}
-use Rattle.generator.specs.Calls.{pairable}
 use Rattle.generator.proofs.Draws.{state-turn, types-turn, types-long, pair-long, pairs-turn, pairs-long, enabled-long, joints-turn}
 
 -- ---- after i turns, at d draws a turn: the bytes were `old` and are `out`, with `text i` from place `at` on

@@ -13,12 +13,12 @@ use Rattle.generator.specs.declared.Generated.the-variants.{Frame, Refus
 use Rattle.generator.specs.Draws.{generatedBytes}
 
 -- 13: no pair is wanted, or there are two bodies for it
-unfoldable pub pairable : ℕ → ℕ → ℕ → Bool
-pairable b m j = leb 2 b || eqb (m + j) 0
+unfoldable pub pairsPossible : ℕ → ℕ → ℕ → Bool
+pairsPossible b m j = leb 2 b || eqb (m + j) 0
 
 -- the refusal: questions 3, 13 and 6, with `room` bytes lent
 unfoldable pub generateRefusal : ℕ → ℕ → ℕ → ℕ → ℕ
-generateRefusal b m j room = asked (question 3 (fewEach b m j) ∷ question 13 (pairable b m j) ∷ question 6 (leb (fileLength b m j) room) ∷ [])
+generateRefusal b m j room = asked (question 3 (fewEach b m j) ∷ question 13 (pairsPossible b m j) ∷ question 6 (leb (fileLength b m j) room) ∷ [])
 
 -- an answer's number, 0 where a frame was made; and whether it is a refusal: that has a number, never 0
 abbrev pub generatedNumber : Generated → ℕ

@@ -10,7 +10,7 @@ ghost use Rattle.lists.specs.Basics.{put, over};
 ghost use Rattle.frame.specs.Questions.{fewEach};
 ghost use Rattle.frame_file.specs.Written.{fileLength, pairBytes, jointBytes};
 ghost use Rattle.generator.specs.Draws.{nextState, stateAfter, draw, pairDrawn, typesDrawn, pairsDrawn, enabledDrawn, generatedBytes};
-ghost use Rattle.generator.specs.Calls.{pairable, generateRefusal, generatedNumber, generatedLength, CaseTold, Made};
+ghost use Rattle.generator.specs.Calls.{pairsPossible, generateRefusal, generatedNumber, generatedLength, CaseTold, Made};
 
 // The answer of `generate`: the frame's length, or the number of the first question that got a "no".
 pub enum Generated {
@@ -99,7 +99,7 @@ fn draw_joint(out: &mut [u8], at: usize, bodies: u32, before: u32) -> u32
 
 // Draws manifolds from `at` on; answers the state after them.
 fn draw_manifolds(out: &mut [u8], at: usize, bodies: u32, count: usize, before: u32) -> u32
-    requires { ⌜ (at + 4 * count ≤ length (now out)) × (pairable bodies count 0 ≡ true) × (bodies ≤ 4096) ⌝ }
+    requires { ⌜ (at + 4 * count ≤ length (now out)) × (pairsPossible bodies count 0 ≡ true) × (bodies ≤ 4096) ⌝ }
     ensures { λ r. ⌜ (now (out .exit) ≡ put at (pairBytes (pairsDrawn bodies 0 2 count before)) (now (out .entry))) × (r ≡ stateAfter (2 * count) before) ⌝ }
 {
     let mut state = before;
@@ -113,7 +113,7 @@ fn draw_manifolds(out: &mut [u8], at: usize, bodies: u32, count: usize, before: 
 
 // Draws joints from `at` on.
 fn draw_joints(out: &mut [u8], at: usize, bodies: u32, count: usize, before: u32)
-    requires { ⌜ (at + 5 * count ≤ length (now out)) × (pairable bodies 0 count ≡ true) × (bodies ≤ 4096) ⌝ }
+    requires { ⌜ (at + 5 * count ≤ length (now out)) × (pairsPossible bodies 0 count ≡ true) × (bodies ≤ 4096) ⌝ }
     ensures { λ _. ⌜ now (out .exit) ≡ put at (jointBytes (pairsDrawn bodies 0 3 count before) (enabledDrawn 0 count before)) (now (out .entry)) ⌝ }
 {
     let mut state = before;
@@ -126,7 +126,7 @@ fn draw_joints(out: &mut [u8], at: usize, bodies: u32, count: usize, before: u32
 
 // Writes the file of a seed from place 0 on.
 fn write_lift(out: &mut [u8], seed: u32, bodies: usize, manifolds: usize, joints: usize)
-    requires { ⌜ (fewEach bodies manifolds joints ≡ true) × (pairable bodies manifolds joints ≡ true) × (fileLength bodies manifolds joints ≤ length (now out)) ⌝ }
+    requires { ⌜ (fewEach bodies manifolds joints ≡ true) × (pairsPossible bodies manifolds joints ≡ true) × (fileLength bodies manifolds joints ≤ length (now out)) ⌝ }
     ensures { λ _. ⌜ now (out .exit) ≡ over (generatedBytes seed bodies manifolds joints) (now (out .entry)) ⌝ }
 {
     frame_file::put_header(out, bodies, manifolds, joints);
@@ -144,13 +144,13 @@ fn write_lift(out: &mut [u8], seed: u32, bodies: usize, manifolds: usize, joints
 // Question 13: no pair is wanted, or there are two bodies for it.
 fn pairs_possible(bodies: usize, manifolds: usize, joints: usize) -> bool
     requires { ⌜ fewEach bodies manifolds joints ≡ true ⌝ }
-    ensures { λ r. ⌜ r ≡ pairable bodies manifolds joints ⌝ }
+    ensures { λ r. ⌜ r ≡ pairsPossible bodies manifolds joints ⌝ }
 {
     (2 <= bodies) | (manifolds + joints == 0)
 }
 
 // Questions 3, 13 and 6; 0 where all get a "yes".
-fn refusal_for(bodies: usize, manifolds: usize, joints: usize, room: usize) -> u8
+fn first_refusal(bodies: usize, manifolds: usize, joints: usize, room: usize) -> u8
     ensures { λ r. ⌜ r ≡ generateRefusal bodies manifolds joints room ⌝ }
 {
     if !frame::few_each(bodies, manifolds, joints) {
@@ -175,7 +175,7 @@ pub fn generate(
 ) -> Generated
     ensures { λ r. ⌜ Made seed bodies manifolds joints (now (bytes .entry)) (now (bytes .exit)) (generatedNumber r) (generatedLength r) × CaseTold r ⌝ }
 {
-    let refusal = refusal_for(bodies, manifolds, joints, bytes.len());
+    let refusal = first_refusal(bodies, manifolds, joints, bytes.len());
     if refusal != 0 {
         return Generated::Refused(refusal);
     }

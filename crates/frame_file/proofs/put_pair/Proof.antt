@@ -1,6 +1,5 @@
 -- `put_pair`: two numbers of 16 bits, one behind the other.
 use Rattle.frame_file.proofs.Writes.{pair-put}
-use native.Mathlib.Omega.{arith}
 use borrow.Author.Needs.{needs}
 use Rattle.frame_file.proofs.put_pair.Statement.{statement}
 use Rattle.frame_file.proofs.put_pair.Tie as tie

@@ -1,6 +1,5 @@
 -- `put_word`: two numbers of 16 bits, one behind the other.
 use Rattle.frame_file.proofs.Writes.{word-put}
-use native.Mathlib.Omega.{arith}
 use borrow.Author.Needs.{needs}
 use Rattle.frame_file.proofs.put_word.Statement.{statement}
 use Rattle.frame_file.proofs.put_word.Tie as tie

@@ -1,6 +1,5 @@
 -- `draw_joint`: the enabled byte stands behind the pair and is drawn behind it.
 use Rattle.generator.proofs.Loops.{joint-put, joint-state}
-use native.Mathlib.Omega.{arith}
 use borrow.Author.Needs.{needs}
 use Rattle.generator.proofs.draw_joint.Statement.{statement}
 use Rattle.generator.proofs.draw_joint.Tie as tie

@@ -1,11 +1,11 @@
 -- `draw_joints`: after i turns the first i joints stand in the bytes.
-use Prim.Native.Nat.{ℕ, _+_, _-_, _*_, _%_, _≤_}
+use Prim.Native.Nat.{ℕ, _-_, _%_, _≤_}
 use mathlib.Core.Path.{_≡_, ap, _∙_}
 use mathlib.Core.List.{[], _∷_, _++_}
 use lib.ListN.{length, length-append}
 use Rattle.lists.specs.Basics.{put}
 use Rattle.frame_file.specs.Written.{pairBytes}
-use Rattle.generator.specs.Draws.{stateAfter, draw, pairDrawn}
+use Rattle.generator.specs.Draws.{draw, pairDrawn}
 use Rattle.generator.proofs.Calls.{two-bodies}
 use Rattle.generator.proofs.Loops.{Stands, stands-first, stands-long, stands-next, joints, joints-none, joints-size, joints-next, pair-size}
 use borrow.Author.Needs.{needs}

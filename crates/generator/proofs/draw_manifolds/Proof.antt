@@ -1,11 +1,10 @@
 -- `draw_manifolds`: after i turns the first i pairs stand in the bytes.
-use Prim.Native.Nat.{ℕ, _+_, _-_, _*_, _%_, _≤_}
+use Prim.Native.Nat.{ℕ, _-_, _*_, _≤_}
 use mathlib.Core.Path.{_≡_, ap, _∙_}
-use mathlib.Core.List.{[], _∷_, _++_}
-use lib.ListN.{length, length-append}
+use lib.ListN.{length}
 use Rattle.lists.specs.Basics.{put}
 use Rattle.frame_file.specs.Written.{pairBytes}
-use Rattle.generator.specs.Draws.{stateAfter, draw, pairDrawn}
+use Rattle.generator.specs.Draws.{stateAfter, pairDrawn}
 use Rattle.generator.proofs.Calls.{two-bodies}
 use Rattle.generator.proofs.Loops.{Stands, stands-first, stands-long, stands-next, manifolds, manifolds-none, manifolds-size, manifolds-turn, pair-size}
 use borrow.Author.Needs.{needs}

@@ -1,6 +1,6 @@
 -- `draw_pair`: both endpoints are below the number of bodies, so no sum is too large.
 use Prim.Native.Nat.{ℕ, _+_, _-_, _%_, _<_}
-use mathlib.Core.Path.{_≡_, ap, _∙_}
+use mathlib.Core.Path.{ap, _∙_}
 use mathlib.Core.List.{List}
 use native.Mathlib.Nat.{mod-lt}
 use Rattle.lists.specs.Basics.{put}

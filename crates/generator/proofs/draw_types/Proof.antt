@@ -2,7 +2,7 @@
 use Prim.Native.Nat.{ℕ, _+_, _-_, _*_, _%_, _≤_}
 use mathlib.Core.Path.{_≡_, ap, _∙_}
 use mathlib.Core.List.{[], _∷_}
-use lib.ListN.{length, set, length-set}
+use lib.ListN.{length, set}
 use Rattle.lists.specs.Basics.{put}
 use Rattle.generator.specs.Draws.{stateAfter}
 use Rattle.generator.proofs.Loops.{Stands, stands-first, stands-long, stands-next, byte-next, one-step, types, types-none, types-size, types-next}

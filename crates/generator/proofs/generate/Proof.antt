@@ -5,24 +5,23 @@ use mathlib.Core.Bool.{true}
 use lib.ListN.{length}
 use Rattle.frame.specs.Questions.{fewEach}
 use Rattle.frame_file.specs.Written.{fileLength}
-use Rattle.generator.specs.Calls.{pairable, generateRefusal}
+use Rattle.generator.specs.Calls.{pairsPossible, generateRefusal}
 use Rattle.generator.proofs.Calls.{all-yes, made-none, made-frame}
-use native.Mathlib.Omega.{arith}
 use borrow.Author.Needs.{needs}
 use Rattle.generator.proofs.generate.Statement.{statement}
 use Rattle.generator.proofs.generate.Tie as tie
 
 none : (c : tie.Else1) → generateRefusal (c .before .before .before .args .bodies) (c .before .before .before .args .manifolds) (c .before .before .before .args .joints) (length (c .before .before .before .args .bytes .now)) ≡ 0
-none c = sym (c .before .refusal-for .ensures) ∙ c .if1 .left
+none c = sym (c .before .first-refusal .ensures) ∙ c .if1 .left
 
-passes : (c : tie.Else1) → (fewEach (c .before .before .before .args .bodies) (c .before .before .before .args .manifolds) (c .before .before .before .args .joints) ≡ true) × (pairable (c .before .before .before .args .bodies) (c .before .before .before .args .manifolds) (c .before .before .before .args .joints) ≡ true) × (fileLength (c .before .before .before .args .bodies) (c .before .before .before .args .manifolds) (c .before .before .before .args .joints) ≤ length (c .before .before .before .args .bytes .now))
+passes : (c : tie.Else1) → (fewEach (c .before .before .before .args .bodies) (c .before .before .before .args .manifolds) (c .before .before .before .args .joints) ≡ true) × (pairsPossible (c .before .before .before .args .bodies) (c .before .before .before .args .manifolds) (c .before .before .before .args .joints) ≡ true) × (fileLength (c .before .before .before .args .bodies) (c .before .before .before .args .manifolds) (c .before .before .before .args .joints) ≤ length (c .before .before .before .args .bytes .now))
 passes c = let a = c .before .before .before .args in all-yes (a .bodies) (a .manifolds) (a .joints) (length (a .bytes .now)) (none c)
 
-refusal-for-requires : tie.Need-refusal-for-requires
-refusal-for-requires c κs = search needs
+first-refusal-requires : tie.Need-first-refusal-requires
+first-refusal-requires c κs = search needs
 
 returns : tie.Need-returns
-returns c = let a = c .before .before .before .args in made-none (a .seed) (a .bodies) (a .manifolds) (a .joints) (a .bytes .now) (c .before .refusal-for .result) (c .before .refusal-for .ensures) (c .if1 .taken)
+returns c = let a = c .before .before .before .args in made-none (a .seed) (a .bodies) (a .manifolds) (a .joints) (a .bytes .now) (c .before .first-refusal .result) (c .before .first-refusal .ensures) (c .if1 .taken)
 
 write-lift-requires : tie.Need-write-lift-requires
 write-lift-requires c κs = passes (c .before)
@@ -40,7 +39,7 @@ pub generate-spec : {M : Type 1} → statement M
 generate-spec =
     tie.close
     (tie.spec
-    refusal-for-requires
+    first-refusal-requires
     returns
     write-lift-requires
     file-length-requires

@@ -1,6 +1,5 @@
 -- `next_state`: the remainder may be taken before the sum too.
 use Rattle.generator.proofs.Draws.{step-next}
-use native.Mathlib.Omega.{arith}
 use borrow.Author.Needs.{needs}
 use Rattle.generator.proofs.next_state.Statement.{statement}
 use Rattle.generator.proofs.next_state.Tie as tie

@@ -1,8 +1,7 @@
 -- `pairs_possible`: within the limits the sum is not too large.
 use Rattle.frame_file.proofs.Writes.{few-each}
 use mathlib.Core.Path.{refl}
-use Rattle.generator.specs.Calls.{pairable}
-use borrow.Author.Needs.{needs}
+use Rattle.generator.specs.Calls.{pairsPossible}
 use native.Mathlib.Omega.{arith}
 use Rattle.generator.proofs.pairs_possible.Statement.{statement}
 use Rattle.generator.proofs.pairs_possible.Tie as tie
@@ -11,7 +10,7 @@ add-result : tie.Need-add-result
 add-result c = omega (arith, few-each (c .args .bodies) (c .args .manifolds) (c .args .joints) (c .pre))
 
 returns : tie.Need-returns
-unfolding pairable
+unfolding pairsPossible
 returns c = refl
 
 pub pairs-possible-spec : {M : Type 1} → statement M

@@ -5,7 +5,6 @@ use Rattle.frame_file.proofs.Writes.{few-each}
 use Rattle.generator.proofs.Calls.{fewer-pairs}
 use Rattle.generator.proofs.Whole.{whole-put}
 use native.Mathlib.Omega.{arith}
-use borrow.Author.Needs.{needs}
 use Rattle.generator.proofs.write_lift.Statement.{statement}
 use Rattle.generator.proofs.write_lift.Tie as tie
 

@@ -1,19 +1,19 @@
--- `refusal_for` puts the questions in order; each "no" has its law.
+-- `first_refusal` puts the questions in order; each "no" has its law.
 use mathlib.Core.Path.{_≡_, sym, _∙_}
 use mathlib.Core.Bool.{true}
 use borrow.Author.Tests.{not-true, not-false}
 use Rattle.frame.specs.Questions.{fewEach}
-use Rattle.generator.specs.Calls.{pairable}
+use Rattle.generator.specs.Calls.{pairsPossible}
 use Rattle.generator.proofs.Calls.{no-3, no-13, no-6, no-none}
 use native.Mathlib.Omega.{arith}
 use borrow.Author.Needs.{needs}
-use Rattle.generator.proofs.refusal_for.Statement.{statement}
-use Rattle.generator.proofs.refusal_for.Tie as tie
+use Rattle.generator.proofs.first_refusal.Statement.{statement}
+use Rattle.generator.proofs.first_refusal.Tie as tie
 
 few : (c : tie.Else1) → fewEach (c .before .before .args .bodies) (c .before .before .args .manifolds) (c .before .before .args .joints) ≡ true
 few c = sym (c .before .few-each .ensures) ∙ not-false _ (c .if1 .left)
 
-pairs : (c : tie.Else2) → pairable (c .before .before .before .before .args .bodies) (c .before .before .before .before .args .manifolds) (c .before .before .before .before .args .joints) ≡ true
+pairs : (c : tie.Else2) → pairsPossible (c .before .before .before .before .args .bodies) (c .before .before .before .before .args .manifolds) (c .before .before .before .before .args .joints) ≡ true
 pairs c = sym (c .before .pairs-possible .ensures) ∙ not-false _ (c .if2 .left)
 
 few-each-requires : tie.Need-few-each-requires
@@ -37,8 +37,8 @@ returns-3 c = let a = c .before .before .before .before .before .before .args in
 returns-4 : tie.Need-returns-4
 returns-4 c = let a = c .before .before .before .before .before .before .args in no-none (a .bodies) (a .manifolds) (a .joints) (a .room) (few (c .before .before .before .before)) (pairs (c .before .before)) (omega (arith, c .if3 .left, c .before .file-length .ensures))
 
-pub refusal-for-spec : {M : Type 1} → statement M
-refusal-for-spec =
+pub first-refusal-spec : {M : Type 1} → statement M
+first-refusal-spec =
     tie.close
     (tie.spec
     few-each-requires
