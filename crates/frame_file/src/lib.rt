@@ -10,6 +10,13 @@ ghost use Rattle.lists.specs.Basics.{put};
 ghost use Rattle.frame.specs.Questions.{fewEach};
 ghost use Rattle.frame_file.specs.Written.{halfBytes, wordBytes, fileLength, headerBytes, pairBytes};
 
+// How many bytes stand before the types, and how many a pair of endpoints and a joint have.
+pub const HEADER: usize = 11;
+
+pub const PAIR: usize = 4;
+
+pub const JOINT: usize = 5;
+
 // A 16-bit number at a place, the upper byte first.
 fn put_half(out: &mut [u8], at: usize, n: usize)
     requires { ⌜ (at + 2 ≤ length (now out)) × (n < 65536) ⌝ }
@@ -42,7 +49,7 @@ pub fn file_length(bodies: usize, manifolds: usize, joints: usize) -> usize
     requires { ⌜ fewEach bodies manifolds joints ≡ true ⌝ }
     ensures { λ r. ⌜ r ≡ fileLength bodies manifolds joints ⌝ }
 {
-    11 + bodies + 4 * manifolds + 5 * joints
+    HEADER + bodies + PAIR * manifolds + JOINT * joints
 }
 
 // The first 11 bytes: version, length of the rest, and how many bodies, manifolds and joints.

@@ -1,6 +1,9 @@
 // Test lifts from a number: one seed gives the same frame on every unit. A linear congruential generator draws the types, then the
 // manifolds' pairs, then the joints, each pair of two different bodies, straight into the lent bytes in the file form. `generate`
 // answers every seed and all sizes; its time is linear in the frame's bytes, and the largest frame has 40,971 of them.
+use frame_file::HEADER;
+use frame_file::JOINT;
+use frame_file::PAIR;
 ghost use mathlib.Core.Path.{_≡_};
 ghost use mathlib.Core.Bool.{true};
 ghost use mathlib.Core.List.{_∷_, [], _++_};
@@ -93,7 +96,7 @@ fn draw_joint(out: &mut [u8], at: usize, bodies: u32, before: u32) -> u32
 {
     let paired = draw_pair(out, at, bodies, before);
     let after = next_state(paired);
-    out[at + 4] = (upper(after) % 2) as u8;
+    out[at + PAIR] = (upper(after) % 2) as u8;
     after
 }
 
@@ -105,7 +108,7 @@ fn draw_manifolds(out: &mut [u8], at: usize, bodies: u32, count: usize, before: 
     let mut state = before;
     let mut i = 0;
     while i < count {
-        state = draw_pair(out, at + 4 * i, bodies, state);
+        state = draw_pair(out, at + PAIR * i, bodies, state);
         i += 1;
     }
     state
@@ -119,7 +122,7 @@ fn draw_joints(out: &mut [u8], at: usize, bodies: u32, count: usize, before: u32
     let mut state = before;
     let mut i = 0;
     while i < count {
-        state = draw_joint(out, at + 5 * i, bodies, state);
+        state = draw_joint(out, at + JOINT * i, bodies, state);
         i += 1;
     }
 }
@@ -130,15 +133,11 @@ fn write_lift(out: &mut [u8], seed: u32, bodies: usize, manifolds: usize, joints
     ensures { λ _. ⌜ now (out .exit) ≡ over (generatedBytes seed bodies manifolds joints) (now (out .entry)) ⌝ }
 {
     frame_file::put_header(out, bodies, manifolds, joints);
-    let typed = draw_types(out, 11, bodies, seed);
-    let touched = draw_manifolds(out, 11 + bodies, bodies as u32, manifolds, typed);
-    draw_joints(
-        out,
-        11 + bodies + 4 * manifolds,
-        bodies as u32,
-        joints,
-        touched,
-    );
+    let typed = draw_types(out, HEADER, bodies, seed);
+    let manifolds_at = HEADER + bodies;
+    let touched = draw_manifolds(out, manifolds_at, bodies as u32, manifolds, typed);
+    let joints_at = manifolds_at + PAIR * manifolds;
+    draw_joints(out, joints_at, bodies as u32, joints, touched);
 }
 
 // Question 13: no pair is wanted, or there are two bodies for it.

@@ -1,5 +1,5 @@
 // Reads the line that asks for a test lift: seed, bodies, manifolds and joints, in decimal, parted by one space. `read_line` answers
-// every text. A number has at most 19 digits, so that every machine can hold it.
+// every text. A number has at most 19 digits, so that 64 bits hold it.
 ghost use mathlib.Core.Path.{_≡_};
 ghost use mathlib.Core.Bool.{_&&_};
 ghost use Prim.Native.Nat.{_<_};

@@ -1,12 +1,15 @@
 -- `put_header`: its parts, one behind the other.
 use Rattle.frame_file.proofs.Writes.{few-each, header-put}
-use Prim.Native.Nat.{_-_}
+use Prim.Native.Nat.{_-_, _≤_}
 use mathlib.Core.Path.{_≡_, _∙_}
 use lib.ListN.{length, length-set}
 use native.Mathlib.Omega.{arith}
 use borrow.Author.Needs.{needs}
 use Rattle.frame_file.proofs.put_header.Statement.{statement}
 use Rattle.frame_file.proofs.put_header.Tie as tie
+
+few : (c : tie.Start) → (c .args .bodies ≤ 4096) × (c .args .manifolds ≤ 4096) × (c .args .joints ≤ 4096)
+few c = few-each (c .args .bodies) (c .args .manifolds) (c .args .joints) (c .pre .1)
 
 worded : (c : tie.After-put-word) → length (c .put-word .last .0) ≡ length (c .before .before .before .before .args .out .now)
 worded c = c .put-word .kept .0 ∙ length-set (c .before .before .before .before .args .out .now) 0 1
@@ -27,16 +30,16 @@ sub-put-word : tie.Need-sub-put-word
 sub-put-word c = search needs
 
 put-word-requires : tie.Need-put-word-requires
-put-word-requires c κs = let s = c .before .before .before in (simp length-set (omega (arith, s .pre .0)), omega (arith, few-each (s .args .bodies) (s .args .manifolds) (s .args .joints) (s .pre .1), c .file-length .ensures))
+put-word-requires c κs = let s = c .before .before .before in (simp length-set (omega (arith, s .pre .0)), omega (arith, few s, c .file-length .ensures))
 
 put-half-requires : tie.Need-put-half-requires
-put-half-requires c κs = let s = c .before .before .before .before .before .before .before in (omega (arith, worded (c .before .before .before), s .pre .0), omega (arith, few-each (s .args .bodies) (s .args .manifolds) (s .args .joints) (s .pre .1)))
+put-half-requires c κs = let s = c .before .before .before .before .before .before .before in (omega (arith, worded (c .before .before .before), s .pre .0), omega (arith, few s))
 
 put-half-requires-2 : tie.Need-put-half-requires-2
-put-half-requires-2 c κs = let s = c .before .before .before .before .before .before .before .before .before .before .before in (omega (arith, bodied (c .before .before .before), s .pre .0), omega (arith, few-each (s .args .bodies) (s .args .manifolds) (s .args .joints) (s .pre .1)))
+put-half-requires-2 c κs = let s = c .before .before .before .before .before .before .before .before .before .before .before in (omega (arith, bodied (c .before .before .before), s .pre .0), omega (arith, few s))
 
 put-half-requires-3 : tie.Need-put-half-requires-3
-put-half-requires-3 c κs = let s = c .before .before .before .before .before .before .before .before .before .before .before .before .before .before .before in (omega (arith, touched (c .before .before .before), s .pre .0), omega (arith, few-each (s .args .bodies) (s .args .manifolds) (s .args .joints) (s .pre .1)))
+put-half-requires-3 c κs = let s = c .before .before .before .before .before .before .before .before .before .before .before .before .before .before .before in (omega (arith, touched (c .before .before .before), s .pre .0), omega (arith, few s))
 
 same-length : tie.Need-same-length
 same-length c = c .before .before .put-half3 .kept .0 ∙ touched (c .before .before .before .before .before .before)

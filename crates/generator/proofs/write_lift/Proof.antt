@@ -1,4 +1,5 @@
 -- `write_lift`: header, types, manifolds and joints, each behind the one before.
+use Prim.Native.Nat.{_≤_}
 use mathlib.Core.Path.{_≡_, _∙_}
 use lib.ListN.{length}
 use Rattle.frame_file.proofs.Writes.{few-each}
@@ -7,6 +8,9 @@ use Rattle.generator.proofs.Whole.{whole-put}
 use native.Mathlib.Omega.{arith}
 use Rattle.generator.proofs.write_lift.Statement.{statement}
 use Rattle.generator.proofs.write_lift.Tie as tie
+
+few : (c : tie.Start) → (c .args .bodies ≤ 4096) × (c .args .manifolds ≤ 4096) × (c .args .joints ≤ 4096)
+few c = few-each (c .args .bodies) (c .args .manifolds) (c .args .joints) (c .pre .0)
 
 headed : (c : tie.After-put-header) → length (c .put-header .last .0) ≡ length (c .before .before .before .args .out .now)
 headed c = c .put-header .kept .0
@@ -23,29 +27,26 @@ put-header-requires c κs = let s = c .before .before in (omega (arith, s .pre .
 draw-types-requires : tie.Need-draw-types-requires
 draw-types-requires c κs = let s = c .before .before .before .before .before .before in omega (arith, headed (c .before .before .before), s .pre .2)
 
-add-draw-manifolds : tie.Need-add-draw-manifolds
-add-draw-manifolds c = let s = c .before .before .before .before .before .before .before .before .before .before in omega (arith, few-each (s .args .bodies) (s .args .manifolds) (s .args .joints) (s .pre .0))
+add-manifolds-at : tie.Need-add-manifolds-at
+add-manifolds-at c = omega (arith, few (c .before .before .before .before .before .before .before .before .before))
 
 cast-draw-manifolds : tie.Need-cast-draw-manifolds
-cast-draw-manifolds c = let s = c .before .before .before .before .before .before .before .before .before .before in omega (arith, few-each (s .args .bodies) (s .args .manifolds) (s .args .joints) (s .pre .0))
+cast-draw-manifolds c = omega (arith, few (c .before .before .before .before .before .before .before .before .before .before))
 
 draw-manifolds-requires : tie.Need-draw-manifolds-requires
-draw-manifolds-requires c κs = let s = c .before .before .before .before .before .before .before .before .before .before in (omega (arith, typed (c .before .before .before), s .pre .2), fewer-pairs (s .args .bodies) (s .args .manifolds) (s .args .joints) (s .args .manifolds) 0 (s .pre .1) (omega arith), few-each (s .args .bodies) (s .args .manifolds) (s .args .joints) (s .pre .0) .0)
+draw-manifolds-requires c κs = let s = c .before .before .before .before .before .before .before .before .before .before in (omega (arith, typed (c .before .before .before), s .pre .2), fewer-pairs (s .args .bodies) (s .args .manifolds) (s .args .joints) (s .args .manifolds) 0 (s .pre .1) (omega arith), few s .0)
 
-add-draw-joints : tie.Need-add-draw-joints
-add-draw-joints c = let s = c .before .before .before .before .before .before .before .before .before .before .before .before .before .before in omega (arith, few-each (s .args .bodies) (s .args .manifolds) (s .args .joints) (s .pre .0))
+mul-joints-at : tie.Need-mul-joints-at
+mul-joints-at c = omega (arith, few (c .before .before .before .before .before .before .before .before .before .before .before .before .before))
 
-mul-draw-joints : tie.Need-mul-draw-joints
-mul-draw-joints c = let s = c .before .before .before .before .before .before .before .before .before .before .before .before .before .before in omega (arith, few-each (s .args .bodies) (s .args .manifolds) (s .args .joints) (s .pre .0))
-
-add-draw-joints-2 : tie.Need-add-draw-joints-2
-add-draw-joints-2 c = let s = c .before .before .before .before .before .before .before .before .before .before .before .before .before .before in omega (arith, few-each (s .args .bodies) (s .args .manifolds) (s .args .joints) (s .pre .0))
+add-joints-at : tie.Need-add-joints-at
+add-joints-at c = omega (arith, few (c .before .before .before .before .before .before .before .before .before .before .before .before .before))
 
 cast-draw-joints : tie.Need-cast-draw-joints
-cast-draw-joints c = let s = c .before .before .before .before .before .before .before .before .before .before .before .before .before .before in omega (arith, few-each (s .args .bodies) (s .args .manifolds) (s .args .joints) (s .pre .0))
+cast-draw-joints c = omega (arith, few (c .before .before .before .before .before .before .before .before .before .before .before .before .before .before))
 
 draw-joints-requires : tie.Need-draw-joints-requires
-draw-joints-requires c κs = let s = c .before .before .before .before .before .before .before .before .before .before .before .before .before .before in (omega (arith, touched (c .before .before .before), s .pre .2), fewer-pairs (s .args .bodies) (s .args .manifolds) (s .args .joints) 0 (s .args .joints) (s .pre .1) (omega arith), few-each (s .args .bodies) (s .args .manifolds) (s .args .joints) (s .pre .0) .0)
+draw-joints-requires c κs = let s = c .before .before .before .before .before .before .before .before .before .before .before .before .before .before in (omega (arith, touched (c .before .before .before), s .pre .2), fewer-pairs (s .args .bodies) (s .args .manifolds) (s .args .joints) 0 (s .args .joints) (s .pre .1) (omega arith), few s .0)
 
 same-length : tie.Need-same-length
 same-length c = c .before .before .draw-joints .kept .0 ∙ touched (c .before .before .before .before .before .before)
@@ -67,12 +68,11 @@ write-lift-spec =
     (tie.spec
     put-header-requires
     draw-types-requires
-    add-draw-manifolds
+    add-manifolds-at
     cast-draw-manifolds
     draw-manifolds-requires
-    add-draw-joints
-    mul-draw-joints
-    add-draw-joints-2
+    mul-joints-at
+    add-joints-at
     cast-draw-joints
     draw-joints-requires
     same-length
