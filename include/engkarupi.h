@@ -1,4 +1,4 @@
-/* Engkarupi: islands, conflict-free groups, bindings and turns of a frame of bodies and constraints, and test frames from a
+/* Engkarupi: islands, conflict-free groups, bindings and turns of a frame of bodies and constraints, and test lifts from a
  * number, proved.
  *
  * Link libboundary.a (`rt staticlib boundary`). No call allocates, keeps a pointer or has state of its own: all memory is
@@ -199,15 +199,15 @@ uint8_t engkarupi_run(
     uint16_t *constraint_body_positions, size_t constraint_body_positions_len,  /* 2 * C, free */
     size_t report[ENGKARUPI_REPORT_NUMBERS]);
 
-/* ---- test frames: the same frame on every unit from one seed
+/* ---- test lifts: the same frame on every unit from one seed
  *
  * State s becomes 1,664,525 * s + 1,013,904,223 modulo 2^32, from the seed on; a draw is the upper 16 bits of the new state.
  * In the file's order: a type is a draw modulo 3; a pair is a = draw modulo B, then b = (a + 1 + draw modulo (B - 1)) modulo
  * B; a joint's enabled byte is a further draw modulo 2. The seed and the sizes fix the frame.
  *
- * Answers 0, 3, 13 or 6, asked in this order. After 0 the frame stands in the file form (see the run) from place 0, *length
- * is its length, and the bytes past it are kept; engkarupi_run accepts it, given room. After a refusal all bytes are kept
- * and *length is 0.
+ * Answers 0, 3, 13 or 6: 3 is asked first, then 13, then 6. After 0 the frame stands in the file form (see the run) from
+ * place 0, *length is its length, and the bytes past it are kept; engkarupi_run accepts it, given room. After a refusal all
+ * bytes are kept and *length is 0.
  */
 uint8_t engkarupi_generate(
     uint32_t seed,

@@ -2,34 +2,12 @@
 -- bits or a pair, and the parts of the header the header.
 use Prim.Native.Nat.{ℕ, _+_, _-_, _*_, _/_, _%_, _≤_}
 use mathlib.Core.Path.{_≡_, ap, _∙_}
-use mathlib.Core.Bool.{true, _&&_}
 use mathlib.Core.List.{List, [], _∷_, _++_}
 use native.Mathlib.Omega.{arith}
-use lib.Dec.{leb}
 use lib.ListN.{length, set, length-set}
-use borrow.Author.Tests.{leb-true}
 use Rattle.lists.specs.Basics.{put}
-use Rattle.lists.proofs.Laws.{and-left, and-right}
-use Rattle.lists.proofs.Puts.{length-put, put-put, set-put}
-use Rattle.frame.specs.Questions.{fewEach}
+use Rattle.lists.proofs.Puts.{set-put, put-long, put-then}
 use Rattle.frame_file.specs.Written.{halfBytes, wordBytes, fileLength, headerBytes, pairBytes}
-
--- ---- the limits
-
-pub few-each : (b m j : ℕ) → fewEach b m j ≡ true → (b ≤ 4096) × (m ≤ 4096) × (j ≤ 4096)
-unfolding fewEach
-few-each b m j e =
-    let two = and-left (leb b 4096 && leb m 4096) (leb j 4096) e in
-    (leb-true b 4096 (and-left (leb b 4096) (leb m 4096) two), leb-true m 4096 (and-right (leb b 4096) (leb m 4096) two), leb-true j 4096 (and-right (leb b 4096 && leb m 4096) (leb j 4096) e))
-
--- ---- one behind another
-
-module _ (at : ℕ) (a old mid : List ℕ) (e : mid ≡ put at a old) where
-  pub put-long : at + length a ≤ length old → length mid ≡ length old
-  put-long h = ap length e ∙ length-put at a old h
-
-  pub put-then : (b new : List ℕ) (next : ℕ) → next ≡ at + length a → new ≡ put next b mid → next + length b ≤ length old → new ≡ put at (a ++ b) old
-  put-then b new next n f h = f ∙ ap (λ (i : ℕ). put i b mid) n ∙ ap (put (at + length a) b) e ∙ put-put at a b old (omega (arith, n))
 
 -- ---- numbers and pairs
 
@@ -41,7 +19,7 @@ half-put at n old h =
     (set-put (at + 1) (n % 256) mid (omega (arith, length-set old at (n / 256)))) (omega arith)
 
 module _ (at x y : ℕ) (old mid new : List ℕ) (h : at + 4 ≤ length old) (e : mid ≡ put at (halfBytes x) old) (f : new ≡ put (at + 2) (halfBytes y) mid) where
-  pub halves-put : new ≡ put at (halfBytes x ++ halfBytes y) old
+  halves-put : new ≡ put at (halfBytes x ++ halfBytes y) old
   unfolding halfBytes
   halves-put = put-then at (halfBytes x) old mid e (halfBytes y) new (at + 2) (omega arith) f (omega arith)
 

@@ -1,6 +1,6 @@
-// Writing a frame in the file form, part by part where the file is to stand: the header, and a pair of endpoints. The caller has
-// room. Internal: what `generate` and other makers of frames write with. The whole file is `fileOf` in specs/Written, and
-// proofs/Decoded says that reading it gives the frame back.
+// Writing a frame in the file form, part by part where the file is to stand: the header, a pair of endpoints, and an enabled byte.
+// The caller has room. Internal: what `generate` writes with. The whole file is `fileOf` in specs/Written; proofs/Whole says that
+// the parts, each behind the one before, are the file, and proofs/Decoded that reading it gives the frame back.
 ghost use mathlib.Core.Path.{_≡_};
 ghost use mathlib.Core.Bool.{true};
 ghost use mathlib.Core.List.{_∷_, []};
@@ -42,6 +42,14 @@ pub fn put_pair(out: &mut [u8], at: usize, a: usize, b: usize)
 {
     put_half(out, at, a);
     put_half(out, at + 2, b);
+}
+
+// The enabled byte of the joint at a place, behind its endpoints.
+pub fn put_enabled(out: &mut [u8], at: usize, enabled: u8)
+    requires { ⌜ at + 5 ≤ length (now out) ⌝ }
+    ensures { λ _. ⌜ now (out .exit) ≡ put (at + 4) (enabled ∷ []) (now (out .entry)) ⌝ }
+{
+    out[at + PAIR] = enabled;
 }
 
 // How long the file is.

@@ -24,7 +24,7 @@ fn write_refusal(number: u8) {
     write_first(&line, size);
 }
 
-fn write_lift(seed: u32, bodies: usize, manifolds: usize, joints: usize) {
+fn write_frame(seed: u32, bodies: usize, manifolds: usize, joints: usize) {
     let mut bytes = [0u8; Frame::MAX_BYTES];
     let answer = generator::generate(seed, bodies, manifolds, joints, &mut bytes);
     match answer {
@@ -36,7 +36,7 @@ fn write_lift(seed: u32, bodies: usize, manifolds: usize, joints: usize) {
 fn complain() {
     io::write_all(
         STDERR_FILENO,
-        b"generate_frame: write one line of four numbers parted by one space: seed bodies manifolds joints (the seed at most 4294967295)\n",
+        b"generate_frame: write one line of four numbers of at most 19 digits, parted by one space: seed bodies manifolds joints (the seed at most 4294967295)\n",
     );
 }
 
@@ -45,7 +45,12 @@ fn main() {
     let size = io::read_full(STDIN_FILENO, &mut text);
     let line = lift_line::read_line(&text[..size]);
     match line {
-        Line::Lift(seed, bodies, manifolds, joints) => write_lift(seed, bodies, manifolds, joints),
+        Line::Wanted(seed, bodies, manifolds, joints) => write_frame(
+            seed,
+            bodies,
+            manifolds,
+            joints,
+        ),
         Line::Unreadable => complain(),
     }
 }

@@ -1,6 +1,6 @@
 -- Draws go on where others stopped: k steps and then i steps are k + i steps, so what is drawn from draw k on is what is drawn from the state after
 -- k steps. One pair, type or joint more stands behind those before it, and is drawn from the state that they left.
-use Prim.Native.Nat.{ℕ, zero, suc, _+_, _-_, _*_, _/_, _%_, _<_}
+use Prim.Native.Nat.{ℕ, zero, suc, _+_, _-_, _*_, _/_, _%_}
 use mathlib.Core.Path.{_≡_, refl, sym, ap, _∙_}
 use mathlib.Core.List.{List, [], _∷_, _++_, map, append-nil, append-assoc}
 use native.Mathlib.Omega.{arith}
@@ -19,10 +19,6 @@ pub step-next : (s m r : ℕ) → m ≡ (1664525 * s) % 4294967296 → r ≡ (m 
 unfolding nextState
 step-next s m r e f = f ∙ omega (arith, e)
 
-pub state-narrow : (s : ℕ) → nextState s < 4294967296
-unfolding nextState
-state-narrow s = omega arith
-
 pub steps-then : (k i s : ℕ) → stateAfter (k + i) s ≡ stateAfter i (stateAfter k s)
 unfolding stateAfter
 steps-then k zero s = let e : k + 0 ≡ k = omega arith in ap (λ (n : ℕ). stateAfter n s) e
@@ -31,10 +27,6 @@ steps-then k (suc i) s = let e : k + suc i ≡ suc (k + i) = omega arith in ap (
 pub draw-then : (k i s : ℕ) → draw (k + i) s ≡ draw i (stateAfter k s)
 unfolding draw
 draw-then k i s = let e : suc (k + i) ≡ k + suc i = omega arith in ap (λ (n : ℕ). stateAfter n s / 65536) e ∙ ap (λ (n : ℕ). n / 65536) (steps-then k (suc i) s)
-
-pub draw-narrow : (k s : ℕ) → draw k s < 65536
-unfolding draw stateAfter
-draw-narrow k s = omega (arith, state-narrow (stateAfter k s))
 
 -- ---- one more: the state after it, when each takes d draws
 
@@ -76,7 +68,7 @@ pairs-turn b d i s =
     ∙ joinMap-append g (range i) (i ∷ [])
     ∙ ap (λ (l : List ℕ). joinMap g (range i) ++ l) (append-nil (g i) ∙ ap (λ (n : ℕ). pairDrawn b n s) e ∙ pair-here b (d * i) s)
 
-pub enabled-turn : (i s : ℕ) → enabledDrawn 0 (i + 1) s ≡ enabledDrawn 0 i s ++ (draw 2 (stateAfter (3 * i) s) % 2) ∷ []
+enabled-turn : (i s : ℕ) → enabledDrawn 0 (i + 1) s ≡ enabledDrawn 0 i s ++ (draw 2 (stateAfter (3 * i) s) % 2) ∷ []
 unfolding enabledDrawn
 enabled-turn i s =
     let e : 0 + 3 * i + 2 ≡ 3 * i + 2 = omega arith in

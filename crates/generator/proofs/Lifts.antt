@@ -4,7 +4,7 @@
 use Prim.Native.Nat.{ℕ, zero, suc, _+_, _-_, _*_, _%_, _≤_, _<_}
 use mathlib.Core.Path.{_≡_, refl, sym, _∙_}
 use mathlib.Core.Bool.{Bool, true}
-use mathlib.Core.List.{List, [], _∷_, _++_, map}
+use mathlib.Core.List.{List, [], _∷_, map}
 use native.Mathlib.Omega.{arith}
 use native.Mathlib.Nat.{mod-lt, mod-eq-of-lt, mod-eq-sub-mod}
 use lib.Dec.{leb, ltb, eqb}
@@ -12,9 +12,9 @@ use lib.ListN.{length, take, drop}
 use lib.Seq.{take-at}
 use borrow.Author.Tests.{le-leb, ltb-true, ltb-false, lt-ltb, ne-eqb}
 use Rattle.lists.specs.Basics.{all, joinMap, range}
-use Rattle.lists.proofs.Laws.{and-left, and-right, and-both, by-cases}
-use Rattle.frame.specs.Frames.{Constraint, constraint, constraintsOf, frameOf, sound, allSound}
-use Rattle.frame.specs.Questions.{fewEach, pairCount, typesKnown, bits}
+use Rattle.lists.proofs.Laws.{and-both, by-cases, all-append}
+use Rattle.frame.specs.Frames.{constraint, constraintsOf, frameOf, sound, allSound}
+use Rattle.frame.specs.Questions.{fewEach, typesKnown, bits}
 use Rattle.frame.proofs.Pairs.{sound-live, sound-dead}
 use Rattle.frame_file.specs.Written.{fileLength, Writable}
 use Rattle.frame_file.proofs.Decoded.{file-long, written-decoded, written-passes}
@@ -22,7 +22,7 @@ use Rattle.generator.specs.Draws.{nextState, stateAfter, draw, pairDrawn
 use Rattle.generator.specs.Calls.{pairsPossible, generateRefusal, Made}
 use Rattle.generator.specs.Lifts.{Lift}
 use Rattle.generator.proofs.Calls.{two-bodies, all-yes}
-use Rattle.generator.proofs.Draws.{types-long, pairs-long, enabled-long}
+use Rattle.generator.proofs.Whole.{types, manifolds, joints, enabled, count-b, count-m, count-j, writable}
 
 -- ---- types and enabled bytes
 
@@ -77,58 +77,29 @@ unfolding pairsDrawn
 pairs-sound b k d zero s es h = refl
 pairs-sound b k d (suc n) s es h = joined-sound b k d s (range (suc n)) es (h (omega arith))
 
-all-append : (p : Constraint → Bool) (xs ys : List Constraint) → all p xs ≡ true → all p ys ≡ true → all p (xs ++ ys) ≡ true
-all-append p [] ys e f = f
-all-append p (x ∷ xs) ys e f = and-both (p x) (all p (xs ++ ys)) (and-left (p x) (all p xs) e) (all-append p xs ys (and-right (p x) (all p xs) e) f)
-
 -- ---- the file of a seed
 
 module _ (seed b m j : ℕ) (few : fewEach b m j ≡ true) (two : pairsPossible b m j ≡ true) where
-  abbrev types : List ℕ
-  types = typesDrawn b seed
+  parts : Writable (types seed b m j) (manifolds seed b m j) (joints seed b m j) (enabled seed b m j)
+  parts = writable seed b m j few
 
-  abbrev manifolds : List ℕ
-  manifolds = pairsDrawn b b 2 m seed
-
-  abbrev joints : List ℕ
-  joints = pairsDrawn b (b + 2 * m) 3 j seed
-
-  abbrev enabled : List ℕ
-  enabled = enabledDrawn (b + 2 * m) j seed
-
-  count-b : length types ≡ b
-  count-b = types-long b seed
-
-  count-m : pairCount manifolds ≡ m
-  count-m = omega (arith, pairs-long b b 2 m seed)
-
-  count-j : length enabled ≡ j
-  count-j = enabled-long (b + 2 * m) j seed
-
-  writable : Writable types manifolds joints enabled
-  writable = record {
-    few = rw (count-b, count-m, count-j) few;
-    even-manifolds = omega (arith, pairs-long b b 2 m seed);
-    even-joints = omega (arith, pairs-long b (b + 2 * m) 3 j seed, count-j);
-  }
-
-  frame-sound : allSound (frameOf types manifolds joints enabled) ≡ true
+  frame-sound : allSound (frameOf (types seed b m j) (manifolds seed b m j) (joints seed b m j) (enabled seed b m j)) ≡ true
   unfolding allSound
   frame-sound =
-      rw count-b
-      (all-append (sound b) (constraintsOf manifolds []) (constraintsOf joints enabled)
+      rw (count-b seed b m j)
+      (all-append (sound b) (constraintsOf (manifolds seed b m j) []) (constraintsOf (joints seed b m j) (enabled seed b m j))
       (pairs-sound b b 2 m seed [] (λ h. two-bodies b m j two (omega (arith, h))))
-      (pairs-sound b (b + 2 * m) 3 j seed enabled (λ h. two-bodies b m j two (omega (arith, h)))))
+      (pairs-sound b (b + 2 * m) 3 j seed (enabled seed b m j) (λ h. two-bodies b m j two (omega (arith, h)))))
 
   generated-long : length (generatedBytes seed b m j) ≡ fileLength b m j
   unfolding generatedBytes
-  generated-long = file-long types manifolds joints enabled writable ∙ rw (count-b, count-m, count-j)
+  generated-long = file-long _ _ _ _ parts ∙ rw (count-b seed b m j, count-m seed b m j, count-j seed b m j)
 
-  pub lift-holds : Lift seed b m j (generatedBytes seed b m j)
+  lift-holds : Lift seed b m j (generatedBytes seed b m j)
   unfolding generatedBytes
   lift-holds = record {
-    passes = written-passes types manifolds joints enabled writable (types-known b seed) (enabled-bits (b + 2 * m) j seed) frame-sound;
-    frame = written-decoded types manifolds joints enabled writable;
+    passes = written-passes _ _ _ _ parts (types-known b seed) (enabled-bits (b + 2 * m) j seed) frame-sound;
+    frame = written-decoded _ _ _ _ parts;
   }
 
 -- ---- a call that refused nothing

@@ -5,34 +5,33 @@ use mathlib.Core.List.{List, [], _∷_, _++_}
 use native.Mathlib.Omega.{arith}
 use lib.ListN.{length, set}
 use Rattle.lists.specs.Basics.{put}
-use Rattle.lists.proofs.Puts.{put-none, set-put}
+use Rattle.lists.proofs.Puts.{put-none, set-put, put-long, put-then}
 use Rattle.lists.proofs.Ranges.{joinMap-append}
 use Rattle.frame_file.specs.Written.{halfBytes, pairBytes, jointBytes}
-use Rattle.frame_file.proofs.Writes.{put-long, put-then}
 use Rattle.frame_file.proofs.Decoded.{pair-bytes-long, joint-bytes-long}
 use Rattle.generator.specs.Draws.{nextState, stateAfter, draw, pairDrawn, typesDrawn, pairsDrawn, enabledDrawn}
 use Rattle.generator.proofs.Draws.{state-turn, types-turn, types-long, pair-long, pairs-turn, pairs-long, enabled-long, joints-turn}
 
 -- ---- after i turns, at d draws a turn: the bytes were `old` and are `out`, with `text i` from place `at` on
 
-pub record Stands (d : ℕ) (text : ℕ → List ℕ) (at s i : ℕ) (old out : List ℕ) (state : ℕ) : Type 0 where
+pub record Drawn (d : ℕ) (text : ℕ → List ℕ) (at s i : ℕ) (old out : List ℕ) (state : ℕ) : Type 0 where
   pub bytes : out ≡ put at (text i) old
-  pub drawn : state ≡ stateAfter (d * i) s
+  pub state-left : state ≡ stateAfter (d * i) s
 
 module _ (d size : ℕ) (text : ℕ → List ℕ) (at s : ℕ) (old : List ℕ) (none : text 0 ≡ []) (long : (n : ℕ) → length (text n) ≡ size * n) where
-  pub stands-first : Stands d text at s 0 old old s
+  pub drawn-first : Drawn d text at s 0 old old s
   unfolding stateAfter
-  stands-first = record { bytes = sym (ap (λ (l : List ℕ). put at l old) none ∙ put-none at old); drawn = let e : 0 ≡ d * 0 = omega arith in ap (λ (n : ℕ). stateAfter n s) e }
+  drawn-first = record { bytes = sym (ap (λ (l : List ℕ). put at l old) none ∙ put-none at old); state-left = let e : 0 ≡ d * 0 = omega arith in ap (λ (n : ℕ). stateAfter n s) e }
 
-  module _ (i : ℕ) (out : List ℕ) (state : ℕ) (h : Stands d text at s i old out state) where
-    pub stands-long : at + size * i ≤ length old → length out ≡ length old
-    stands-long r = put-long at (text i) old out (h .bytes) (omega (arith, long i))
+  module _ (i : ℕ) (out : List ℕ) (state : ℕ) (h : Drawn d text at s i old out state) where
+    pub drawn-long : at + size * i ≤ length old → length out ≡ length old
+    drawn-long r = put-long at (text i) old out (h .bytes) (omega (arith, long i))
 
     -- one more: the piece stands behind
-    pub stands-next : (piece new : List ℕ) (next : ℕ) → text (i + 1) ≡ text i ++ piece → new ≡ put (at + size * i) piece out → at + size * i + length piece ≤ length old → next ≡ stateAfter d state → Stands d text at s (i + 1) old new next
-    stands-next piece new next e f r g = record {
+    pub drawn-next : (piece new : List ℕ) (next : ℕ) → text (i + 1) ≡ text i ++ piece → new ≡ put (at + size * i) piece out → at + size * i + length piece ≤ length old → next ≡ stateAfter d state → Drawn d text at s (i + 1) old new next
+    drawn-next piece new next e f r g = record {
       bytes = put-then at (text i) old out (h .bytes) piece new (at + size * i) (omega (arith, long i)) f r ∙ ap (λ (l : List ℕ). put at l old) (sym e);
-      drawn = state-turn d i s state next (h .drawn) g;
+      state-left = state-turn d i s state next (h .state-left) g;
     }
 
 -- one byte more
@@ -98,26 +97,25 @@ pair-size b s = omega (arith, pair-bytes-long (pairDrawn b 0 s), pair-long b s)
 
 -- ---- one pair
 
-module _ (b s x y u v : ℕ) (ex : x ≡ nextState s) (ey : y ≡ nextState x) (eu : u ≡ x / 65536) (ev : v ≡ y / 65536) where
-  pub pair-is : (u % b) ∷ ((u % b + 1 + v % (b - 1)) % b) ∷ [] ≡ pairDrawn b 0 s
-  unfolding pairDrawn draw stateAfter
-  pair-is = rw (eu, ev, ey, ex)
+pub pair-is : (b s x y u v : ℕ) → x ≡ nextState s → y ≡ nextState x → u ≡ x / 65536 → v ≡ y / 65536 → (u % b) ∷ ((u % b + 1 + v % (b - 1)) % b) ∷ [] ≡ pairDrawn b 0 s
+unfolding pairDrawn draw stateAfter
+pair-is b s x y u v ex ey eu ev = rw (eu, ev, ey, ex)
 
-  pub pair-state : y ≡ stateAfter 2 s
-  unfolding stateAfter
-  pair-state = ey ∙ ap nextState ex
+pub pair-state : (s x y : ℕ) → x ≡ nextState s → y ≡ nextState x → y ≡ stateAfter 2 s
+unfolding stateAfter
+pair-state s x y ex ey = ey ∙ ap nextState ex
 
 -- ---- one joint: the pair, and the enabled byte behind it
 
-module _ (at b s t n u : ℕ) (old mid : List ℕ) (r : at + 5 ≤ length old) (et : t ≡ stateAfter 2 s) (en : n ≡ nextState t) (eu : u ≡ n / 65536) (e : mid ≡ put at (pairBytes (pairDrawn b 0 s)) old) where
-  pub joint-put : set mid (at + 4) (u % 2) ≡ put at (pairBytes (pairDrawn b 0 s) ++ (draw 2 s % 2) ∷ []) old
+pub joint-state : (s t n : ℕ) → t ≡ stateAfter 2 s → n ≡ nextState t → n ≡ stateAfter 3 s
+unfolding stateAfter
+joint-state s t n et en = en ∙ ap nextState et
+
+module _ (at b s t n u : ℕ) (old mid new : List ℕ) (r : at + 5 ≤ length old) (et : t ≡ stateAfter 2 s) (en : n ≡ nextState t) (eu : u ≡ n / 65536)
+    (e : mid ≡ put at (pairBytes (pairDrawn b 0 s)) old) (f : new ≡ put (at + 4) (u % 2 ∷ []) mid) where
+  pub joint-put : new ≡ put at (pairBytes (pairDrawn b 0 s) ++ (draw 2 s % 2) ∷ []) old
   unfolding draw stateAfter
   joint-put =
       let d : u % 2 ≡ draw 2 s % 2 = rw (eu, en, et) in
-      let long : length mid ≡ length old = put-long at (pairBytes (pairDrawn b 0 s)) old mid e (omega (arith, pair-size b s)) in
-      put-then at (pairBytes (pairDrawn b 0 s)) old mid e (u % 2 ∷ []) (set mid (at + 4) (u % 2)) (at + 4) (omega (arith, pair-size b s)) (set-put (at + 4) (u % 2) mid (omega (arith, long))) (omega arith)
+      put-then at (pairBytes (pairDrawn b 0 s)) old mid e (u % 2 ∷ []) new (at + 4) (omega (arith, pair-size b s)) f (omega arith)
       ∙ ap (λ (x : ℕ). put at (pairBytes (pairDrawn b 0 s) ++ x ∷ []) old) d
-
-  pub joint-state : n ≡ stateAfter 3 s
-  unfolding stateAfter
-  joint-state = en ∙ ap nextState et

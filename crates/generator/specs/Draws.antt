@@ -17,9 +17,9 @@ stateAfter (suc k) s = nextState (stateAfter k s)
 unfoldable pub draw : ℕ → ℕ → ℕ
 draw k s = stateAfter (suc k) s / 65536
 
--- a pair out of b bodies, by draws k and k + 1: a = draw modulo B, then b = (a + 1 + draw modulo (B - 1)) modulo B
+-- a pair out of n bodies, by draws k and k + 1: a = draw modulo n, then b = (a + 1 + draw modulo (n - 1)) modulo n
 unfoldable pub pairDrawn : ℕ → ℕ → ℕ → List ℕ
-pairDrawn b k s = (draw k s % b) ∷ ((draw k s % b + 1 + draw (suc k) s % (b - 1)) % b) ∷ []
+pairDrawn n k s = (draw k s % n) ∷ ((draw k s % n + 1 + draw (suc k) s % (n - 1)) % n) ∷ []
 
 -- n types, each a draw modulo 3, from draw 0 on
 unfoldable pub typesDrawn : ℕ → ℕ → List ℕ

@@ -96,7 +96,7 @@ fn draw_joint(out: &mut [u8], at: usize, bodies: u32, before: u32) -> u32
 {
     let paired = draw_pair(out, at, bodies, before);
     let after = next_state(paired);
-    out[at + PAIR] = (upper(after) % 2) as u8;
+    frame_file::put_enabled(out, at, (upper(after) % 2) as u8);
     after
 }
 
@@ -133,11 +133,11 @@ fn write_lift(out: &mut [u8], seed: u32, bodies: usize, manifolds: usize, joints
     ensures { λ _. ⌜ now (out .exit) ≡ over (generatedBytes seed bodies manifolds joints) (now (out .entry)) ⌝ }
 {
     frame_file::put_header(out, bodies, manifolds, joints);
-    let typed = draw_types(out, HEADER, bodies, seed);
+    let after_types = draw_types(out, HEADER, bodies, seed);
     let manifolds_at = HEADER + bodies;
-    let touched = draw_manifolds(out, manifolds_at, bodies as u32, manifolds, typed);
+    let after_manifolds = draw_manifolds(out, manifolds_at, bodies as u32, manifolds, after_types);
     let joints_at = manifolds_at + PAIR * manifolds;
-    draw_joints(out, joints_at, bodies as u32, joints, touched);
+    draw_joints(out, joints_at, bodies as u32, joints, after_manifolds);
 }
 
 // Question 13: no pair is wanted, or there are two bodies for it.

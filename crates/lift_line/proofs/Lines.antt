@@ -8,7 +8,7 @@ use lib.Dec.{ltb, eqb}
 use lib.ListN.{length, getD}
 use borrow.Author.Tests.{eqb-true, lt-ltb, le-ltb}
 use Rattle.lists.proofs.Laws.{and-right}
-use Rattle.lift_line.specs.declared.Line.the-variants.{Lift, Unreadable}
+use Rattle.lift_line.specs.declared.Line.the-variants.{Wanted, Unreadable}
 use Rattle.lift_line.specs.Lines.{endOf, numberAt, second, third, fourth, written, parted, readable, lineOf}
 use Rattle.lift_line.proofs.Tests.{inside}
 
@@ -67,6 +67,6 @@ module _ (text : List ℕ) where
           unfolding lineOf readable
           seed-wide h = rw (f1 .apart, f2 .apart, f3 .apart, p, le-ltb (numberAt text 0) 4294967296 (omega (arith, f1 .number)))
 
-          pub lift-read : (v4 : ℕ) → v4 ≡ numberAt text (fourth text) → v1 < 4294967296 → Lift v1 v2 v3 v4 ≡ lineOf text
+          pub lift-read : (v4 : ℕ) → v4 ≡ numberAt text (fourth text) → v1 < 4294967296 → Wanted v1 v2 v3 v4 ≡ lineOf text
           unfolding lineOf readable
           lift-read v4 n h = rw (f1 .apart, f2 .apart, f3 .apart, p, lt-ltb (numberAt text 0) 4294967296 (omega (arith, f1 .number)), f1 .number, f2 .number, f3 .number, n)

@@ -32,27 +32,27 @@ digits-off (suc n) (x ∷ xs) (suc i) h = digits-off (suc n) xs i h
 digits-on : (n : ℕ) (xs : List ℕ) (i : ℕ) → digit (getD xs i 0) ≡ true → digitsOf (suc n) (drop i xs) ≡ getD xs i 0 ∷ digitsOf n (drop (suc i) xs)
 digits-on n xs i h = rw (drop-cons xs i 0 (inside xs i (omega (arith, digit-low (getD xs i 0) h))), h)
 
-pub record Reading (text : List ℕ) (at value end read : ℕ) : Type 0 where
+pub record NumberRead (text : List ℕ) (at value end read : ℕ) : Type 0 where
   pub number : valueOf value (digitsOf (19 - read) (drop end text)) ≡ numberAt text at
   pub stop : end + length (digitsOf (19 - read) (drop end text)) ≡ endOf text at
   pub small : value < enough read
 
-pub read-first : (text : List ℕ) (at : ℕ) → Reading text at 0 at 0
+pub read-first : (text : List ℕ) (at : ℕ) → NumberRead text at 0 at 0
 unfolding fieldAt endOf numberAt
 read-first text at = record { number = refl; stop = refl; small = omega arith }
 
-module _ (text : List ℕ) (at value end read : ℕ) (s : Reading text at value end read) where
-  over : digitsOf (19 - read) (drop end text) ≡ [] → (value ≡ numberAt text at) × (end ≡ endOf text at)
-  over e = (ap (valueOf value) (sym e) ∙ s .number, omega (arith, ap length e, s .stop))
+module _ (text : List ℕ) (at value end read : ℕ) (s : NumberRead text at value end read) where
+  at-end : digitsOf (19 - read) (drop end text) ≡ [] → (value ≡ numberAt text at) × (end ≡ endOf text at)
+  at-end e = (ap (valueOf value) (sym e) ∙ s .number, omega (arith, ap length e, s .stop))
 
   -- 19 digits were read
   pub read-all : 19 ≤ read → (value ≡ numberAt text at) × (end ≡ endOf text at)
-  read-all h = let e : 19 - read ≡ 0 = omega arith in over (ap (λ (n : ℕ). digitsOf n (drop end text)) e)
+  read-all h = let e : 19 - read ≡ 0 = omega arith in at-end (ap (λ (n : ℕ). digitsOf n (drop end text)) e)
 
   module _ (byte : ℕ) (b : byte ≡ getD text end 0) where
     -- no digit is left
     pub read-none : digit byte ≡ false → (value ≡ numberAt text at) × (end ≡ endOf text at)
-    read-none h = over (digits-off (19 - read) text end (ap digit (sym b) ∙ h))
+    read-none h = at-end (digits-off (19 - read) text end (ap digit (sym b) ∙ h))
 
     module _ (h : digit byte ≡ true) (k : read < 19) where
       -- one more digit fits
@@ -69,7 +69,7 @@ module _ (text : List ℕ) (at value end read : ℕ) (s : Reading text at value 
           let q : 19 - (read + 1) ≡ 18 - read = omega arith in
           rw (p, q, add-one end, b) (digits-on (18 - read) text end (ap digit (sym b) ∙ h))
 
-      pub read-turn : Reading text at (10 * value + (byte - 48)) (end + 1) (read + 1)
+      pub read-turn : NumberRead text at (10 * value + (byte - 48)) (end + 1) (read + 1)
       read-turn = record {
         number = ap (valueOf value) (sym next) ∙ s .number;
         stop = omega (arith, ap length next, s .stop);

@@ -1,19 +1,19 @@
 -- Lines, computed.
 use mathlib.Core.Path.{_≡_, refl}
 use mathlib.Core.List.{[], _∷_}
-use Rattle.lift_line.specs.declared.Line.the-variants.{Lift, Unreadable}
+use Rattle.lift_line.specs.declared.Line.the-variants.{Wanted, Unreadable}
 use Rattle.lift_line.specs.Lines.{fieldAt, endOf, numberAt, readable, lineOf}
 
 -- "7 12 0 3" and a newline; without the newline; with a second line
-pub four-numbers : lineOf (55 ∷ 32 ∷ 49 ∷ 50 ∷ 32 ∷ 48 ∷ 32 ∷ 51 ∷ 10 ∷ []) ≡ Lift 7 12 0 3
+pub four-numbers : lineOf (55 ∷ 32 ∷ 49 ∷ 50 ∷ 32 ∷ 48 ∷ 32 ∷ 51 ∷ 10 ∷ []) ≡ Wanted 7 12 0 3
 unfolding lineOf readable numberAt endOf fieldAt
 four-numbers = refl
 
-pub no-newline : lineOf (55 ∷ 32 ∷ 49 ∷ 50 ∷ 32 ∷ 48 ∷ 32 ∷ 51 ∷ []) ≡ Lift 7 12 0 3
+pub no-newline : lineOf (55 ∷ 32 ∷ 49 ∷ 50 ∷ 32 ∷ 48 ∷ 32 ∷ 51 ∷ []) ≡ Wanted 7 12 0 3
 unfolding lineOf readable numberAt endOf fieldAt
 no-newline = refl
 
-pub second-line : lineOf (55 ∷ 32 ∷ 49 ∷ 50 ∷ 32 ∷ 48 ∷ 32 ∷ 51 ∷ 10 ∷ 120 ∷ []) ≡ Lift 7 12 0 3
+pub second-line : lineOf (55 ∷ 32 ∷ 49 ∷ 50 ∷ 32 ∷ 48 ∷ 32 ∷ 51 ∷ 10 ∷ 120 ∷ []) ≡ Wanted 7 12 0 3
 unfolding lineOf readable numberAt endOf fieldAt
 second-line = refl
 
@@ -35,7 +35,7 @@ unfolding lineOf readable numberAt endOf fieldAt
 signed = refl
 
 -- the widest seed, and one more
-pub widest-seed : lineOf (52 ∷ 50 ∷ 57 ∷ 52 ∷ 57 ∷ 54 ∷ 55 ∷ 50 ∷ 57 ∷ 53 ∷ 32 ∷ 48 ∷ 32 ∷ 48 ∷ 32 ∷ 48 ∷ []) ≡ Lift 4294967295 0 0 0
+pub widest-seed : lineOf (52 ∷ 50 ∷ 57 ∷ 52 ∷ 57 ∷ 54 ∷ 55 ∷ 50 ∷ 57 ∷ 53 ∷ 32 ∷ 48 ∷ 32 ∷ 48 ∷ 32 ∷ 48 ∷ []) ≡ Wanted 4294967295 0 0 0
 unfolding lineOf readable numberAt endOf fieldAt
 widest-seed = refl
 

@@ -9,7 +9,7 @@ use lib.Seq.{drop-at, getD-at}
 use borrow.Author.Tests.{lt-ltb}
 use Rattle.lists.specs.Basics.{all}
 use Rattle.lists.proofs.Laws.{and-left, and-right}
-use Rattle.lift_line.specs.declared.Line.the-variants.{Lift}
+use Rattle.lift_line.specs.declared.Line.the-variants.{Wanted}
 use Rattle.lift_line.specs.Lines.{digit, digitsOf, valueOf, fieldAt, endOf, numberAt, second, third, fourth, written, parted, readable, lineOf, Spelled, lineText}
 
 digits-back : (n : ℕ) (ds : List ℕ) (x : ℕ) (rest : List ℕ) → all digit ds ≡ true → length ds ≤ n → digit x ≡ false → digitsOf n (ds ++ x ∷ rest) ≡ ds
@@ -64,7 +64,7 @@ onward text at ds x es y rest p s h = record {
 }
 
 pub line-read-back : (seed bodies manifolds joints : List ℕ) → Spelled seed → Spelled bodies → Spelled manifolds → Spelled joints → valueOf 0 seed < 4294967296 →
-    lineOf (lineText seed bodies manifolds joints) ≡ Lift (valueOf 0 seed) (valueOf 0 bodies) (valueOf 0 manifolds) (valueOf 0 joints)
+    lineOf (lineText seed bodies manifolds joints) ≡ Wanted (valueOf 0 seed) (valueOf 0 bodies) (valueOf 0 manifolds) (valueOf 0 joints)
 unfolding lineOf readable
 line-read-back a b c d sa sb sc sd h =
     let t = lineText a b c d in

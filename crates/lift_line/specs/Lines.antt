@@ -7,12 +7,13 @@ use lib.Dec.{leb, ltb, eqb}
 use lib.ListN.{length, getD, drop}
 use Rattle.lists.specs.Basics.{all}
 use Rattle.lift_line.specs.declared.Line.{Line}
-use Rattle.lift_line.specs.declared.Line.the-variants.{Lift, Unreadable}
+use Rattle.lift_line.specs.declared.Line.the-variants.{Wanted, Unreadable}
 
--- the digits that a text begins with, at most n of them, and the number that they spell behind the number v
+-- is a byte one of 0 to 9?
 abbrev pub digit : ℕ → Bool
 digit x = leb 48 x && leb x 57
 
+-- the digits that a text begins with, at most n of them, and the number that they spell behind the number v
 abbrev pub digitsOf : ℕ → List ℕ → List ℕ
 digitsOf zero xs = []
 digitsOf (suc n) [] = []
@@ -22,7 +23,7 @@ abbrev pub valueOf : ℕ → List ℕ → ℕ
 valueOf v [] = v
 valueOf v (x ∷ xs) = valueOf (10 * v + (x - 48)) xs
 
--- the field at a place: its digits, at most 19; and the place after it
+-- the field at a place: its digits, at most 19; the place after it; and its number
 unfoldable pub fieldAt : List ℕ → ℕ → List ℕ
 fieldAt text at = digitsOf 19 (drop at text)
 
@@ -57,7 +58,7 @@ readable text =
 
 -- what the text asks for
 unfoldable pub lineOf : List ℕ → Line
-lineOf text = cond (readable text) (Lift (numberAt text 0) (numberAt text (second text)) (numberAt text (third text)) (numberAt text (fourth text))) Unreadable
+lineOf text = cond (readable text) (Wanted (numberAt text 0) (numberAt text (second text)) (numberAt text (third text)) (numberAt text (fourth text))) Unreadable
 
 -- ---- a line that was written: what a field may be, and four of them
 

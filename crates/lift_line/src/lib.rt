@@ -9,7 +9,7 @@ ghost use Rattle.lift_line.specs.Lines.{digit, endOf, numberAt, lineOf};
 
 // What a line asks for.
 pub enum Line {
-    Lift(u32, usize, usize, usize),
+    Wanted(u32, usize, usize, usize),
     Unreadable,
 }
 
@@ -112,7 +112,7 @@ pub fn read_line(text: &[u8]) -> Line
     if 4294967295 < seed.value {
         return Line::Unreadable;
     }
-    Line::Lift(
+    Line::Wanted(
         seed.value as u32,
         bodies.value,
         manifolds.value,

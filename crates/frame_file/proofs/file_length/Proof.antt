@@ -1,6 +1,6 @@
 -- `file_length`: within the limits no sum is too large.
 use Prim.Native.Nat.{_≤_}
-use Rattle.frame_file.proofs.Writes.{few-each}
+use Rattle.frame.proofs.Questions.{few-each}
 use native.Mathlib.Omega.{arith}
 use borrow.Author.Needs.{needs}
 use Rattle.frame_file.proofs.file_length.Statement.{statement}

@@ -1,5 +1,6 @@
 -- `put_header`: its parts, one behind the other.
-use Rattle.frame_file.proofs.Writes.{few-each, header-put}
+use Rattle.frame.proofs.Questions.{few-each}
+use Rattle.frame_file.proofs.Writes.{header-put}
 use Prim.Native.Nat.{_-_, _≤_}
 use mathlib.Core.Path.{_≡_, _∙_}
 use lib.ListN.{length, length-set}

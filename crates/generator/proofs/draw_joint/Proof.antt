@@ -13,26 +13,26 @@ next-state-requires c κs = search needs
 upper-requires : tie.Need-upper-requires
 upper-requires c κs = search needs
 
-cast-out : tie.Need-cast-out
-cast-out c = search needs
+cast-put-enabled : tie.Need-cast-put-enabled
+cast-put-enabled c = search needs
 
-add-out : tie.Need-add-out
-add-out c = search needs
-
-slice-write-out : tie.Need-slice-write-out
-slice-write-out c = search needs
+put-enabled-requires : tie.Need-put-enabled-requires
+put-enabled-requires c κs = search needs
 
 same-length : tie.Need-same-length
 same-length c = search needs
 
 returns : tie.Need-returns
 returns c =
-    let n = c .before in
+    let e = c .before .before in
+    let u = e .before in
+    let n = u .before .before in
     let p = n .before .before .before in
     let s = p .before .before .before in
     let a = s .args in (
-      joint-put (a .at) (a .bodies) (a .before) (p .draw-pair .result) (n .next-state .result) (c .upper .result) (a .out .now) (p .draw-pair .last .0) (s .pre .0) (p .draw-pair .ensures .1) (n .next-state .ensures) (c .upper .ensures .0) (p .draw-pair .ensures .0),
-      joint-state (a .at) (a .bodies) (a .before) (p .draw-pair .result) (n .next-state .result) (c .upper .result) (a .out .now) (p .draw-pair .last .0) (s .pre .0) (p .draw-pair .ensures .1) (n .next-state .ensures) (c .upper .ensures .0) (p .draw-pair .ensures .0),
+      joint-put (a .at) (a .bodies) (a .before) (p .draw-pair .result) (n .next-state .result) (u .upper .result) (a .out .now) (p .draw-pair .last .0) (e .put-enabled .last .0) (s .pre .0)
+          (p .draw-pair .ensures .1) (n .next-state .ensures) (u .upper .ensures .0) (p .draw-pair .ensures .0) (e .put-enabled .ensures),
+      joint-state (a .before) (p .draw-pair .result) (n .next-state .result) (p .draw-pair .ensures .1) (n .next-state .ensures),
     )
 
 pub draw-joint-spec : {M : Type 1} → statement M
@@ -42,8 +42,7 @@ draw-joint-spec =
     draw-pair-requires
     next-state-requires
     upper-requires
-    cast-out
-    add-out
-    slice-write-out
+    cast-put-enabled
+    put-enabled-requires
     same-length
     returns)

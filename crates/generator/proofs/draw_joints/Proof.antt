@@ -7,14 +7,14 @@ use Rattle.lists.specs.Basics.{put}
 use Rattle.frame_file.specs.Written.{pairBytes}
 use Rattle.generator.specs.Draws.{draw, pairDrawn}
 use Rattle.generator.proofs.Calls.{two-bodies}
-use Rattle.generator.proofs.Loops.{Stands, stands-first, stands-long, stands-next, joints, joints-none, joints-size, joints-next, pair-size}
+use Rattle.generator.proofs.Loops.{Drawn, drawn-first, drawn-long, drawn-next, joints, joints-none, joints-size, joints-next, pair-size}
 use borrow.Author.Needs.{needs}
 use native.Mathlib.Omega.{arith}
 use Rattle.generator.proofs.draw_joints.Statement.{statement}
 use Rattle.generator.proofs.draw_joints.Tie as tie
 
 abbrev Inv-loop : tie.InvT-loop
-Inv-loop out₀ at bodies count before state₀ i₀ out state i = (i ≤ count) × Stands 3 (joints before bodies) at before i out₀ out state
+Inv-loop out₀ at bodies count before state₀ i₀ out state i = (i ≤ count) × Drawn 3 (joints before bodies) at before i out₀ out state
 
 abbrev μ-loop : tie.MeasureT-loop
 μ-loop out₀ at bodies count before state₀ i₀ out state i = count - i
@@ -23,10 +23,10 @@ long : (c : tie.At-loop Inv-loop μ-loop) → length (c .loop .out) ≡ length (
 long c =
     let s = c .before .before in
     let a = s .args in
-    stands-long 3 5 (joints (a .before) (a .bodies)) (a .at) (a .before) (a .out .now) (joints-none (a .before) (a .bodies)) (joints-size (a .before) (a .bodies)) (c .loop .i) (c .loop .out) (c .loop .state) (c .loop .inv .1) (omega (arith, c .loop .inv .0, s .pre .0))
+    drawn-long 3 5 (joints (a .before) (a .bodies)) (a .at) (a .before) (a .out .now) (joints-none (a .before) (a .bodies)) (joints-size (a .before) (a .bodies)) (c .loop .i) (c .loop .out) (c .loop .state) (c .loop .inv .1) (omega (arith, c .loop .inv .0, s .pre .0))
 
 loop-holds : tie.Need-loop-holds Inv-loop μ-loop
-loop-holds c = let a = c .before .args in (omega arith, stands-first 3 5 (joints (a .before) (a .bodies)) (a .at) (a .before) (a .out .now) (joints-none (a .before) (a .bodies)) (joints-size (a .before) (a .bodies)))
+loop-holds c = let a = c .before .args in (omega arith, drawn-first 3 5 (joints (a .before) (a .bodies)) (a .at) (a .before) (a .out .now) (joints-none (a .before) (a .bodies)) (joints-size (a .before) (a .bodies)))
 
 mul-draw-joint : tie.Need-mul-draw-joint Inv-loop μ-loop
 mul-draw-joint c = omega (arith, c .before .loop-test .taken, c .before .before .before .before .pre .0, c .before .before .before .before .good)
@@ -54,8 +54,8 @@ loop-again c =
     let s = t .before .before .before in
     let a = s .args in (
       omega (arith, t .loop-test .taken),
-      stands-next 3 5 (joints (a .before) (a .bodies)) (a .at) (a .before) (a .out .now) (joints-none (a .before) (a .bodies)) (joints-size (a .before) (a .bodies)) (l .i) (l .out) (l .state) (l .inv .1) (pairBytes (pairDrawn (a .bodies) 0 (l .state)) ++ (draw 2 (l .state) % 2) ∷ []) (p .draw-joint .last .0) (p .draw-joint .result)
-          (joints-next (a .before) (a .bodies) (l .i) (l .state) (l .inv .1 .drawn)) (p .draw-joint .ensures .0) (omega (arith, length-append (pairBytes (pairDrawn (a .bodies) 0 (l .state))) ((draw 2 (l .state) % 2) ∷ []), pair-size (a .bodies) (l .state), t .loop-test .taken, s .pre .0)) (p .draw-joint .ensures .1),
+      drawn-next 3 5 (joints (a .before) (a .bodies)) (a .at) (a .before) (a .out .now) (joints-none (a .before) (a .bodies)) (joints-size (a .before) (a .bodies)) (l .i) (l .out) (l .state) (l .inv .1) (pairBytes (pairDrawn (a .bodies) 0 (l .state)) ++ (draw 2 (l .state) % 2) ∷ []) (p .draw-joint .last .0) (p .draw-joint .result)
+          (joints-next (a .before) (a .bodies) (l .i) (l .state) (l .inv .1 .state-left)) (p .draw-joint .ensures .0) (omega (arith, length-append (pairBytes (pairDrawn (a .bodies) 0 (l .state))) ((draw 2 (l .state) % 2) ∷ []), pair-size (a .bodies) (l .state), t .loop-test .taken, s .pre .0)) (p .draw-joint .ensures .1),
     )
 
 same-length : tie.Need-same-length Inv-loop μ-loop

@@ -74,8 +74,11 @@ returns c =
     let u = c .before .before .before .before in
     let n = u .before .before in
     let s = n .before .before .before in
-    let laws = pair-is (s .args .bodies) (s .args .before) (n .before .next-state .result) (n .next-state2 .result) (u .before .upper .result) (u .upper2 .result) (n .before .next-state .ensures) (n .next-state2 .ensures) (u .before .upper .ensures .0) (u .upper2 .ensures .0) in
-    (c .before .before .put-pair .ensures ∙ ap (λ (l : List ℕ). put (s .args .at) (pairBytes l) (s .args .out .now)) laws, pair-state (s .args .bodies) (s .args .before) (n .before .next-state .result) (n .next-state2 .result) (u .before .upper .result) (u .upper2 .result) (n .before .next-state .ensures) (n .next-state2 .ensures) (u .before .upper .ensures .0) (u .upper2 .ensures .0))
+    let a = s .args in
+    let pair = pair-is (a .bodies) (a .before) (n .before .next-state .result) (n .next-state2 .result) (u .before .upper .result) (u .upper2 .result) (n .before .next-state .ensures) (n .next-state2 .ensures) (u .before .upper .ensures .0) (u .upper2 .ensures .0) in (
+      c .before .before .put-pair .ensures ∙ ap (λ (l : List ℕ). put (a .at) (pairBytes l) (a .out .now)) pair,
+      pair-state (a .before) (n .before .next-state .result) (n .next-state2 .result) (n .before .next-state .ensures) (n .next-state2 .ensures),
+    )
 
 pub draw-pair-spec : {M : Type 1} → statement M
 draw-pair-spec =

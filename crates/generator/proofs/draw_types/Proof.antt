@@ -5,14 +5,14 @@ use mathlib.Core.List.{[], _∷_}
 use lib.ListN.{length, set}
 use Rattle.lists.specs.Basics.{put}
 use Rattle.generator.specs.Draws.{stateAfter}
-use Rattle.generator.proofs.Loops.{Stands, stands-first, stands-long, stands-next, byte-next, one-step, types, types-none, types-size, types-next}
+use Rattle.generator.proofs.Loops.{Drawn, drawn-first, drawn-long, drawn-next, byte-next, one-step, types, types-none, types-size, types-next}
 use borrow.Author.Needs.{needs}
 use native.Mathlib.Omega.{arith}
 use Rattle.generator.proofs.draw_types.Statement.{statement}
 use Rattle.generator.proofs.draw_types.Tie as tie
 
 abbrev Inv-loop : tie.InvT-loop
-Inv-loop out₀ at count seed state₀ i₀ out state i = (i ≤ count) × Stands 1 (types seed) at seed i out₀ out state
+Inv-loop out₀ at count seed state₀ i₀ out state i = (i ≤ count) × Drawn 1 (types seed) at seed i out₀ out state
 
 abbrev μ-loop : tie.MeasureT-loop
 μ-loop out₀ at count seed state₀ i₀ out state i = count - i
@@ -21,10 +21,10 @@ long : (c : tie.At-loop Inv-loop μ-loop) → length (c .loop .out) ≡ length (
 long c =
     let s = c .before .before in
     let a = s .args in
-    stands-long 1 1 (types (a .seed)) (a .at) (a .seed) (a .out .now) (types-none (a .seed)) (types-size (a .seed)) (c .loop .i) (c .loop .out) (c .loop .state) (c .loop .inv .1) (omega (arith, c .loop .inv .0, s .pre))
+    drawn-long 1 1 (types (a .seed)) (a .at) (a .seed) (a .out .now) (types-none (a .seed)) (types-size (a .seed)) (c .loop .i) (c .loop .out) (c .loop .state) (c .loop .inv .1) (omega (arith, c .loop .inv .0, s .pre))
 
 loop-holds : tie.Need-loop-holds Inv-loop μ-loop
-loop-holds c = let a = c .before .args in (omega arith, stands-first 1 1 (types (a .seed)) (a .at) (a .seed) (a .out .now) (types-none (a .seed)) (types-size (a .seed)))
+loop-holds c = let a = c .before .args in (omega arith, drawn-first 1 1 (types (a .seed)) (a .at) (a .seed) (a .out .now) (types-none (a .seed)) (types-size (a .seed)))
 
 next-state-requires : tie.Need-next-state-requires Inv-loop μ-loop
 next-state-requires c κs = search needs
@@ -56,8 +56,8 @@ loop-again c =
     let a = s .args in
     let v = c .upper .result % 3 in (
       omega (arith, t .loop-test .taken),
-      stands-next 1 1 (types (a .seed)) (a .at) (a .seed) (a .out .now) (types-none (a .seed)) (types-size (a .seed)) (l .i) (l .out) (l .state) (l .inv .1) (v ∷ []) (set (l .out) (a .at + l .i) v) (n .next-state .result)
-          (types-next (a .seed) (l .i) (l .state) (n .next-state .result) (c .upper .result) (l .inv .1 .drawn) (n .next-state .ensures) (c .upper .ensures .0))
+      drawn-next 1 1 (types (a .seed)) (a .at) (a .seed) (a .out .now) (types-none (a .seed)) (types-size (a .seed)) (l .i) (l .out) (l .state) (l .inv .1) (v ∷ []) (set (l .out) (a .at + l .i) v) (n .next-state .result)
+          (types-next (a .seed) (l .i) (l .state) (n .next-state .result) (c .upper .result) (l .inv .1 .state-left) (n .next-state .ensures) (c .upper .ensures .0))
           (byte-next (a .at) (l .i) v (l .out) (omega (arith, long (t .before), t .loop-test .taken, s .pre))) (omega (arith, t .loop-test .taken, s .pre)) (one-step (l .state) (n .next-state .result) (n .next-state .ensures)),
     )
 
@@ -70,7 +70,7 @@ returns c =
     let a = c .before .before .before .args in
     let e : l .i ≡ a .count = omega (arith, l .inv .0, c .loop-test .left) in
     let d : 1 * l .i ≡ a .count = omega (arith, e) in
-    (l .inv .1 .bytes ∙ ap (λ (n : ℕ). put (a .at) (types (a .seed) n) (a .out .now)) e, l .inv .1 .drawn ∙ ap (λ (n : ℕ). stateAfter n (a .seed)) d)
+    (l .inv .1 .bytes ∙ ap (λ (n : ℕ). put (a .at) (types (a .seed) n) (a .out .now)) e, l .inv .1 .state-left ∙ ap (λ (n : ℕ). stateAfter n (a .seed)) d)
 
 pub draw-types-spec : {M : Type 1} → statement M
 draw-types-spec =

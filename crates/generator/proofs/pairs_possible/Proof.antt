@@ -1,5 +1,5 @@
 -- `pairs_possible`: within the limits the sum is not too large.
-use Rattle.frame_file.proofs.Writes.{few-each}
+use Rattle.frame.proofs.Questions.{few-each}
 use mathlib.Core.Path.{refl}
 use Rattle.generator.specs.Calls.{pairsPossible}
 use native.Mathlib.Omega.{arith}

@@ -2,7 +2,7 @@
 use Prim.Native.Nat.{_≤_}
 use mathlib.Core.Path.{_≡_, _∙_}
 use lib.ListN.{length}
-use Rattle.frame_file.proofs.Writes.{few-each}
+use Rattle.frame.proofs.Questions.{few-each}
 use Rattle.generator.proofs.Calls.{fewer-pairs}
 use Rattle.generator.proofs.Whole.{whole-put}
 use native.Mathlib.Omega.{arith}
@@ -59,7 +59,7 @@ returns c =
     let h = t .before .before .before .before in
     let s = h .before .before .before in
     let a = s .args in
-    whole-put (a .seed) (a .bodies) (a .manifolds) (a .joints) (a .out .now) (h .put-header .last .0) (t .draw-types .last .0) (m .draw-manifolds .last .0) (j .draw-joints .last .0)
+    whole-put (a .seed) (a .bodies) (a .manifolds) (a .joints) (s .pre .0) (a .out .now) (h .put-header .last .0) (t .draw-types .last .0) (m .draw-manifolds .last .0) (j .draw-joints .last .0)
     (t .draw-types .result) (m .draw-manifolds .result) (s .pre .2) (h .put-header .ensures) (t .draw-types .ensures .0) (t .draw-types .ensures .1) (m .draw-manifolds .ensures .0) (m .draw-manifolds .ensures .1) (j .draw-joints .ensures)
 
 pub write-lift-spec : {M : Type 1} → statement M

@@ -1,16 +1,16 @@
--- `number_at` meets its contract. The invariant is `Reading`: the digits left, behind the value, spell the field's number.
+-- `number_at` meets its contract. The invariant is `NumberRead`: the digits left, behind the value, spell the field's number.
 use Prim.Native.Nat.{_+_, _-_, _*_, _^_, _≤_, _<_}
 use mathlib.Core.Path.{sym, _∙_}
 use native.Mathlib.Omega.{arith}
 use borrow.Author.Needs.{needs}
 use borrow.Author.Tests.{not-true, not-false}
 use lib.ListN.{length}
-use Rattle.lift_line.proofs.Numbers.{Reading, read-first, read-all, read-none, read-fits, read-turn}
+use Rattle.lift_line.proofs.Numbers.{NumberRead, read-first, read-all, read-none, read-fits, read-turn}
 use Rattle.lift_line.proofs.number_at.Statement.{statement}
 use Rattle.lift_line.proofs.number_at.Tie as tie
 
 abbrev Inv-loop : tie.InvT-loop
-Inv-loop text at value₀ end₀ read₀ value end read = Reading text at value end read
+Inv-loop text at value₀ end₀ read₀ value end read = NumberRead text at value end read
 
 abbrev μ-loop : tie.MeasureT-loop
 μ-loop text at value₀ end₀ read₀ value end read = 19 - read
