@@ -15,7 +15,7 @@ unfolding headerBytes wordBytes halfBytes
 header-long b m j = refl
 
 -- put from place 0 on
-put-over : (new old : List ℕ) → put 0 new old ≡ over new old
+pub put-over : (new old : List ℕ) → put 0 new old ≡ over new old
 unfolding put
 put-over new old = let e : 0 + length new ≡ length new = omega arith in ap (λ (n : ℕ). new ++ drop n old) e
 

@@ -1,35 +1,18 @@
 // The program `generate_frame`: a line of four numbers from standard input, seed, bodies, manifolds and joints, in decimal and parted by
 // one space; the test lift that it asks for, in the file form, to standard output. A lift that can't be made is `refused N`. A line that
-// can't be read gets a message on standard error, and nothing goes to standard output.
+// can't be read gets a message on standard error, and nothing goes to standard output. What is printed is made by `lift_print`.
 use frame::Frame;
-use generator::Generated;
 use libc::STDERR_FILENO;
 use libc::STDIN_FILENO;
 use libc::STDOUT_FILENO;
-use lift_line::Line;
 
 // One byte more than a line can have that is read: four numbers of 19 digits and three spaces.
 const LINE: usize = 80;
 
-// Writes the first bytes of a text. (Every caller has them.)
+// Writes the first bytes of a text. (The caller has them.)
 fn write_first(text: &[u8], size: usize) {
     if size <= text.len() {
         io::write_all(STDOUT_FILENO, &text[..size]);
-    }
-}
-
-fn write_refusal(number: u8) {
-    let mut line = [0u8; printing::MAX_LINE];
-    let size = printing::put_refusal(&mut line, 0, number as usize);
-    write_first(&line, size);
-}
-
-fn write_frame(seed: u32, bodies: usize, manifolds: usize, joints: usize) {
-    let mut bytes = [0u8; Frame::MAX_BYTES];
-    let answer = generator::generate(seed, bodies, manifolds, joints, &mut bytes);
-    match answer {
-        Generated::Frame(length) => write_first(&bytes, length),
-        Generated::Refused(number) => write_refusal(number),
     }
 }
 
@@ -42,15 +25,11 @@ fn complain() {
 
 fn main() {
     let mut text = [0u8; LINE];
-    let size = io::read_full(STDIN_FILENO, &mut text);
-    let line = lift_line::read_line(&text[..size]);
-    match line {
-        Line::Wanted(seed, bodies, manifolds, joints) => write_frame(
-            seed,
-            bodies,
-            manifolds,
-            joints,
-        ),
-        Line::Unreadable => complain(),
+    let mut out = [0u8; Frame::MAX_BYTES];
+    let read = io::read_full(STDIN_FILENO, &mut text);
+    let size = lift_print::put_print(&text[..read], &mut out);
+    if size == 0 {
+        complain();
     }
+    write_first(&out, size);
 }

@@ -91,7 +91,7 @@ module _ (seed b m j : ℕ) (few : fewEach b m j ≡ true) (two : pairsPossible 
       (pairs-sound b b 2 m seed [] (λ h. two-bodies b m j two (omega (arith, h))))
       (pairs-sound b (b + 2 * m) 3 j seed (enabled seed b m j) (λ h. two-bodies b m j two (omega (arith, h)))))
 
-  generated-long : length (generatedBytes seed b m j) ≡ fileLength b m j
+  pub generated-long : length (generatedBytes seed b m j) ≡ fileLength b m j
   unfolding generatedBytes
   generated-long = file-long _ _ _ _ parts ∙ rw (count-b seed b m j, count-m seed b m j, count-j seed b m j)
 
