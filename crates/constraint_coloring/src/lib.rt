@@ -172,11 +172,9 @@ fn rebuild(
     let color_count = painting::paint(
         flags,
         pairs,
-        &mut body_offsets[..body_count + 1],
-        body_constraints,
         scratch_offsets,
         &mut constraint_colors[..constraint_count],
-        &mut color_stamps[..constraint_count],
+        &mut body_stamps[..body_count],
     );
     let largest = list_groups(
         body_count,

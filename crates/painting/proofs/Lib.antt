@@ -1,6 +1,6 @@
-pub mod Pairs
-pub mod Counts
-pub mod Scan
-pub mod Used
 pub mod Lists
-pub mod Steps
+pub mod Pairs
+pub mod Used
+pub mod Promised
+pub mod Passing
+pub mod Walks

@@ -1,32 +1,15 @@
--- The endpoint pairs as the code reads them: constraint i has its bodies at places 2 × i and 2 × i + 1, two different ones that exist.
+-- The endpoint pairs as the code reads them: constraint i has its bodies at places 2 × i and 2 × i + 1, two that exist.
 use Prim.Native.Nat.{ℕ, zero, suc, _+_, _*_, _<_}
 use mathlib.Core.Path.{_≡_, refl, ap}
-use mathlib.Core.Bool.{true, false, not}
+use mathlib.Core.Bool.{true, _&&_}
 use mathlib.Core.List.{List, [], _∷_}
 use native.Mathlib.Omega.{arith}
-use lib.Dec.{ltb, eqb}
+use lib.Dec.{leb, ltb}
 use lib.ListN.{length, getD}
-use borrow.Author.Tests.{ltb-true, lt-ltb, eq-eqb, not-true}
-use Rattle.lists.specs.Basics.{all, mem, distinct}
-use Rattle.lists.proofs.Laws.{and-left, and-right, and-both, or-left, clashes}
-use Rattle.frame.specs.Frames.{fits}
+use Rattle.lists.specs.Basics.{all, distinct}
+use Rattle.lists.proofs.Laws.{and-left, and-right, and-both, all-append}
+use Rattle.frame.specs.Frames.{fewest, most, fits}
 use Rattle.groups.specs.Groups.{pairsOf}
-
-pub record Pair (nb a b : ℕ) : Type 0 where
-  pub a-in : a < nb
-  pub b-in : b < nb
-  pub apart : a ≡ b → ⊥
-
-pub fits-pair : (nb a b : ℕ) → fits nb (a ∷ b ∷ []) ≡ true → Pair nb a b
-unfolding fits
-fits-pair nb a b h =
-    let d = and-left (distinct (a ∷ b ∷ [])) (all (λ x. ltb x nb) (a ∷ b ∷ [])) h in
-    let l = and-right (distinct (a ∷ b ∷ [])) (all (λ x. ltb x nb) (a ∷ b ∷ [])) h in
-    record {
-      a-in = ltb-true a nb (and-left (ltb a nb) (all (λ x. ltb x nb) (b ∷ [])) l);
-      b-in = ltb-true b nb (and-left (ltb b nb) true (and-right (ltb a nb) (all (λ x. ltb x nb) (b ∷ [])) l));
-      apart = λ e. clashes (mem a (b ∷ [])) (or-left (eqb a b) false (eq-eqb a b e)) (not-true (mem a (b ∷ [])) (and-left (not (mem a (b ∷ []))) (distinct (b ∷ [])) d));
-    }
 
 pub pairs-length : (n : ℕ) (es : List ℕ) → length es ≡ 2 * n → length (pairsOf es) ≡ n
 pairs-length zero [] e = refl
@@ -46,14 +29,16 @@ pair-at (suc i) (a ∷ b ∷ es) h =
     rw (q, p) (pair-at i es (omega arith))
 
 module _ (nb : ℕ) where
-  pub pair-sound : (i : ℕ) (es : List ℕ) → all (fits nb) (pairsOf es) ≡ true → 2 * i + 1 < length es → Pair nb (getD es (2 * i) 0) (getD es (2 * i + 1) 0)
-  pair-sound i [] s h = absurd (omega arith)
-  pair-sound i (a ∷ []) s h = absurd (omega arith)
-  pair-sound zero (a ∷ b ∷ es) s h = fits-pair nb a b (and-left (fits nb (a ∷ b ∷ [])) (all (fits nb) (pairsOf es)) s)
-  pair-sound (suc i) (a ∷ b ∷ es) s h =
-      let p : 2 * suc i ≡ suc (suc (2 * i)) = omega arith in
-      let q : 2 * suc i + 1 ≡ suc (suc (2 * i + 1)) = omega arith in
-      rw (q, p) (pair-sound i es (and-right (fits nb (a ∷ b ∷ [])) (all (fits nb) (pairsOf es)) s) (omega arith))
+  fits-in : (bs : List ℕ) → fits nb bs ≡ true → all (λ b. ltb b nb) bs ≡ true
+  unfolding fits
+  fits-in bs h = and-right (leb fewest (length bs) && leb (length bs) most && distinct bs) (all (λ b. ltb b nb) bs) h
+
+  -- the bodies of every constraint exist
+  pub bodies-in : (cs : List (List ℕ)) → all (fits nb) cs ≡ true → all (λ bs. all (λ b. ltb b nb) bs) cs ≡ true
+  bodies-in [] h = refl
+  bodies-in (c ∷ cs) h =
+      and-both (all (λ b. ltb b nb) c) (all (λ bs. all (λ b. ltb b nb) bs) cs)
+      (fits-in c (and-left (fits nb c) (all (fits nb) cs) h)) (bodies-in cs (and-right (fits nb c) (all (fits nb) cs) h))
 
   -- every entry is a body
   pub entries-in : (n : ℕ) (es : List ℕ) → length es ≡ 2 * n → all (fits nb) (pairsOf es) ≡ true → all (λ b. ltb b nb) es ≡ true
@@ -61,6 +46,5 @@ module _ (nb : ℕ) where
   entries-in n (a ∷ []) e s = absurd (omega arith)
   entries-in zero (a ∷ b ∷ es) e s = absurd (omega arith)
   entries-in (suc n) (a ∷ b ∷ es) e s =
-      let v = fits-pair nb a b (and-left (fits nb (a ∷ b ∷ [])) (all (fits nb) (pairsOf es)) s) in
-      let r = entries-in n es (omega arith) (and-right (fits nb (a ∷ b ∷ [])) (all (fits nb) (pairsOf es)) s) in
-      and-both (ltb a nb) (all (λ x. ltb x nb) (b ∷ es)) (lt-ltb a nb (v .a-in)) (and-both (ltb b nb) (all (λ x. ltb x nb) es) (lt-ltb b nb (v .b-in)) r)
+      all-append (λ x. ltb x nb) (a ∷ b ∷ []) es (fits-in (a ∷ b ∷ []) (and-left (fits nb (a ∷ b ∷ [])) (all (fits nb) (pairsOf es)) s))
+      (entries-in n es (omega arith) (and-right (fits nb (a ∷ b ∷ [])) (all (fits nb) (pairsOf es)) s))

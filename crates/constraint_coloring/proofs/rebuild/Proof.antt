@@ -2,7 +2,7 @@
 -- beyond them comes back as it was.
 use Prim.Native.Nat.{_+_, _*_, _/_, _≤_}
 use mathlib.Core.List.{_++_}
-use mathlib.Core.Path.{sym, _∙_}
+use mathlib.Core.Path.{_≡_, refl, sym, _∙_}
 use native.Mathlib.Omega.{arith}
 use denote.Ref.{now}
 use lib.ListN.{length, take, drop}
@@ -40,32 +40,39 @@ ok s = accepted (now (s .args .flags)) (now (s .args .pairs)) (entry s) (s .pre)
 
 -- the places before and after each call
 abbrev start : tie.After-paint → tie.Start
-start p = p .before .before .before .before .before .before .before .before .before .before .before .before .before .before .before .before .before .before .before .before .before .before .before .before .before .before .before .before .before
+start p = p .before .before .before .before .before .before .before .before .before .before .before .before .before .before .before .before .before .before .before .before .before .before .before .before .before .before .before
 
 abbrev before-paint : tie.After-slice-known15 → tie.Start
 before-paint c = c .before .before .before .before .before .before .before .before .before .before .before .before .before .before .before .before .before .before .before .before .before .before .before
 
-abbrev before-list : tie.After-slice-known20 → tie.After-paint
-before-list c = c .before .before .before .before .before .before .before .before .before .before
+abbrev before-list : tie.After-slice-known18 → tie.After-paint
+before-list c = c .before .before .before .before .before .before
 
 abbrev after-paint : tie.After-list-groups-arg8 → tie.After-paint
 after-paint c = before-list (c .before .before .before .before .before .before .before .before)
 
-abbrev after-list : tie.After-slice-known27 → tie.After-list-groups
+abbrev after-list : tie.After-slice-known25 → tie.After-list-groups
 after-list c = c .before .before .before .before .before .before .before .before .before .before .before .before .before .before
 
 abbrev after-pairs : tie.After-paint → tie.After-copy-pairs
-after-pairs p = p .before .before .before .before .before .before .before .before
+after-pairs p = p .before .before .before .before .before .before
 
 abbrev after-flags : tie.After-paint → tie.After-copy-flags
-after-flags p = p .before .before .before .before .before .before .before .before .before .before .before .before
+after-flags p = p .before .before .before .before .before .before .before .before .before .before
 
 -- the colors in the first places of their table
-painted : (p : tie.After-paint) → Painted (now (start p .args .flags)) (now (start p .args .pairs)) (take (length (now (start p .args .pairs)) / 2) (p .paint .last .1 .1 .1 .1 .1 .0 ++ drop (length (now (start p .args .pairs)) / 2) (now (start p .args .constraint-colors)))) (p .paint .result)
-painted p = painted-front _ (length (now (start p .args .pairs)) / 2) (p .paint .kept .1 .1 .1 .1 .1 .0 ∙ length-take-le _ _ (ok (start p) .constraint-colors)) (p .paint .ensures)
+painted : (p : tie.After-paint) → Painted (now (start p .args .flags)) (now (start p .args .pairs)) (take (length (now (start p .args .pairs)) / 2) (p .paint .last .1 .1 .1 .0 ++ drop (length (now (start p .args .pairs)) / 2) (now (start p .args .constraint-colors)))) (p .paint .result)
+painted p = painted-front _ (length (now (start p .args .pairs)) / 2) (p .paint .kept .1 .1 .1 .0 ∙ length-take-le _ _ (ok (start p) .constraint-colors)) (p .paint .ensures)
 
-colors-back : (p : tie.After-paint) → length (now (start p .args .pairs)) / 2 ≤ length (p .paint .last .1 .1 .1 .1 .1 .0 ++ drop (length (now (start p .args .pairs)) / 2) (now (start p .args .constraint-colors)))
-colors-back p = omega (arith, length-front (now (start p .args .constraint-colors)) (p .paint .last .1 .1 .1 .1 .1 .0) (length (now (start p .args .pairs)) / 2) (p .paint .kept .1 .1 .1 .1 .1 .0), ok (start p) .constraint-colors)
+colors-back : (p : tie.After-paint) → length (now (start p .args .pairs)) / 2 ≤ length (p .paint .last .1 .1 .1 .0 ++ drop (length (now (start p .args .pairs)) / 2) (now (start p .args .constraint-colors)))
+colors-back p = omega (arith, length-front (now (start p .args .constraint-colors)) (p .paint .last .1 .1 .1 .0) (length (now (start p .args .pairs)) / 2) (p .paint .kept .1 .1 .1 .0), ok (start p) .constraint-colors)
+
+-- the stamps come back as long as they were
+stamps-back : (p : tie.After-paint) → length (p .paint .last .1 .1 .1 .1 .0 ++ drop (length (now (start p .args .flags))) (now (start p .args .body-stamps))) ≡ length (now (start p .args .body-stamps))
+stamps-back p = length-front (now (start p .args .body-stamps)) (p .paint .last .1 .1 .1 .1 .0) (length (now (start p .args .flags))) (p .paint .kept .1 .1 .1 .1 .0)
+
+stamps-long : (p : tie.After-paint) → length (now (start p .args .flags)) ≤ length (p .paint .last .1 .1 .1 .1 .0 ++ drop (length (now (start p .args .flags))) (now (start p .args .body-stamps)))
+stamps-long p = omega (arith, stamps-back p, ok (start p) .body-stamps)
 
 groups-in : (p : tie.After-paint) → p .paint .result ≤ length (now (start p .args .pairs)) / 2
 groups-in p = groups-few (ok (start p)) (p .paint .ensures)
@@ -76,41 +83,29 @@ copy-flags-requires c κs = ok (c .before .before .before .before .before .befor
 copy-pairs-requires : tie.Need-copy-pairs-requires
 copy-pairs-requires c κs = let o = ok (c .before .before .before .before .before .before .before .before .before .before .before .before .before .before .before .before .before .before .before .before) in omega (arith, o .even, o .endpoints)
 
-add-paint : tie.Need-add-paint
-add-paint c = omega (arith, ok (before-paint c) .few-bodies)
-
 slice-relend-prefix-paint : tie.Need-slice-relend-prefix-paint
-slice-relend-prefix-paint c = ok (before-paint c) .body-offsets
+slice-relend-prefix-paint c = ok (before-paint (c .before)) .constraint-colors
 
 slice-aggregate-paint : tie.Need-slice-aggregate-paint
-slice-aggregate-paint c = sym (length-take-le _ _ (ok (before-paint (c .before)) .body-offsets))
+slice-aggregate-paint c = sym (length-take-le _ _ (ok (before-paint (c .before .before)) .constraint-colors))
 
 slice-relend-prefix-paint-2 : tie.Need-slice-relend-prefix-paint-2
-slice-relend-prefix-paint-2 c = ok (before-paint (c .before .before .before)) .constraint-colors
+slice-relend-prefix-paint-2 c = ok (before-paint (c .before .before)) .body-stamps
 
 slice-aggregate-paint-2 : tie.Need-slice-aggregate-paint-2
-slice-aggregate-paint-2 c = sym (length-take-le _ _ (ok (before-paint (c .before .before .before .before)) .constraint-colors))
-
-slice-relend-prefix-paint-3 : tie.Need-slice-relend-prefix-paint-3
-slice-relend-prefix-paint-3 c = ok (before-paint (c .before .before .before .before)) .color-stamps
-
-slice-aggregate-paint-3 : tie.Need-slice-aggregate-paint-3
-slice-aggregate-paint-3 c = sym (length-take-le _ _ (ok (before-paint (c .before .before .before .before .before)) .color-stamps))
+slice-aggregate-paint-2 c = sym (length-take-le _ _ (ok (before-paint (c .before .before .before)) .body-stamps))
 
 paint-requires : tie.Need-paint-requires
 paint-requires c κs =
-    let s = before-paint (c .before .before .before .before .before) in
+    let s = before-paint (c .before .before .before) in
     let o = ok s in
     let colors = length-take-le (length (now (s .args .pairs)) / 2) (now (s .args .constraint-colors)) (o .constraint-colors) in
     record {
-      bodies = o .few-bodies;
       constraints = omega (arith, o .even, colors);
       few = omega (arith, o .few-pairs, colors);
       sound = o .sound;
-      offsets-length = length-take-le _ _ (o .body-offsets);
-      adjacency-length = omega (arith, o .even, o .body-constraints);
-      scratch-length = o .scratch-bodies;
-      stamps-length = length-take-le _ _ (o .color-stamps) ∙ sym colors;
+      room = omega (arith, o .scratch-constraints, colors);
+      stamps-length = length-take-le _ _ (o .body-stamps);
     }
 
 slice-reshare-prefix-list-groups : tie.Need-slice-reshare-prefix-list-groups
@@ -120,10 +115,10 @@ slice-aggregate-list-groups : tie.Need-slice-aggregate-list-groups
 slice-aggregate-list-groups c = sym (length-take-le _ _ (colors-back (before-list (c .before))))
 
 slice-relend-prefix-list-groups : tie.Need-slice-relend-prefix-list-groups
-slice-relend-prefix-list-groups c = ok (start (before-list (c .before .before))) .body-stamps
+slice-relend-prefix-list-groups c = stamps-long (before-list (c .before .before))
 
 slice-aggregate-list-groups-2 : tie.Need-slice-aggregate-list-groups-2
-slice-aggregate-list-groups-2 c = sym (length-take-le _ _ (ok (start (before-list (c .before .before .before))) .body-stamps))
+slice-aggregate-list-groups-2 c = sym (length-take-le _ _ (stamps-long (before-list (c .before .before .before))))
 
 add-list-groups : tie.Need-add-list-groups
 add-list-groups c = omega (arith, groups-in (before-list (c .before .before .before)), ok (start (before-list (c .before .before .before))) .few-pairs)
@@ -176,9 +171,9 @@ list-groups-requires c κs =
     let few = groups-in p in
     record {
       colored = colored o q;
-      scratch-colors = omega (arith, few, p .paint .kept .1 .1 .1 .1 .0, o .scratch-constraints);
-      scratch-bodies = omega (arith, p .paint .kept .1 .1 .1 .1 .0, o .scratch-bodies);
-      stamps = length-take-le _ _ (o .body-stamps);
+      scratch-colors = omega (arith, few, p .paint .kept .1 .1 .0, o .scratch-constraints);
+      scratch-bodies = omega (arith, p .paint .kept .1 .1 .0, o .scratch-bodies);
+      stamps = length-take-le _ _ (stamps-long p);
       ends = length-take-le _ _ (omega (arith, few, o .color-offsets));
       constraints = length-take-le _ _ (o .colored-constraints) ∙ sym long;
       body-ends = length-take-le _ _ (omega (arith, few, o .color-body-offsets));
@@ -193,61 +188,46 @@ same-length-2 : tie.Need-same-length-2
 same-length-2 c = after-pairs (after-paint (after-list c .before)) .copy-pairs .kept .1 .0
 
 same-length-3 : tie.Need-same-length-3
-same-length-3 c =
-    let p = after-paint (after-list c .before) in
-    let w = p .paint in
-    length-front (now (start p .args .body-offsets)) (w .last .1 .1 .0) (length (now (start p .args .flags)) + 1) (w .kept .1 .1 .0)
+same-length-3 c = after-list c .list-groups .kept .1 .1 .1 .1 .0 ∙ after-paint (after-list c .before) .paint .kept .1 .1 .0
 
 same-length-4 : tie.Need-same-length-4
-same-length-4 c = after-paint (after-list c .before) .paint .kept .1 .1 .1 .0
+same-length-4 c =
+    let p = after-paint (after-list c .before) in
+    let w = p .paint in
+    length-front (now (start p .args .constraint-colors)) (w .last .1 .1 .1 .0) (length (now (start p .args .pairs)) / 2) (w .kept .1 .1 .1 .0)
 
 same-length-5 : tie.Need-same-length-5
-same-length-5 c = after-list c .list-groups .kept .1 .1 .1 .1 .0 ∙ after-paint (after-list c .before) .paint .kept .1 .1 .1 .1 .0
+same-length-5 c =
+    let p = after-paint (after-list c .before) in
+    let w = after-list c .list-groups in
+    length-front (p .paint .last .1 .1 .1 .1 .0 ++ drop (length (now (start p .args .flags))) (now (start p .args .body-stamps))) (w .last .1 .1 .1 .1 .1 .0) (length (now (start p .args .flags))) (w .kept .1 .1 .1 .1 .1 .0) ∙ stamps-back p
 
 same-length-6 : tie.Need-same-length-6
 same-length-6 c =
     let p = after-paint (after-list c .before) in
-    let w = p .paint in
-    length-front (now (start p .args .constraint-colors)) (w .last .1 .1 .1 .1 .1 .0) (length (now (start p .args .pairs)) / 2) (w .kept .1 .1 .1 .1 .1 .0)
+    let w = after-list c .list-groups in
+    length-front (now (start p .args .color-offsets)) (w .last .1 .1 .1 .1 .1 .1 .0) (p .paint .result + 1) (w .kept .1 .1 .1 .1 .1 .1 .0)
 
 same-length-7 : tie.Need-same-length-7
 same-length-7 c =
     let p = after-paint (after-list c .before) in
-    let w = p .paint in
-    length-front (now (start p .args .color-stamps)) (w .last .1 .1 .1 .1 .1 .1 .0) (length (now (start p .args .pairs)) / 2) (w .kept .1 .1 .1 .1 .1 .1 .0)
+    let w = after-list c .list-groups in
+    length-front (now (start p .args .colored-constraints)) (w .last .1 .1 .1 .1 .1 .1 .1 .0) (length (now (start p .args .pairs)) / 2) (w .kept .1 .1 .1 .1 .1 .1 .1 .0)
 
 same-length-8 : tie.Need-same-length-8
 same-length-8 c =
     let p = after-paint (after-list c .before) in
     let w = after-list c .list-groups in
-    length-front (now (start p .args .body-stamps)) (w .last .1 .1 .1 .1 .1 .0) (length (now (start p .args .flags))) (w .kept .1 .1 .1 .1 .1 .0)
+    length-front (now (start p .args .color-body-offsets)) (w .last .1 .1 .1 .1 .1 .1 .1 .1 .0) (p .paint .result + 1) (w .kept .1 .1 .1 .1 .1 .1 .1 .1 .0)
 
 same-length-9 : tie.Need-same-length-9
 same-length-9 c =
     let p = after-paint (after-list c .before) in
     let w = after-list c .list-groups in
-    length-front (now (start p .args .color-offsets)) (w .last .1 .1 .1 .1 .1 .1 .0) (p .paint .result + 1) (w .kept .1 .1 .1 .1 .1 .1 .0)
+    length-front (now (start p .args .color-bodies)) (w .last .1 .1 .1 .1 .1 .1 .1 .1 .1 .0) (2 * (length (now (start p .args .pairs)) / 2)) (w .kept .1 .1 .1 .1 .1 .1 .1 .1 .1 .0)
 
 same-length-10 : tie.Need-same-length-10
 same-length-10 c =
-    let p = after-paint (after-list c .before) in
-    let w = after-list c .list-groups in
-    length-front (now (start p .args .colored-constraints)) (w .last .1 .1 .1 .1 .1 .1 .1 .0) (length (now (start p .args .pairs)) / 2) (w .kept .1 .1 .1 .1 .1 .1 .1 .0)
-
-same-length-11 : tie.Need-same-length-11
-same-length-11 c =
-    let p = after-paint (after-list c .before) in
-    let w = after-list c .list-groups in
-    length-front (now (start p .args .color-body-offsets)) (w .last .1 .1 .1 .1 .1 .1 .1 .1 .0) (p .paint .result + 1) (w .kept .1 .1 .1 .1 .1 .1 .1 .1 .0)
-
-same-length-12 : tie.Need-same-length-12
-same-length-12 c =
-    let p = after-paint (after-list c .before) in
-    let w = after-list c .list-groups in
-    length-front (now (start p .args .color-bodies)) (w .last .1 .1 .1 .1 .1 .1 .1 .1 .1 .0) (2 * (length (now (start p .args .pairs)) / 2)) (w .kept .1 .1 .1 .1 .1 .1 .1 .1 .1 .0)
-
-same-length-13 : tie.Need-same-length-13
-same-length-13 c =
     let p = after-paint (after-list c .before) in
     let w = after-list c .list-groups in
     length-front (now (start p .args .constraint-body-positions)) (w .last .1 .1 .1 .1 .1 .1 .1 .1 .1 .1 .0) (2 * (length (now (start p .args .pairs)) / 2)) (w .kept .1 .1 .1 .1 .1 .1 .1 .1 .1 .1 .0)
@@ -264,12 +244,12 @@ returns c =
       plan = plan-is o q (l .ensures);
       dynamic-bodies = after-flags p .copy-flags .ensures;
       endpoints = after-pairs p .copy-pairs .ensures;
-      body-offsets = same-length-3 c;
-      body-constraints = same-length-4 c;
-      scratch-offsets = same-length-5 c;
-      constraint-colors = front-over _ _ _ _ (colors-planned o (p .paint .ensures)) (p .paint .kept .1 .1 .1 .1 .1 .0) (o .constraint-colors);
-      color-stamps = same-length-7 c;
-      body-stamps = same-length-8 c;
+      body-offsets = refl;
+      body-constraints = refl;
+      scratch-offsets = same-length-3 c;
+      constraint-colors = front-over _ _ _ _ (colors-planned o (p .paint .ensures)) (p .paint .kept .1 .1 .1 .0) (o .constraint-colors);
+      color-stamps = refl;
+      body-stamps = same-length-5 c;
       color-offsets = front-over _ _ _ _ (starts-planned o q (l .ensures)) (l .kept .1 .1 .1 .1 .1 .1 .0) room;
       colored-constraints = front-over _ _ _ _ (constraints-planned o q (l .ensures)) (l .kept .1 .1 .1 .1 .1 .1 .1 .0) (o .colored-constraints);
       color-body-offsets = front-over _ _ _ _ (body-starts-planned o q (l .ensures)) (l .kept .1 .1 .1 .1 .1 .1 .1 .1 .0) body-room;
@@ -283,13 +263,10 @@ rebuild-spec =
     (tie.spec
     copy-flags-requires
     copy-pairs-requires
-    add-paint
     slice-relend-prefix-paint
     slice-aggregate-paint
     slice-relend-prefix-paint-2
     slice-aggregate-paint-2
-    slice-relend-prefix-paint-3
-    slice-aggregate-paint-3
     paint-requires
     slice-reshare-prefix-list-groups
     slice-aggregate-list-groups
@@ -320,7 +297,4 @@ rebuild-spec =
     same-length-8
     same-length-9
     same-length-10
-    same-length-11
-    same-length-12
-    same-length-13
     returns)

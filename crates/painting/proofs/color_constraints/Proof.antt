@@ -1,70 +1,107 @@
--- When `constraint` constraints are done the tables hold what `Done` says; when all are, the whole table holds their colors.
-use borrow.Author.Needs.{needs}
+-- Every constraint is uncolored when color 0 is opened; `Walks` (proofs/Walks) holds whenever a color is opened. Each walk gives its color
+-- to one constraint at least, so that the colors opened are those of the groups.
+use Prim.Native.Nat.{_-_}
+use mathlib.Core.Path.{_≡_, refl, sym, _∙_}
 use native.Mathlib.Omega.{arith}
-use Prim.Native.Nat.{_-_, _≤_}
-use mathlib.Core.Path.{_≡_, refl, _∙_}
 use lib.ListN.{length}
-use Rattle.painting.specs.Painting.{Done}
-use Rattle.painting.proofs.Steps.{all-done}
+use denote.Ref.{now}
+use borrow.Author.Needs.{needs}
+use Rattle.groups.specs.Groups.{colorsOf, groupCount}
+use Rattle.parts.specs.Parts.{partsAt}
+use Rattle.painting.proofs.Walks.{Walks, walks-none, walks-few, walks-more, walks-colors, walks-count}
 use Rattle.painting.proofs.color_constraints.Statement.{statement}
 use Rattle.painting.proofs.color_constraints.Tie as tie
 
-abbrev Inv-loop : tie.InvT-loop
-Inv-loop dynamic-bodies endpoints body-offsets body-constraints₀ scratch-offsets₀ constraint-colors₀ color-stamps₀ color-count₀ constraint₀ constraint-end body-constraints scratch-offsets constraint-colors color-stamps color-count constraint =
-    (constraint ≤ length constraint-colors₀) × (length body-constraints ≡ length body-constraints₀) × (length scratch-offsets ≡ length scratch-offsets₀)
-    × (length constraint-colors ≡ length constraint-colors₀) × (length color-stamps ≡ length color-stamps₀)
-    × Done dynamic-bodies endpoints body-offsets body-constraints scratch-offsets constraint-colors color-stamps constraint color-count
+abbrev Inv-colors : tie.InvT-colors
+Inv-colors dynamic-bodies endpoints bounds remaining₀ constraint-colors₀ body-stamps₀ uncolored₀ color₀ remaining constraint-colors body-stamps uncolored color =
+    (length remaining ≡ length remaining₀) × (length constraint-colors ≡ length constraint-colors₀) × (length body-stamps ≡ length body-stamps₀)
+    × Walks dynamic-bodies (partsAt (length constraint-colors₀) bounds endpoints) color uncolored remaining constraint-colors body-stamps
 
-abbrev μ-loop : tie.MeasureT-loop
-μ-loop dynamic-bodies endpoints body-offsets body-constraints₀ scratch-offsets₀ constraint-colors₀ color-stamps₀ color-count₀ constraint₀ constraint-end body-constraints scratch-offsets constraint-colors color-stamps color-count constraint =
-    length constraint-colors₀ - constraint
+abbrev μ-colors : tie.MeasureT-colors
+μ-colors dynamic-bodies endpoints bounds remaining₀ constraint-colors₀ body-stamps₀ uncolored₀ color₀ remaining constraint-colors body-stamps uncolored color =
+    groupCount (colorsOf dynamic-bodies (partsAt (length constraint-colors₀) bounds endpoints)) - color
 
-loop-holds : tie.Need-loop-holds Inv-loop μ-loop
-loop-holds c = let s = c .before .before .before .before .before .before .before in (omega arith, refl, refl, refl, refl, s .pre)
+abbrev start : tie.After-slice-known5 Inv-colors μ-colors → tie.Start Inv-colors μ-colors
+start c = c .before .before .before .before .before .before .before .before .before .before .before .before .before .before
 
-color-next-requires : tie.Need-color-next-requires Inv-loop μ-loop
-color-next-requires c κs = let l = c .before .before .before .before .before .loop in (omega arith, l .inv .5)
+fill-requires : tie.Need-fill-requires Inv-colors μ-colors
+fill-requires c κs = search needs
 
-add-constraint : tie.Need-add-constraint Inv-loop μ-loop
-add-constraint c = search needs
+list-all-requires : tie.Need-list-all-requires Inv-colors μ-colors
+list-all-requires c κs = let z = c .before .before .before .before .before .before .before .before .before .before .before .pre .1 in (z .room, z .few)
 
-loop-less : tie.Need-loop-less Inv-loop μ-loop
-loop-less c = search needs
+colors-holds : tie.Need-colors-holds Inv-colors μ-colors
+colors-holds c =
+    let s = start c in
+    let z = s .pre .1 in
+    let f = c .before .before .before .before .before .before .fill in
+    let a = c .before .before .list-all in (
+      refl,
+      refl,
+      refl,
+      walks-none (length (now (s .args .body-stamps)))
+          (record {
+            constraints = z .constraints;
+            few = z .few;
+            bodies = z .bodies;
+            room = omega (arith, a .kept .0, z .room);
+            stamps-length = f .kept .0 ∙ z .stamps-length;
+          })
+          (a .ensures) (f .ensures),
+    )
 
-loop-again : tie.Need-loop-again Inv-loop μ-loop
-loop-again c =
-    let l = c .before .before .before .before .before .before .before .before .before .before .before .before .before .before .loop in
-    let v = c .before .before .before .before .before .before .before .before .color-next in
-    (omega arith, v .kept .1 .1 .1 .0 ∙ l .inv .1, v .kept .1 .1 .1 .1 .0 ∙ l .inv .2, v .kept .1 .1 .1 .1 .1 .0 ∙ l .inv .3, v .kept .1 .1 .1 .1 .1 .1 .0 ∙ l .inv .4, v .ensures)
+walk-requires : tie.Need-walk-requires Inv-colors μ-colors
+walk-requires c κs =
+    let l = c .before .before .before .before in
+    (rw (l .colors .inv .1) (start (l .before) .pre .0), rw (l .colors .inv .1) (l .colors .inv .3 .opened))
 
-same-length : tie.Need-same-length Inv-loop μ-loop
-same-length c = c .before .loop .inv .1
+abbrev at : tie.After-slice-known8 Inv-colors μ-colors → tie.At-colors Inv-colors μ-colors
+at c = c .before .before .before .before .before .before .before .before .before .before .before
 
-same-length-2 : tie.Need-same-length-2 Inv-loop μ-loop
-same-length-2 c = c .before .loop .inv .2
+add-color : tie.Need-add-color Inv-colors μ-colors
+add-color c = let z = at c .colors .inv .3 .opened in omega (arith, z .low, z .sized .few)
 
-same-length-3 : tie.Need-same-length-3 Inv-loop μ-loop
-same-length-3 c = c .before .loop .inv .3
+colors-less : tie.Need-colors-less Inv-colors μ-colors
+colors-less c = omega (arith, walks-few (at c .colors .inv .3) (c .before .before .before .before .before .before .before .before .before .before .if1 .left))
 
-same-length-4 : tie.Need-same-length-4 Inv-loop μ-loop
-same-length-4 c = c .before .loop .inv .4
+colors-again : tie.Need-colors-again Inv-colors μ-colors
+colors-again c =
+    let v = at c .colors .inv in
+    let d = c .before .before .before .before .before .before .walk in (
+      d .kept .1 .1 .1 .0 ∙ v .0,
+      d .kept .1 .1 .1 .1 .0 ∙ v .1,
+      d .kept .1 .1 .1 .1 .1 .0 ∙ v .2,
+      walks-more (v .3) (c .before .before .before .before .before .before .before .before .before .before .if1 .left) (d .kept .1 .1 .1 .0) (d .kept .1 .1 .1 .1 .0) (d .kept .1 .1 .1 .1 .1 .0) (rw (v .1) at (d .ensures)),
+    )
 
-returns : tie.Need-returns Inv-loop μ-loop
-returns c = let l = c .before .loop in all-done (l .inv .5) (omega arith)
+same-length : tie.Need-same-length Inv-colors μ-colors
+same-length c = search needs
+
+same-length-2 : tie.Need-same-length-2 Inv-colors μ-colors
+same-length-2 c = search needs
+
+same-length-3 : tie.Need-same-length-3 Inv-colors μ-colors
+same-length-3 c = search needs
+
+returns : tie.Need-returns Inv-colors μ-colors
+returns c =
+    let v = c .before .colors .inv .3 in
+    record { colors-are = walks-colors v (c .if1 .taken); count-is = walks-count v (c .if1 .taken) }
 
 pub color-constraints-spec : {M : Type 1} → statement M
 color-constraints-spec =
     tie.close
     (tie.spec
-    Inv-loop
-    μ-loop
-    loop-holds
-    color-next-requires
-    add-constraint
-    loop-less
-    loop-again
+    Inv-colors
+    μ-colors
+    fill-requires
+    list-all-requires
+    colors-holds
+    walk-requires
+    add-color
+    colors-less
+    colors-again
     same-length
     same-length-2
     same-length-3
-    same-length-4
     returns)

@@ -1,0 +1,25 @@
+// Internal: the endpoints of a constraint are a part of the endpoint list. The stages of an update read them here, so that no stage
+// knows how many endpoints a constraint has.
+ghost use mathlib.Core.Path.{_≡_};
+ghost use Rattle.parts.specs.Parts.{cut, Cut, Stands, partAt};
+
+// The part of a table from the bound at place `from` up to that at place `to`.
+fn between<'a>(table: &'a [u16], bounds: &[u16], from: usize, to: usize) -> &'a [u16]
+    requires { ⌜ Cut (now table) (now bounds) from to ⌝ }
+    ensures { λ r. ⌜ now r ≡ cut (now (table .entry)) (now (bounds .entry)) from to ⌝ }
+{
+    let start = bounds[from] as usize;
+    let end = bounds[to] as usize;
+    &table[start..end]
+}
+
+// The endpoints of a constraint: a pair if there are no bounds, else what stands between its two bounds.
+pub fn part<'a>(endpoints: &'a [u16], bounds: &[u16], constraint: usize) -> &'a [u16]
+    requires { ⌜ Stands (now endpoints) (now bounds) constraint ⌝ }
+    ensures { λ r. ⌜ now r ≡ partAt (now (bounds .entry)) (now (endpoints .entry)) constraint ⌝ }
+{
+    if bounds.len() == 0 {
+        return &endpoints[2 * constraint..2 * constraint + 2];
+    }
+    between(endpoints, bounds, 2 * constraint, 2 * constraint + 1)
+}
