@@ -4,3 +4,4 @@ pub mod Used
 pub mod Promised
 pub mod Passing
 pub mod Walks
+pub mod Samples

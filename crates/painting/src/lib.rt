@@ -53,17 +53,17 @@ fn walk(
     let stamp = (color + 1) as u16;
     let mut left = 0;
     'walk: for passed in 0..count {
-        let constraint = remaining[passed];
-        let bodies = parts::part(endpoints, bounds, constraint as usize);
+        let constraint = remaining[passed] as usize;
+        let bodies = parts::part(endpoints, bounds, constraint);
         'bodies: for place in 0..bodies.len() {
             let body = bodies[place] as usize;
             if body_stamps[body] == stamp {
-                remaining[left] = constraint;
+                remaining[left] = constraint as u16;
                 left += 1;
                 continue 'walk;
             }
         }
-        constraint_colors[constraint as usize] = color as u16;
+        constraint_colors[constraint] = color as u16;
         stamp_bodies(dynamic_bodies, bodies, body_stamps, stamp);
     }
     left

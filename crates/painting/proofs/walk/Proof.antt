@@ -100,8 +100,8 @@ mul-constraint c = let o = start (c .before) .pre .1 in omega (arith, o .counted
 slice-read-constraint : tie.Need-slice-read-constraint Inv-bodies μ-bodies Inv-walk μ-walk
 slice-read-constraint c = let l = c .before .before in let o = start l .pre .1 in omega (arith, l .walk .inv .1 .remaining-length, o .counted, o .sized .room)
 
-cast-part : tie.Need-cast-part Inv-bodies μ-bodies Inv-walk μ-walk
-cast-part c = omega (arith, few (c .before))
+cast-constraint : tie.Need-cast-constraint Inv-bodies μ-bodies Inv-walk μ-walk
+cast-constraint c = omega (arith, few (c .before))
 
 part-requires : tie.Need-part-requires Inv-bodies μ-bodies Inv-walk μ-walk
 part-requires c κs = let l = c .before .before in start l .pre .0 (next l) (low (c .before))
@@ -123,6 +123,9 @@ mul-if1 c = omega (arith, body-in (c .before))
 
 slice-read-if1 : tie.Need-slice-read-if1 Inv-bodies μ-bodies Inv-walk μ-walk
 slice-read-if1 c = omega (arith, body-in (c .before .before))
+
+cast-remaining : tie.Need-cast-remaining Inv-bodies μ-bodies Inv-walk μ-walk
+cast-remaining c = omega (arith, few (c .before .before .before .before .before .before .before))
 
 mul-remaining : tie.Need-mul-remaining Inv-bodies μ-bodies Inv-walk μ-walk
 mul-remaining c = let b = c .before .before .before .before in let o = start (at (b .before)) .pre .1 in omega (arith, passed b .order, b .bodies .inv .3, at (b .before) .walk .inv .0, o .counted, o .sized .few)
@@ -162,9 +165,6 @@ bodies-again c =
 
 cast-constraint-colors : tie.Need-cast-constraint-colors Inv-bodies μ-bodies Inv-walk μ-walk
 cast-constraint-colors c = let o = start (c .before .before .before .before .before) .pre .1 in omega (arith, o .low, o .sized .few)
-
-cast-constraint-colors-2 : tie.Need-cast-constraint-colors-2 Inv-bodies μ-bodies Inv-walk μ-walk
-cast-constraint-colors-2 c = omega (arith, few (c .before .before .before .before))
 
 mul-constraint-colors : tie.Need-mul-constraint-colors Inv-bodies μ-bodies Inv-walk μ-walk
 mul-constraint-colors c = omega (arith, few (c .before .before .before .before))
@@ -216,7 +216,7 @@ walk-spec =
     walk-holds
     mul-constraint
     slice-read-constraint
-    cast-part
+    cast-constraint
     part-requires
     bodies-holds
     mul-body
@@ -224,6 +224,7 @@ walk-spec =
     cast-body
     mul-if1
     slice-read-if1
+    cast-remaining
     mul-remaining
     slice-write-remaining
     add-left
@@ -234,7 +235,6 @@ walk-spec =
     bodies-less
     bodies-again
     cast-constraint-colors
-    cast-constraint-colors-2
     mul-constraint-colors
     slice-write-constraint-colors
     stamp-bodies-requires
