@@ -102,7 +102,8 @@ fn list_groups(
     largest
 }
 
-// Remembers the input and builds its plan: each table is cut to the places that are used.
+// Remembers the input and builds its plan: each table is cut to the places that are used. The walks of the colors need no adjacency, so
+// `body_offsets`, `body_constraints` and `color_stamps` stay as they are.
 fn rebuild(
     flags: &[u8],
     pairs: &[u16],

@@ -1,22 +1,20 @@
--- A walk for color k, constraint by constraint: what stands in the tables when i of the uncolored constraints are passed. Constraints
--- are lists of bodies, of whatever length.
-use Prim.Native.Nat.{ℕ, suc, _+_, _≤_, _<_}
+-- A walk for color k, constraint by constraint: what stands in the tables when i of the uncolored constraints are passed. Constraints are
+-- lists of bodies, of whatever length.
+use Prim.Native.Nat.{ℕ, _+_, _≤_, _<_}
 use mathlib.Core.Path.{_≡_, refl, sym, ap, _∙_}
-use mathlib.Core.Bool.{Bool, true, false, _&&_, _||_, and-false, or-true, or-false, or-assoc, cond}
+use mathlib.Core.Bool.{Bool, true, false, _&&_, _||_, and-false, or-true, or-false, cond}
 use mathlib.Core.List.{List, [], _∷_, _++_, append-nil}
 use native.Mathlib.Numerals.{add-one}
 use native.Mathlib.Omega.{arith}
 use lib.Dec.{leb, ltb, eqb}
-use lib.ListN.{length, getD, take, set, length-set, replicate, length-replicate, getD-replicate}
-use lib.Seq.{take-suc, take-all, take-suc-set, getD-take, getD-set-same, getD-set-other, length-take-le, ext-getD}
+use lib.ListN.{length, getD, take, set, length-set}
+use lib.Seq.{take-suc, take-all, take-suc-set, getD-take, getD-set-same, getD-set-other, length-take-le}
 use borrow.Author.Tests.{eqb-true, eqb-false, eq-eqb, ne-eqb, ltb-true, ltb-false, le-leb}
-use Rattle.lists.specs.Basics.{any, all, filter, range, mem, maxOf}
-use Rattle.lists.proofs.Laws.{or-right, clashes, by-cases, not-true-false, any-in, all-in, mem-self, getD-mem, max-in, all-intro, all-getD}
-use Rattle.lists.proofs.Sums.{filter-all}
+use Rattle.lists.specs.Basics.{any, all, filter, range, mem}
+use Rattle.lists.proofs.Laws.{by-cases, all-in, getD-mem, all-getD}
 use Rattle.lists.proofs.Ranges.{filter-append}
-use Rattle.groups.specs.Groups.{flagged, colorsOf, groupCount}
-use Rattle.groups.proofs.Colors.{colors-length}
-use Rattle.painting.specs.Painting.{promised, uncolored, Sized, Opened, Walked, Stamped}
+use Rattle.groups.specs.Groups.{flagged}
+use Rattle.painting.specs.Painting.{promised, uncolored, Opened, Walked, Stamped}
 use Rattle.painting.proofs.Lists.{any-next, any-ext-in, filter-both}
 use Rattle.painting.proofs.Promised.{busy, listed-in, in-listed, busy-higher}
 
@@ -35,16 +33,20 @@ over-low false s v h = h
 abbrev pub barred : ℕ → List ℕ → List ℕ → Bool
 barred stamp stamps bs = any (λ b. eqb (getD stamps b 0) stamp) bs
 
--- the first i of the uncolored constraints are passed, and `left` of them stay uncolored
+-- the first i of the uncolored constraints
+abbrev pub firstOf : List ℕ → List (List ℕ) → ℕ → ℕ → List ℕ
+firstOf flags cs k i = take i (uncolored flags cs k)
+
+-- they are passed, and `left` of them stay uncolored
 pub record Passed (flags : List ℕ) (cs : List (List ℕ)) (k : ℕ) (remaining₀ colors₀ remaining colors stamps : List ℕ) (left i : ℕ) : Type 0 where
   pub remaining-length : length remaining ≡ length remaining₀
   pub colors-length : length colors ≡ length colors₀
   pub stamps-length : length stamps ≡ length flags
   pub order : left ≤ i
   pub rest : (j : ℕ) → i ≤ j → getD remaining j 0 ≡ getD remaining₀ j 0
-  pub kept : take left remaining ≡ filter (λ r. ltb k (promised flags cs r)) (take i (uncolored flags cs k))
-  pub given : (s : ℕ) → getD colors s 0 ≡ cond (mem s (take i (uncolored flags cs k)) && eqb k (promised flags cs s)) k (getD colors₀ s 0)
-  pub stamped : (b : ℕ) → b < length flags → eqb (getD stamps b 0) (k + 1) ≡ busy flags cs k (take i (uncolored flags cs k)) b
+  pub kept : take left remaining ≡ filter (λ r. ltb k (promised flags cs r)) (firstOf flags cs k i)
+  pub given : (s : ℕ) → getD colors s 0 ≡ cond (mem s (firstOf flags cs k i) && eqb k (promised flags cs s)) k (getD colors₀ s 0)
+  pub stamped : (b : ℕ) → b < length flags → eqb (getD stamps b 0) (k + 1) ≡ busy flags cs k (firstOf flags cs k i) b
   pub low : (b : ℕ) → b < length flags → getD stamps b 0 ≤ k + 1
 
 module _ {flags : List ℕ} {cs : List (List ℕ)} {k count : ℕ} {remaining₀ colors₀ stamps₀ : List ℕ} (o : Opened flags cs k count remaining₀ colors₀ stamps₀) where
@@ -89,25 +91,25 @@ module _ {flags : List ℕ} {cs : List (List ℕ)} {k count : ℕ} {remaining₀
       -- the color does not fit exactly the constraints that are promised a higher one
       barred-higher : barred (k + 1) stamps (getD cs next []) ≡ ltb k (promised flags cs next)
       barred-higher =
-          any-ext-in (λ b. eqb (getD stamps b 0) (k + 1)) (busy flags cs k (take i (uncolored flags cs k))) (getD cs next [])
+          any-ext-in (λ b. eqb (getD stamps b 0) (k + 1)) (busy flags cs k (firstOf flags cs k i)) (getD cs next [])
           (λ b m. v .stamped b (ltb-true b (length flags) (all-in (λ b. ltb b (length flags)) b (getD cs next []) m bodies-exist)))
           ∙ rw next-is (busy-higher flags cs k i (omega (arith, many)))
 
-      taken : take (i + 1) (uncolored flags cs k) ≡ take i (uncolored flags cs k) ++ next ∷ []
-      taken = rw (add-one, next-is) (take-suc (uncolored flags cs k) i 0 (omega (arith, many)))
+      first-next : firstOf flags cs k (i + 1) ≡ firstOf flags cs k i ++ next ∷ []
+      first-next = rw (add-one, next-is) (take-suc (uncolored flags cs k) i 0 (omega (arith, many)))
 
-      mem-taken : (s : ℕ) → mem s (take (i + 1) (uncolored flags cs k)) ≡ (mem s (take i (uncolored flags cs k)) || eqb s next)
-      mem-taken s = rw next-is (any-next (eqb s) (uncolored flags cs k) i (omega (arith, many)))
+      mem-next : (s : ℕ) → mem s (firstOf flags cs k (i + 1)) ≡ (mem s (firstOf flags cs k i) || eqb s next)
+      mem-next s = rw next-is (any-next (eqb s) (uncolored flags cs k) i (omega (arith, many)))
 
-      busy-taken : (b : ℕ) → busy flags cs k (take (i + 1) (uncolored flags cs k)) b
-          ≡ (busy flags cs k (take i (uncolored flags cs k)) b || (flagged flags b && (eqb k (promised flags cs next) && mem b (getD cs next []))))
-      busy-taken b = by-cases (flagged flags b)
+      busy-next : (b : ℕ) → busy flags cs k (firstOf flags cs k (i + 1)) b
+          ≡ (busy flags cs k (firstOf flags cs k i) b || (flagged flags b && (eqb k (promised flags cs next) && mem b (getD cs next []))))
+      busy-next b = by-cases (flagged flags b)
           (λ f. rw (f, next-is) (any-next (λ s. eqb k (promised flags cs s) && mem b (getD cs s [])) (uncolored flags cs k) i (omega (arith, many))))
           (λ f. rw f)
 
-      kept-taken : filter (λ r. ltb k (promised flags cs r)) (take (i + 1) (uncolored flags cs k))
-          ≡ filter (λ r. ltb k (promised flags cs r)) (take i (uncolored flags cs k)) ++ cond (ltb k (promised flags cs next)) (next ∷ []) []
-      kept-taken = rw taken (filter-append (λ r. ltb k (promised flags cs r)) (take i (uncolored flags cs k)) (next ∷ []))
+      kept-next : filter (λ r. ltb k (promised flags cs r)) (firstOf flags cs k (i + 1))
+          ≡ filter (λ r. ltb k (promised flags cs r)) (firstOf flags cs k i) ++ cond (ltb k (promised flags cs next)) (next ∷ []) []
+      kept-next = rw first-next (filter-append (λ r. ltb k (promised flags cs r)) (firstOf flags cs k i) (next ∷ []))
 
       -- it stays uncolored
       pub walk-left : (bs : List ℕ) → bs ≡ getD cs next [] → barred (k + 1) stamps bs ≡ true → Passed flags cs k remaining₀ colors₀ (set remaining left next) colors stamps (left + 1) (i + 1)
@@ -118,22 +120,25 @@ module _ {flags : List ℕ} {cs : List (List ℕ)} {k count : ℕ} {remaining₀
             stamps-length = v .stamps-length;
             order = omega (arith, v .order);
             rest = λ j m. getD-set-other remaining left j next 0 (λ e. omega (arith, v .order)) ∙ v .rest j (omega arith);
-            kept = rw (add-one, take-suc-set remaining left next (omega (arith, v .order, v .remaining-length, o .counted, o .sized .room)), v .kept) (sym (kept-taken ∙ rw higher));
+            kept = appended ∙ rw (v .kept) (sym (kept-next ∙ rw higher));
             given = λ s. v .given s ∙ ap (λ (b : Bool). cond b k (getD colors₀ s 0)) (same s);
-            stamped = λ b m. v .stamped b m ∙ sym (busy-taken b ∙ rw (other, and-false, or-false));
+            stamped = λ b m. v .stamped b m ∙ sym (busy-next b ∙ rw (other, and-false, or-false));
             low = v .low;
           }
         where
           higher : ltb k (promised flags cs next) ≡ true
           higher = sym barred-higher ∙ ap (barred (k + 1) stamps) (sym e) ∙ h
 
+          appended : take (left + 1) (set remaining left next) ≡ take left remaining ++ next ∷ []
+          appended = rw add-one (take-suc-set remaining left next (omega (arith, v .order, v .remaining-length, o .counted, o .sized .room)))
+
           other : eqb k (promised flags cs next) ≡ false
           other = ne-eqb k (promised flags cs next) (λ e. omega (arith, ltb-true k (promised flags cs next) higher))
 
-          same : (s : ℕ) → (mem s (take i (uncolored flags cs k)) && eqb k (promised flags cs s)) ≡ (mem s (take (i + 1) (uncolored flags cs k)) && eqb k (promised flags cs s))
+          same : (s : ℕ) → (mem s (firstOf flags cs k i) && eqb k (promised flags cs s)) ≡ (mem s (firstOf flags cs k (i + 1)) && eqb k (promised flags cs s))
           same s = by-cases (eqb s next)
-              (λ e. rw (eqb-true s next e, other) (and-false (mem next (take i (uncolored flags cs k))) ∙ sym (and-false (mem next (take (i + 1) (uncolored flags cs k))))))
-              (λ e. rw (mem-taken s, e, or-false))
+              (λ e. rw (eqb-true s next e, other) (and-false (mem next (firstOf flags cs k i)) ∙ sym (and-false (mem next (firstOf flags cs k (i + 1))))))
+              (λ e. rw (mem-next s, e, or-false))
 
       -- it gets the color
       pub walk-given : (bs : List ℕ) {stamps′ : List ℕ} → bs ≡ getD cs next [] → barred (k + 1) stamps bs ≡ false → length stamps′ ≡ length stamps → Stamped flags (k + 1) bs stamps stamps′
@@ -145,10 +150,10 @@ module _ {flags : List ℕ} {cs : List (List ℕ)} {k count : ℕ} {remaining₀
             stamps-length = same ∙ v .stamps-length;
             order = omega (arith, v .order);
             rest = λ j m. v .rest j (omega arith);
-            kept = v .kept ∙ sym (kept-taken ∙ rw (lower, append-nil));
+            kept = v .kept ∙ sym (kept-next ∙ rw (lower, append-nil));
             given = given;
             stamped = λ b m. let over = d b (omega (arith, v .stamps-length)) in
-                ap (λ (s : ℕ). eqb s (k + 1)) over ∙ over-equal (flagged flags b && mem b bs) (getD stamps b 0) (k + 1) ∙ rw (v .stamped b m, e) (sym (busy-taken b ∙ rw own));
+                ap (λ (s : ℕ). eqb s (k + 1)) over ∙ over-equal (flagged flags b && mem b bs) (getD stamps b 0) (k + 1) ∙ rw (v .stamped b m, e) (sym (busy-next b ∙ rw own));
             low = λ b m. rw (d b (omega (arith, v .stamps-length))) (over-low (flagged flags b && mem b bs) (getD stamps b 0) (k + 1) (v .low b m));
           }
         where
@@ -158,25 +163,25 @@ module _ {flags : List ℕ} {cs : List (List ℕ)} {k count : ℕ} {remaining₀
           own : eqb k (promised flags cs next) ≡ true
           own = eq-eqb k (promised flags cs next) (omega (arith, ltb-false k (promised flags cs next) lower, next-listed .1))
 
-          given : (s : ℕ) → getD (set colors next k) s 0 ≡ cond (mem s (take (i + 1) (uncolored flags cs k)) && eqb k (promised flags cs s)) k (getD colors₀ s 0)
+          given : (s : ℕ) → getD (set colors next k) s 0 ≡ cond (mem s (firstOf flags cs k (i + 1)) && eqb k (promised flags cs s)) k (getD colors₀ s 0)
           given s = by-cases (eqb s next)
-              (λ e. rw (mem-taken s, e, or-true, eqb-true s next e, own) (getD-set-same colors next k 0 (omega (arith, next-in, v .colors-length))))
-              (λ e. rw (mem-taken s, e, or-false) (getD-set-other colors next s k 0 (eqb-false s next e) ∙ v .given s))
+              (λ e. rw (mem-next s, e, or-true, eqb-true s next e, own) (getD-set-same colors next k 0 (omega (arith, next-in, v .colors-length))))
+              (λ e. rw (mem-next s, e, or-false) (getD-set-other colors next s k 0 (eqb-false s next e) ∙ v .given s))
 
     -- all are passed
     pub walk-ends : count ≤ i → i ≤ count → Walked flags cs k colors₀ left remaining colors stamps
     unfolding uncolored
     walk-ends l m =
         record {
-          given = λ s h. v .given s ∙ rw all-taken (by-cases (eqb k (promised flags cs s))
+          given = λ s h. v .given s ∙ rw all-first (by-cases (eqb k (promised flags cs s))
               (λ e. rw (e, in-listed flags cs k s h (omega (arith, eqb-true k (promised flags cs s) e))))
               (λ e. rw (e, and-false)));
           counted = omega (arith, v .order, o .counted);
-          left = v .kept ∙ rw (all-taken, add-one)
+          left = v .kept ∙ rw (all-first, add-one)
               (filter-both (λ r. leb k (promised flags cs r)) (λ r. ltb k (promised flags cs r)) (range (length cs))
               (λ r h. le-leb k (promised flags cs r) (omega (arith, ltb-true k (promised flags cs r) h))));
           stamped = v .low;
         }
       where
-        all-taken : take i (uncolored flags cs k) ≡ uncolored flags cs k
-        all-taken = take-all i (uncolored flags cs k) (omega (arith, many))
+        all-first : firstOf flags cs k i ≡ uncolored flags cs k
+        all-first = take-all i (uncolored flags cs k) (omega (arith, many))

@@ -51,6 +51,7 @@ fn walk(
     ensures { λ r. ⌜ Walked (now («dynamic_bodies» .entry)) (partsAt (length (now («constraint_colors» .entry))) (now (bounds .entry)) (now (endpoints .entry))) color (now («constraint_colors» .entry)) r (now (remaining .exit)) (now («constraint_colors» .exit)) (now («body_stamps» .exit)) ⌝ }
 {
     let stamp = (color + 1) as u16;
+    // Of those passed, the first `left` of the remaining stay uncolored, and the bodies of the others, if dynamic, bear the stamp.
     let mut left = 0;
     'walk: for passed in 0..count {
         let constraint = remaining[passed] as usize;
@@ -86,6 +87,7 @@ pub fn color_constraints(
     tables::fill(body_stamps, 0);
     list_all(remaining, constraint_colors.len());
     let mut uncolored = constraint_colors.len();
+    // The first `uncolored` of the remaining have no color below `color`; all others have theirs.
     let mut color = 0;
     'colors: loop {
         if uncolored == 0 {

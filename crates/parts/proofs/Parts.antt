@@ -1,9 +1,9 @@
 -- The parts one by one; without bounds they are the pairs.
-use Prim.Native.Nat.{ℕ, zero, suc, _+_, _*_, _≤_, _<_}
+use Prim.Native.Nat.{ℕ, zero, suc, _*_, _<_}
 use mathlib.Core.Path.{_≡_, refl, ap, _∙_}
 use mathlib.Core.List.{List, [], _∷_, map}
 use native.Mathlib.Omega.{arith}
-use lib.ListN.{length, getD, take, drop}
+use lib.ListN.{length, getD}
 use Rattle.lists.specs.Basics.{range, rangeFrom}
 use Rattle.lists.proofs.Laws.{map-ext-in}
 use Rattle.lists.proofs.Ranges.{length-map-range, map-range-at}

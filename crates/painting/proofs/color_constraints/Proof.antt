@@ -1,7 +1,7 @@
--- Every constraint is uncolored when color 0 is opened; `Walks` (proofs/Walks) holds whenever a color is opened. Each walk gives its color
--- to one constraint at least, so that the colors opened are those of the groups.
+-- Every constraint is uncolored when color 0 is opened; `Walks` (proofs/Walks) holds whenever a color is opened. A color is opened only where
+-- a constraint is promised it or a higher one, so no more colors are opened than there are groups.
 use Prim.Native.Nat.{_-_}
-use mathlib.Core.Path.{_≡_, refl, sym, _∙_}
+use mathlib.Core.Path.{_≡_, refl, _∙_}
 use native.Mathlib.Omega.{arith}
 use lib.ListN.{length}
 use denote.Ref.{now}

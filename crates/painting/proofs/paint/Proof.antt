@@ -2,9 +2,7 @@
 use Prim.Native.Nat.{ℕ}
 use mathlib.Core.Path.{_≡_, refl, sym}
 use mathlib.Core.List.{List, []}
-use native.Mathlib.Omega.{arith}
 use lib.ListN.{length}
-use denote.Ref.{now}
 use Rattle.groups.specs.Groups.{pairsOf}
 use Rattle.parts.specs.Parts.{partsAt}
 use Rattle.parts.proofs.Parts.{parts-length, parts-pairs, pairs-bounded}

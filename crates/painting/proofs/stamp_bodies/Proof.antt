@@ -11,7 +11,6 @@ use lib.Seq.{take-all, getD-set-same, getD-set-other}
 use denote.Ref.{now}
 use borrow.Author.Needs.{needs}
 use borrow.Author.Tests.{eqb-true, eqb-false, eq-eqb, ne-eqb, ltb-true}
-use Rattle.lists.specs.Basics.{mem}
 use Rattle.lists.proofs.Laws.{by-cases, all-in, getD-mem}
 use Rattle.groups.specs.Groups.{flagged}
 use Rattle.painting.specs.Painting.{Stamped}

@@ -1,19 +1,19 @@
--- Both loops keep what `Passed` (proofs/Passing) says of the constraints passed; in the inner one no body passed bears the stamp. The first
--- body that bears it leaves the constraint uncolored; where none does, the color fits.
+-- Both loops keep what `Passed` (proofs/Passing) says of the constraints passed; in the inner one no body looked at bears the stamp.
+-- The first body that bears it leaves the constraint uncolored; where none does, the color fits.
 use Prim.Native.Nat.{ℕ, _+_, _-_, _≤_, _<_}
-use mathlib.Core.Path.{_≡_, refl, sym, ap, _∙_}
+use mathlib.Core.Path.{_≡_, refl, sym, _∙_}
 use mathlib.Core.Bool.{true, false}
 use mathlib.Core.List.{List, []}
 use native.Mathlib.Omega.{arith}
 use lib.Dec.{ltb, eqb}
-use lib.ListN.{length, getD, set, take}
+use lib.ListN.{length, getD, take}
 use lib.Seq.{take-all}
 use denote.Ref.{now}
 use borrow.Author.Needs.{needs}
 use borrow.Author.Tests.{eq-eqb, ne-eqb, ltb-true}
 use Rattle.lists.specs.Basics.{all}
 use Rattle.lists.proofs.Laws.{any-in, all-in, getD-mem}
-use Rattle.parts.specs.Parts.{partAt, partsAt}
+use Rattle.parts.specs.Parts.{partsAt}
 use Rattle.parts.proofs.Parts.{parts-at}
 use Rattle.painting.proofs.Lists.{any-next}
 use Rattle.painting.proofs.Passing.{barred, Passed, walk-starts, next-in, next-bodies, walk-left, walk-given, walk-ends}
