@@ -208,6 +208,19 @@ impl<'a, L: Calls, R: Calls> Agree<'a, L, R> {
         }
     }
 
+    /// An update of a fresh plan, each side's colors against those given.
+    pub fn colored(&mut self, flags: &[u8], pairs: &[u16], colors: &[u16]) {
+        let tables: PlanTables = self.lend(&plan_lengths(flags.len(), pairs.len() / 2), true);
+        let mut l = (self.left.fresh(), tables.clone());
+        let mut r = (self.right.fresh(), tables);
+        self.update(&Step { flags: flags.to_vec(), pairs: pairs.to_vec(), cut: None }, &mut l, &mut r);
+        let groups = colors.iter().max().map_or(0, |most| *most as usize + 1);
+        for (carried, t) in [(self.left.carried(&l.0), &l.1), (self.right.carried(&r.0), &r.1)] {
+            let same = carried.groups == groups && t.colors[..colors.len()] == *colors;
+            self.check(same, || format!("colors of {flags:?} {pairs:?}: {:?}, not {colors:?}", t.colors));
+        }
+    }
+
     /// Every table exact, and each in turn one place short: first on a fresh plan, then with equal input.
     pub fn update_short(&mut self, flags: &[u8], pairs: &[u16]) {
         let tables: PlanTables = self.lend(&plan_lengths(flags.len(), pairs.len() / 2), false);

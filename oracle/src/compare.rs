@@ -53,6 +53,30 @@ fn samples<L: Calls, R: Calls>(agree: &mut Agree<L, R>) {
     agree.binding(&[2, 2, 2], &[0, 1, 2], &[[1, 2], [0, 2], [0, 1]]);
 }
 
+/// Request 4's samples, each side against the page's own colors: flags, pairs, colors.
+const COLORED: &[(&[u8], &[u16], &[u16])] = &[
+    (&[1, 1, 1], &[2, 1, 0, 1], &[0, 1]),
+    (&[1, 0, 1], &[0, 1, 2, 1], &[0, 0]),
+    (&[1, 1], &[0, 1, 0, 1, 0, 1], &[0, 1, 2]),
+    (&[0, 0], &[0, 1], &[0]),
+    (&[1, 1], &[], &[]),
+    (&[1, 1, 1, 1], &[0, 1, 1, 2, 2, 3, 3, 0], &[0, 1, 0, 1]),
+    (&[1, 1, 1, 1, 1], &[0, 1, 2, 3, 1, 2, 3, 4, 0, 4], &[0, 0, 1, 1, 2]),
+    (&[1, 1, 1, 0], &[0, 1, 0, 2, 0, 3, 1, 2, 1, 3, 2, 3], &[0, 1, 2, 2, 1, 0]),
+];
+
+/// Colorings: the samples; then every list of five pairs among four bodies, on one plan with every choice of flags.
+fn colorings<L: Calls, R: Calls>(agree: &mut Agree<L, R>) {
+    for (flags, pairs, colors) in COLORED {
+        agree.colored(flags, pairs, colors);
+    }
+    frames::every_five_pairs(|pairs| {
+        let flags = |code: u8| (0..4).map(|body| code >> body & 1).collect();
+        let step = |code| Step { flags: flags(code), pairs: pairs.clone(), cut: None };
+        agree.history(&(0..16).map(step).collect::<Vec<Step>>());
+    });
+}
+
 /// The refusals that each call can answer, and 0; a comparison is to meet them all.
 const REFUSALS: &[(&str, &[u8])] = &[
     ("islands", &[0, 3, 4, 5, 6, 7]),
@@ -71,6 +95,7 @@ pub fn compare<L: Calls, R: Calls>(left: &L, right: &R, more: usize) -> ! {
     let mut agree = Agree::new(left, right, 2026);
     let every = 15;
     samples(&mut agree);
+    colorings(&mut agree);
 
     let mut count = 0;
     frames::every_little(|frame| {

@@ -85,6 +85,14 @@ pub fn every_little(mut give: impl FnMut(Frame)) {
     }
 }
 
+/// Every list of five pairs among four bodies, each pair in one of its two orders.
+pub fn every_five_pairs(mut give: impl FnMut(Vec<u16>)) {
+    let pairs = [[0, 1], [2, 0], [0, 3], [2, 1], [1, 3], [3, 2]];
+    for code in 0..pairs.len().pow(5) {
+        give((0..5).flat_map(|i| pairs[code / pairs.len().pow(i) % pairs.len()]).collect());
+    }
+}
+
 /// Two different endpoints below b, near each other or at a hub if so wanted.
 fn ends(random: &mut Random, b: usize, habit: usize) -> [u16; 2] {
     let a = random.below(b);
