@@ -1,8 +1,9 @@
 -- What is proved: each claim, and the proof that it cites. To believe a claim, read it and the definitions that it names, all under specs/.
 use Prim.Native.Nat.{ℕ, _≤_, _<_}
 use mathlib.Core.Path.{_≡_}
-use mathlib.Core.Bool.{true, false}
+use mathlib.Core.Bool.{true, false, _&&_}
 use mathlib.Core.List.{List, [], _∷_, _++_, map, List·Memᴰ}
+use lib.Dec.{ltb}
 use lib.ListN.{length, getD, take}
 use Rattle.lists.specs.Basics.{any, mem}
 use Rattle.frame.specs.Frames.{Constraint, Frame, constraints, dynamic, on, frameOf}
@@ -18,6 +19,8 @@ use Rattle.island.specs.Calls.{Built}
 use Rattle.connected_sets.proofs.Theorem.{connected-label, label-connected, lowest-in, lowest-least, label-rises, body-below, label-each}
 use Rattle.groups.specs.Groups.{Plan, flagged, free, usedBy, colorsOf}
 use Rattle.groups.proofs.Colors.{colors-snoc, free-new, free-least, proper}
+use Rattle.painting.specs.Painting.{Walked}
+use Rattle.painting.proofs.Promised.{left-higher}
 use Rattle.constraint_coloring.specs.declared.ConstraintColoring.{ConstraintColoring}
 use Rattle.plan_questions.specs.Plans.{Tables}
 use Rattle.constraint_coloring.specs.Calls.{freshPlan}
@@ -117,6 +120,11 @@ color-least = free-least
 pub colors-differ : (flags : List ℕ) (cs : List (List ℕ)) (r s b : ℕ) → r < s → s < length cs → flagged flags b ≡ true → mem b (getD cs r []) ≡ true → mem b (getD cs s []) ≡ true
     → getD (colorsOf flags cs) r 0 ≡ getD (colorsOf flags cs) s 0 → ⊥
 colors-differ = proper
+
+-- Of the code: a walk for color k, as its contract allows it, leaves uncolored exactly the constraints promised a higher color.
+pub walk-leaves : (flags : List ℕ) (cs : List (List ℕ)) (k count : ℕ) (colors remaining′ colors′ stamps′ : List ℕ) → Walked flags cs k colors count remaining′ colors′ stamps′
+    → (r : ℕ) → mem r (take count remaining′) ≡ (ltb r (length cs) && ltb k (getD (colorsOf flags cs) r 0))
+walk-leaves = left-higher
 
 -- ---- the plan's memory
 

@@ -1,5 +1,5 @@
-// The samples of the coloring in the paper's order, each an update of a new plan: a line with the number of groups and the six places of
-// the color table, which hold 9 where no color goes. Every body bears the stamp of color 0, as an earlier update may leave it.
+// The samples of the coloring in the paper's order, each an update of a fresh plan: a line with the number of groups and the six places
+// of the color table, which hold 9 where no color goes. Every body bears the stamp of color 0, as an earlier update may leave it.
 use constraint_coloring::ConstraintColoring;
 use constraint_coloring::Update;
 use libc::STDOUT_FILENO;
@@ -18,7 +18,8 @@ fn show(answer: Update, constraint_colors: &[u16; 6]) {
             io::write_all(STDOUT_FILENO, b"unchanged");
         }
         Update::Refused(number) => {
-            io::write_all(STDOUT_FILENO, b"refused");
+            io::write_all(STDOUT_FILENO, b"refused ");
+            io::print_decimal(STDOUT_FILENO, number as u64);
         }
     }
     put(constraint_colors[0]);

@@ -170,15 +170,6 @@ pub colors-snoc : (flag : List ℕ) (cs : List (List ℕ)) (bs : List ℕ) → c
 unfolding colorsOf colorFrom
 colors-snoc flag cs bs = colorFrom-append flag [] [] cs (bs ∷ [])
 
--- a scan that stops at the first number that is not used has found it
-pub free-unique : (used : List ℕ) (c : ℕ) → mem c used ≡ false → ((i : ℕ) → i < c → mem i used ≡ true) → free used ≡ c
-free-unique used c no-c below =
-    by-cases (ltb (free used) c)
-    (λ l. clashes (mem (free used) used) (below (free used) (ltb-true (free used) c l)) (free-new used))
-    (λ l. by-cases (ltb c (free used))
-    (λ m. clashes (mem c used) (free-least used c (ltb-true c (free used) m)) no-c)
-    (λ m. omega (arith, ltb-false (free used) c l, ltb-false c (free used) m)))
-
 -- ---- no color is left out, so a real group is never empty
 used-in : (flag : List ℕ) (done : List (List ℕ)) (colors bs : List ℕ) (x : ℕ) → mem x (usedBy flag done colors bs) ≡ true → mem x colors ≡ true
 unfolding usedBy
@@ -223,3 +214,53 @@ whole-from flag done colors (bs ∷ rest) h =
 pub group-not-empty : (flag : List ℕ) (cs : List (List ℕ)) (k : ℕ) → k < groupCount (colorsOf flag cs) → mem k (colorsOf flag cs) ≡ true
 unfolding groupCount colorsOf Whole
 group-not-empty flag cs k h = whole-from flag [] [] cs (λ i l. absurd (omega arith)) k h
+
+-- ---- the coloring is least: for each color below its own a constraint has an earlier one of that color in conflict
+module _ (flags : List ℕ) where
+  used-out : (done : List (List ℕ)) (colors bs : List ℕ) (k : ℕ) → length colors ≡ length done → mem k (usedBy flags done colors bs) ≡ true
+      → (s : ℕ) × (s < length done) × (getD colors s 0 ≡ k) × (clash flags bs (getD done s []) ≡ true)
+  unfolding usedBy
+  used-out [] colors bs k l h = clashes false h refl
+  used-out (xs ∷ xss) [] bs k l h = absurd (omega arith)
+  used-out (xs ∷ xss) (c ∷ cs) bs k l h =
+      by-cases (clash flags bs xs)
+      (λ e. or-cases (eqb k c) (mem k (usedBy flags xss cs bs)) (rw e at h)
+      (λ q. (0, omega arith, sym (eqb-true k c q), e))
+      (λ m. let o = used-out xss cs bs k (omega arith) m in (suc (o .0), omega (arith, o .1), o .2, o .3)))
+      (λ e. let o = used-out xss cs bs k (omega arith) (rw e at h) in (suc (o .0), omega (arith, o .1), o .2, o .3))
+
+  abbrev Least : List (List ℕ) → List ℕ → Type 0
+  Least cs colors = (r k : ℕ) → r < length cs → k < getD colors r 0 → (s : ℕ) × (s < r) × (getD colors s 0 ≡ k) × (clash flags (getD cs r []) (getD cs s []) ≡ true)
+
+  least-next : (done : List (List ℕ)) (colors bs : List ℕ) → length colors ≡ length done → Least done colors
+      → Least (done ++ bs ∷ []) (colors ++ free (usedBy flags done colors bs) ∷ [])
+  least-next done colors bs l h r k q m =
+      let used = usedBy flags done colors bs in
+      let c = free used in
+      let n : r < suc (length done) = omega (arith, length-append done (bs ∷ [])) in
+      by-cases (eqb r (length done))
+      (λ t. let e = eqb-true r (length done) t in
+      let o = used-out done colors bs k l (free-least used k (omega (arith, getD-at colors c [] 0 r (omega arith)))) in (
+        o .0,
+        omega (arith, o .1),
+        List·getD-append colors (c ∷ []) 0 (o .0) (omega (arith, o .1)) ∙ o .2,
+        rw (getD-at done bs [] [] r (sym e), List·getD-append done (bs ∷ []) [] (o .0) (o .1)) (o .3),
+      ))
+      (λ t. let lt : r < length done = omega (arith, eqb-false r (length done) t) in
+      let o = h r k lt (omega (arith, List·getD-append colors (c ∷ []) 0 r (omega arith))) in (
+        o .0,
+        o .1,
+        List·getD-append colors (c ∷ []) 0 (o .0) (omega (arith, o .1)) ∙ o .2,
+        rw (List·getD-append done (bs ∷ []) [] r lt, List·getD-append done (bs ∷ []) [] (o .0) (omega (arith, o .1))) (o .3),
+      ))
+
+  least-from : (done : List (List ℕ)) (colors : List ℕ) (rest : List (List ℕ)) → length colors ≡ length done → Least done colors → Least (done ++ rest) (colorFrom flags done colors rest)
+  unfolding colorFrom
+  least-from done colors [] l h = rw append-nil h
+  least-from done colors (bs ∷ rest) l h =
+      let c = free (usedBy flags done colors bs) in
+      rw append-assoc at (least-from (done ++ bs ∷ []) (colors ++ c ∷ []) rest (omega (arith, length-append colors (c ∷ []), length-append done (bs ∷ []))) (least-next done colors bs l h))
+
+  pub least : (cs : List (List ℕ)) → Least cs (colorsOf flags cs)
+  unfolding colorsOf
+  least cs = least-from [] [] cs refl (λ r k q m. absurd (omega arith))

@@ -1,4 +1,3 @@
-pub mod Lists
 pub mod Pairs
 pub mod Used
 pub mod Promised

@@ -1,4 +1,4 @@
--- The endpoint pairs as the code reads them: constraint i has its bodies at places 2 × i and 2 × i + 1, two that exist.
+-- The endpoint pairs one by one: constraint i has its bodies at places 2 × i and 2 × i + 1, and they exist.
 use Prim.Native.Nat.{ℕ, zero, suc, _+_, _*_, _<_}
 use mathlib.Core.Path.{_≡_, refl, ap}
 use mathlib.Core.Bool.{true, _&&_}
@@ -18,7 +18,7 @@ pairs-length n (a ∷ []) e = absurd (omega arith)
 pairs-length zero (a ∷ b ∷ es) e = absurd (omega arith)
 pairs-length (suc n) (a ∷ b ∷ es) e = ap suc (pairs-length n es (omega arith))
 
--- constraint i, as the code reads it
+-- constraint i
 pub pair-at : (i : ℕ) (es : List ℕ) → 2 * i + 1 < length es → getD (pairsOf es) i [] ≡ getD es (2 * i) 0 ∷ getD es (2 * i + 1) 0 ∷ []
 pair-at i [] h = absurd (omega arith)
 pair-at i (a ∷ []) h = absurd (omega arith)

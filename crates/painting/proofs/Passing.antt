@@ -13,9 +13,9 @@ use borrow.Author.Tests.{eqb-true, eqb-false, eq-eqb, ne-eqb, ltb-true, ltb-fals
 use Rattle.lists.specs.Basics.{any, all, filter, range, mem}
 use Rattle.lists.proofs.Laws.{by-cases, all-in, getD-mem, all-getD}
 use Rattle.lists.proofs.Ranges.{filter-append}
+use Rattle.lists.proofs.Scans.{any-next, any-ext-in, filter-filter}
 use Rattle.groups.specs.Groups.{flagged}
 use Rattle.painting.specs.Painting.{promised, uncolored, Opened, Walked, Stamped}
-use Rattle.painting.proofs.Lists.{any-next, any-ext-in, filter-both}
 use Rattle.painting.proofs.Promised.{busy, listed-in, in-listed, busy-higher}
 
 -- ---- a stamp v over the stamp s
@@ -47,24 +47,24 @@ pub record Passed (flags : List ℕ) (cs : List (List ℕ)) (k : ℕ) (remaining
   pub kept : take left remaining ≡ filter (λ r. ltb k (promised flags cs r)) (firstOf flags cs k i)
   pub given : (s : ℕ) → getD colors s 0 ≡ cond (mem s (firstOf flags cs k i) && eqb k (promised flags cs s)) k (getD colors₀ s 0)
   pub stamped : (b : ℕ) → b < length flags → eqb (getD stamps b 0) (k + 1) ≡ busy flags cs k (firstOf flags cs k i) b
-  pub low : (b : ℕ) → b < length flags → getD stamps b 0 ≤ k + 1
+  pub stamps-low : (b : ℕ) → b < length flags → getD stamps b 0 ≤ k + 1
 
 module _ {flags : List ℕ} {cs : List (List ℕ)} {k count : ℕ} {remaining₀ colors₀ stamps₀ : List ℕ} (o : Opened flags cs k count remaining₀ colors₀ stamps₀) where
   pub many : length (uncolored flags cs k) ≡ count
-  many = sym (ap length (o .listed)) ∙ length-take-le count remaining₀ (omega (arith, o .sized .room, o .counted))
+  many = sym (ap length (o .listed)) ∙ length-take-le count remaining₀ (omega (arith, o .ready .room, o .counted))
 
   pub walk-starts : Passed flags cs k remaining₀ colors₀ remaining₀ colors₀ stamps₀ 0 0
   walk-starts =
       record {
         remaining-length = refl;
         colors-length = refl;
-        stamps-length = o .sized .stamps-length;
+        stamps-length = o .ready .stamps-length;
         order = omega arith;
         rest = λ j h. refl;
         kept = refl;
         given = λ s. refl;
-        stamped = λ b l. ne-eqb (getD stamps₀ b 0) (k + 1) (λ e. omega (arith, o .unstamped b l)) ∙ sym (and-false (flagged flags b));
-        low = λ b l. omega (arith, o .unstamped b l);
+        stamped = λ b l. ne-eqb (getD stamps₀ b 0) (k + 1) (λ e. omega (arith, o .stamps-low b l)) ∙ sym (and-false (flagged flags b));
+        stamps-low = λ b l. omega (arith, o .stamps-low b l);
       }
 
   module _ {remaining colors stamps : List ℕ} {left i : ℕ} (v : Passed flags cs k remaining₀ colors₀ remaining colors stamps left i) where
@@ -80,10 +80,10 @@ module _ {flags : List ℕ} {cs : List (List ℕ)} {k count : ℕ} {remaining₀
       next-listed = rw next-is (listed-in flags cs k (getD (uncolored flags cs k) i 0) (getD-mem (uncolored flags cs k) i (omega (arith, many))))
 
       pub next-in : next < length colors₀
-      next-in = omega (arith, next-listed .0, o .sized .constraints)
+      next-in = omega (arith, next-listed .0, o .ready .constraints)
 
       bodies-exist : all (λ b. ltb b (length flags)) (getD cs next []) ≡ true
-      bodies-exist = all-getD (λ bs. all (λ b. ltb b (length flags)) bs) [] cs next refl (o .sized .bodies)
+      bodies-exist = all-getD (λ bs. all (λ b. ltb b (length flags)) bs) [] cs next refl (o .ready .bodies)
 
       pub next-bodies : (bs : List ℕ) → bs ≡ getD cs next [] → all (λ b. ltb b (length flags)) bs ≡ true
       next-bodies bs e = ap (all (λ b. ltb b (length flags))) e ∙ bodies-exist
@@ -123,14 +123,14 @@ module _ {flags : List ℕ} {cs : List (List ℕ)} {k count : ℕ} {remaining₀
             kept = appended ∙ rw (v .kept) (sym (kept-next ∙ rw higher));
             given = λ s. v .given s ∙ ap (λ (b : Bool). cond b k (getD colors₀ s 0)) (same s);
             stamped = λ b m. v .stamped b m ∙ sym (busy-next b ∙ rw (other, and-false, or-false));
-            low = v .low;
+            stamps-low = v .stamps-low;
           }
         where
           higher : ltb k (promised flags cs next) ≡ true
           higher = sym barred-higher ∙ ap (barred (k + 1) stamps) (sym e) ∙ h
 
           appended : take (left + 1) (set remaining left next) ≡ take left remaining ++ next ∷ []
-          appended = rw add-one (take-suc-set remaining left next (omega (arith, v .order, v .remaining-length, o .counted, o .sized .room)))
+          appended = rw add-one (take-suc-set remaining left next (omega (arith, v .order, v .remaining-length, o .counted, o .ready .room)))
 
           other : eqb k (promised flags cs next) ≡ false
           other = ne-eqb k (promised flags cs next) (λ e. omega (arith, ltb-true k (promised flags cs next) higher))
@@ -154,7 +154,7 @@ module _ {flags : List ℕ} {cs : List (List ℕ)} {k count : ℕ} {remaining₀
             given = given;
             stamped = λ b m. let over = d b (omega (arith, v .stamps-length)) in
                 ap (λ (s : ℕ). eqb s (k + 1)) over ∙ over-equal (flagged flags b && mem b bs) (getD stamps b 0) (k + 1) ∙ rw (v .stamped b m, e) (sym (busy-next b ∙ rw own));
-            low = λ b m. rw (d b (omega (arith, v .stamps-length))) (over-low (flagged flags b && mem b bs) (getD stamps b 0) (k + 1) (v .low b m));
+            stamps-low = λ b m. rw (d b (omega (arith, v .stamps-length))) (over-low (flagged flags b && mem b bs) (getD stamps b 0) (k + 1) (v .stamps-low b m));
           }
         where
           lower : ltb k (promised flags cs next) ≡ false
@@ -178,9 +178,9 @@ module _ {flags : List ℕ} {cs : List (List ℕ)} {k count : ℕ} {remaining₀
               (λ e. rw (e, and-false)));
           counted = omega (arith, v .order, o .counted);
           left = v .kept ∙ rw (all-first, add-one)
-              (filter-both (λ r. leb k (promised flags cs r)) (λ r. ltb k (promised flags cs r)) (range (length cs))
+              (filter-filter (λ r. leb k (promised flags cs r)) (λ r. ltb k (promised flags cs r)) (range (length cs))
               (λ r h. le-leb k (promised flags cs r) (omega (arith, ltb-true k (promised flags cs r) h))));
-          stamped = v .low;
+          stamps-low = v .stamps-low;
         }
       where
         all-first : firstOf flags cs k i ≡ uncolored flags cs k

@@ -12,7 +12,7 @@ use Rattle.lists.proofs.Laws.{clashes, by-cases, all-in, getD-mem, max-in, all-
 use Rattle.lists.proofs.Sums.{filter-all}
 use Rattle.groups.specs.Groups.{colorsOf, groupCount}
 use Rattle.groups.proofs.Colors.{colors-length}
-use Rattle.painting.specs.Painting.{promised, uncolored, Sized, Opened, Walked}
+use Rattle.painting.specs.Painting.{promised, uncolored, ReadyParts, Opened, Walked}
 use Rattle.painting.proofs.Used.{colors-low}
 use Rattle.painting.proofs.Promised.{listed-in, in-listed}
 use Rattle.painting.proofs.Passing.{many}
@@ -55,16 +55,16 @@ pub record Walks (flags : List ℕ) (cs : List (List ℕ)) (k count : ℕ) (rema
   pub few : k ≤ groupCount (colorsOf flags cs)
   pub colored : (r : ℕ) → r < length cs → promised flags cs r < k → getD colors r 0 ≡ promised flags cs r
 
-pub walks-none : {flags : List ℕ} {cs : List (List ℕ)} {remaining colors stamps : List ℕ} (n : ℕ) → Sized flags cs remaining colors stamps
+pub walks-none : {flags : List ℕ} {cs : List (List ℕ)} {remaining colors stamps : List ℕ} (n : ℕ) → ReadyParts flags cs remaining colors stamps
     → take (length colors) remaining ≡ range (length colors) → stamps ≡ replicate n 0 → Walks flags cs 0 (length colors) remaining colors stamps
 walks-none {flags} {cs} {remaining} {colors} {stamps} n z e s =
     record {
       opened = record {
-        sized = z;
-        low = omega arith;
+        ready = z;
+        color-few = omega arith;
         counted = omega arith;
         listed = e ∙ rw (z .constraints) (sym (uncolored-all flags cs));
-        unstamped = λ b l. omega (arith, ap (λ (t : List ℕ). getD t b 0) s, getD-replicate {A = ℕ} n b 0 0 (omega (arith, z .stamps-length, ap length s, length-replicate {A = ℕ} n 0)));
+        stamps-low = λ b l. omega (arith, ap (λ (t : List ℕ). getD t b 0) s, getD-replicate {A = ℕ} n b 0 0 (omega (arith, z .stamps-length, ap length s, length-replicate {A = ℕ} n 0)));
       };
       few = omega arith;
       colored = λ r l h. absurd (omega arith);
@@ -77,20 +77,20 @@ module _ {flags : List ℕ} {cs : List (List ℕ)} {k count : ℕ} {remaining co
   pub walks-more : {remaining′ colors′ stamps′ : List ℕ} {count′ : ℕ} → (count ≡ 0 → ⊥) → length remaining′ ≡ length remaining → length colors′ ≡ length colors → length stamps′ ≡ length stamps
       → Walked flags cs k colors count′ remaining′ colors′ stamps′ → Walks flags cs (k + 1) count′ remaining′ colors′ stamps′
   walks-more {remaining′} {colors′} {stamps′} {count′} h lr lc ls d =
-      let z = w .opened .sized in
+      let z = w .opened .ready in
       record {
         opened = record {
-          sized = record {
+          ready = record {
             constraints = lc ∙ z .constraints;
             few = omega (arith, z .few);
             bodies = z .bodies;
             room = omega (arith, z .room);
             stamps-length = ls ∙ z .stamps-length;
           };
-          low = omega (arith, walks-few h, count-few flags cs, z .constraints);
+          color-few = omega (arith, walks-few h, count-few flags cs, z .constraints);
           counted = omega (arith, d .counted);
           listed = d .left;
-          unstamped = d .stamped;
+          stamps-low = d .stamps-low;
         };
         few = omega (arith, walks-few h);
         colored = λ r l m. d .given r l ∙ by-cases (eqb k (promised flags cs r))
@@ -103,8 +103,8 @@ module _ {flags : List ℕ} {cs : List (List ℕ)} {k count : ℕ} {remaining co
     below r l = none-left flags cs k r (sym (w .opened .listed) ∙ ap (λ (n : ℕ). take n remaining) h) l
 
     pub walks-colors : colors ≡ colorsOf flags cs
-    walks-colors = ext-getD 0 colors (colorsOf flags cs) (w .opened .sized .constraints ∙ sym (colors-length flags cs))
-        (λ r l. let m : r < length cs = omega (arith, w .opened .sized .constraints) in w .colored r m (below r m))
+    walks-colors = ext-getD 0 colors (colorsOf flags cs) (w .opened .ready .constraints ∙ sym (colors-length flags cs))
+        (λ r l. let m : r < length cs = omega (arith, w .opened .ready .constraints) in w .colored r m (below r m))
 
     pub walks-count : k ≡ groupCount (colorsOf flags cs)
     walks-count = omega (arith, w .few, count-low flags cs k below)

@@ -1,7 +1,7 @@
-// Internal: the color stage of an update (constraint_coloring.rs, `color_constraints`), in the order of Welsh and Powell (1967): open a
-// color, walk the list once and give it to every uncolored constraint that it fits, open the following color. The list order is ours.
-// A body's stamp is the last color given on it, plus 1: a color fits a constraint if no body of it bears the color's stamp. Cost: a
-// constraint is met once for each color up to its own.
+// Internal: the color stage of an update (constraint_coloring.rs, the coloring loop of `rebuild`), in the order of Welsh and Powell
+// (1967): open a color, walk the list once and give it to every uncolored constraint that it fits, open the following color. The list
+// order is ours. A dynamic body's stamp is the last color given on it, plus 1: a color fits a constraint if no body of it bears the
+// color's stamp. Cost: a constraint is met once for each color up to its own.
 ghost use mathlib.Core.Path.{_≡_};
 ghost use mathlib.Core.Bool.{true};
 ghost use Prim.Native.Nat.{_≤_};
@@ -9,9 +9,9 @@ ghost use lib.Dec.{ltb};
 ghost use lib.ListN.{length, take};
 ghost use Rattle.lists.specs.Basics.{all, range};
 ghost use Rattle.parts.specs.Parts.{Bounded, partsAt};
-ghost use Rattle.painting.specs.Painting.{Ready, Painted, Sized, Colored, Opened, Walked, Stamped};
+ghost use Rattle.painting.specs.Painting.{Ready, Painted, ReadyParts, PaintedParts, Opened, Walked, Stamped};
 
-// All constraints, in list order.
+// Lists all constraints, in list order.
 fn list_all(remaining: &mut [u16], constraint_count: usize)
     requires { ⌜ («constraint_count» ≤ length (now remaining)) × («constraint_count» ≤ 8192) ⌝ }
     ensures { λ _. ⌜ take «constraint_count» (now (remaining .exit)) ≡ range «constraint_count» ⌝ }
@@ -21,7 +21,7 @@ fn list_all(remaining: &mut [u16], constraint_count: usize)
     }
 }
 
-// The stamp on those of the bodies that are dynamic.
+// Puts the stamp on those of the bodies that are dynamic.
 fn stamp_bodies(dynamic_bodies: &[u8], bodies: &[u16], body_stamps: &mut [u16], stamp: u16)
     requires { ⌜ (length (now «body_stamps») ≡ length (now «dynamic_bodies»)) × (all (λ b. ltb b (length (now «dynamic_bodies»))) (now bodies) ≡ true) ⌝ }
     ensures { λ _. ⌜ Stamped (now («dynamic_bodies» .entry)) stamp (now (bodies .entry)) (now («body_stamps» .entry)) (now («body_stamps» .exit)) ⌝ }
@@ -70,9 +70,9 @@ fn walk(
     left
 }
 
-// The colors of all constraints, whatever the number of their bodies, and how many groups they make: the first color that nobody
-// needs.
-pub fn color_constraints(
+// The colors of all constraints, whatever the number of their bodies, and how many groups they make: the first color that no
+// constraint needs.
+fn color_constraints(
     dynamic_bodies: &[u8],
     endpoints: &[u16],
     bounds: &[u16],
@@ -81,19 +81,19 @@ pub fn color_constraints(
     body_stamps: &mut [u16],
 ) -> usize
     requires { ⌜ Bounded (length (now «constraint_colors»)) (now bounds) (now endpoints) ⌝ }
-    requires { ⌜ Sized (now «dynamic_bodies») (partsAt (length (now «constraint_colors»)) (now bounds) (now endpoints)) (now remaining) (now «constraint_colors») (now «body_stamps») ⌝ }
-    ensures { λ r. ⌜ Colored (now («dynamic_bodies» .entry)) (partsAt (length (now («constraint_colors» .entry))) (now (bounds .entry)) (now (endpoints .entry))) (now («constraint_colors» .exit)) r ⌝ }
+    requires { ⌜ ReadyParts (now «dynamic_bodies») (partsAt (length (now «constraint_colors»)) (now bounds) (now endpoints)) (now remaining) (now «constraint_colors») (now «body_stamps») ⌝ }
+    ensures { λ r. ⌜ PaintedParts (now («dynamic_bodies» .entry)) (partsAt (length (now («constraint_colors» .entry))) (now (bounds .entry)) (now (endpoints .entry))) (now («constraint_colors» .exit)) r ⌝ }
 {
     tables::fill(body_stamps, 0);
     list_all(remaining, constraint_colors.len());
-    let mut uncolored = constraint_colors.len();
-    // The first `uncolored` of the remaining have no color below `color`; all others have theirs.
+    let mut uncolored_count = constraint_colors.len();
+    // The first `uncolored_count` of the remaining are promised no color below `color`; all others have theirs.
     let mut color = 0;
     'colors: loop {
-        if uncolored == 0 {
+        if uncolored_count == 0 {
             break 'colors color;
         }
-        uncolored = walk(
+        uncolored_count = walk(
             dynamic_bodies,
             endpoints,
             bounds,
@@ -101,7 +101,7 @@ pub fn color_constraints(
             constraint_colors,
             body_stamps,
             color,
-            uncolored,
+            uncolored_count,
         );
         color += 1;
     }

@@ -1,12 +1,12 @@
 -- The parts one by one; without bounds they are the pairs.
 use Prim.Native.Nat.{ℕ, zero, suc, _*_, _<_}
 use mathlib.Core.Path.{_≡_, refl, ap, _∙_}
-use mathlib.Core.List.{List, [], _∷_, map}
+use mathlib.Core.List.{List, [], _∷_}
 use native.Mathlib.Omega.{arith}
 use lib.ListN.{length, getD}
-use Rattle.lists.specs.Basics.{range, rangeFrom}
+use Rattle.lists.specs.Basics.{range}
 use Rattle.lists.proofs.Laws.{map-ext-in}
-use Rattle.lists.proofs.Ranges.{length-map-range, map-range-at}
+use Rattle.lists.proofs.Ranges.{map-shift, length-map-range, map-range-at}
 use Rattle.groups.specs.Groups.{pairsOf}
 use Rattle.parts.specs.Parts.{partAt, partsAt, Bounded}
 
@@ -18,10 +18,6 @@ module _ (n : ℕ) (bounds es : List ℕ) where
   pub parts-at : (r : ℕ) → r < n → getD (partsAt n bounds es) r [] ≡ partAt bounds es r
   unfolding partsAt
   parts-at r h = map-range-at (partAt bounds es) [] n r h
-
-map-shift : {A : Type 0} (g : ℕ → A) (a n : ℕ) → map g (rangeFrom (suc a) n) ≡ map (λ r. g (suc r)) (rangeFrom a n)
-map-shift g a zero = refl
-map-shift g a (suc n) = ap (λ (t : List _). g (suc a) ∷ t) (map-shift g (suc a) n)
 
 pub parts-pairs : (n : ℕ) (es : List ℕ) → length es ≡ 2 * n → partsAt n [] es ≡ pairsOf es
 unfolding partsAt

@@ -26,10 +26,11 @@ partAt bounds es r = cond (eqb (length bounds) 0) (take 2 (drop (2 * r) es)) (cu
 unfoldable pub partsAt : ℕ → List ℕ → List ℕ → List (List ℕ)
 partsAt n bounds es = map (partAt bounds es) (range n)
 
--- the endpoints of constraint r are there; those of the first n are
-pub record Stands (es bounds : List ℕ) (r : ℕ) : Type 0 where
+-- the endpoints of constraint r are there
+pub record Present (es bounds : List ℕ) (r : ℕ) : Type 0 where
   pub pair : length bounds ≡ 0 → 2 * r + 2 ≤ length es
   pub part : (length bounds ≡ 0 → ⊥) → Cut es bounds (2 * r) (2 * r + 1)
 
+-- those of the first n constraints are
 abbrev pub Bounded : ℕ → List ℕ → List ℕ → Type 0
-Bounded n bounds es = (r : ℕ) → r < n → Stands es bounds r
+Bounded n bounds es = (r : ℕ) → r < n → Present es bounds r

@@ -1,7 +1,7 @@
-// Internal: the endpoints of a constraint are a part of the endpoint list. The stages of an update read them here, so that no stage
-// knows how many endpoints a constraint has.
+// Internal: the endpoints of a constraint are a part of the endpoint list. The color stage of an update reads them here, so that it need
+// not know how many endpoints a constraint has.
 ghost use mathlib.Core.Path.{_≡_};
-ghost use Rattle.parts.specs.Parts.{cut, Cut, Stands, partAt};
+ghost use Rattle.parts.specs.Parts.{cut, Cut, Present, partAt};
 
 // The part of a table from the bound at place `from` up to that at place `to`.
 fn between<'a>(table: &'a [u16], bounds: &[u16], from: usize, to: usize) -> &'a [u16]
@@ -15,7 +15,7 @@ fn between<'a>(table: &'a [u16], bounds: &[u16], from: usize, to: usize) -> &'a 
 
 // The endpoints of a constraint: a pair if there are no bounds, else what stands between its two bounds.
 pub fn part<'a>(endpoints: &'a [u16], bounds: &[u16], constraint: usize) -> &'a [u16]
-    requires { ⌜ Stands (now endpoints) (now bounds) constraint ⌝ }
+    requires { ⌜ Present (now endpoints) (now bounds) constraint ⌝ }
     ensures { λ r. ⌜ now r ≡ partAt (now (bounds .entry)) (now (endpoints .entry)) constraint ⌝ }
 {
     if bounds.len() == 0 {

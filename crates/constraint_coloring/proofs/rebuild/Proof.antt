@@ -64,15 +64,18 @@ after-flags p = p .before .before .before .before .before .before .before .befor
 painted : (p : tie.After-paint) → Painted (now (start p .args .flags)) (now (start p .args .pairs)) (take (length (now (start p .args .pairs)) / 2) (p .paint .last .1 .1 .1 .0 ++ drop (length (now (start p .args .pairs)) / 2) (now (start p .args .constraint-colors)))) (p .paint .result)
 painted p = painted-front _ (length (now (start p .args .pairs)) / 2) (p .paint .kept .1 .1 .1 .0 ∙ length-take-le _ _ (ok (start p) .constraint-colors)) (p .paint .ensures)
 
-colors-back : (p : tie.After-paint) → length (now (start p .args .pairs)) / 2 ≤ length (p .paint .last .1 .1 .1 .0 ++ drop (length (now (start p .args .pairs)) / 2) (now (start p .args .constraint-colors)))
-colors-back p = omega (arith, length-front (now (start p .args .constraint-colors)) (p .paint .last .1 .1 .1 .0) (length (now (start p .args .pairs)) / 2) (p .paint .kept .1 .1 .1 .0), ok (start p) .constraint-colors)
+-- the colors and the stamps come back as long as they were
+colors-kept : (p : tie.After-paint) → length (p .paint .last .1 .1 .1 .0 ++ drop (length (now (start p .args .pairs)) / 2) (now (start p .args .constraint-colors))) ≡ length (now (start p .args .constraint-colors))
+colors-kept p = length-front (now (start p .args .constraint-colors)) (p .paint .last .1 .1 .1 .0) (length (now (start p .args .pairs)) / 2) (p .paint .kept .1 .1 .1 .0)
 
--- the stamps come back as long as they were
-stamps-back : (p : tie.After-paint) → length (p .paint .last .1 .1 .1 .1 .0 ++ drop (length (now (start p .args .flags))) (now (start p .args .body-stamps))) ≡ length (now (start p .args .body-stamps))
-stamps-back p = length-front (now (start p .args .body-stamps)) (p .paint .last .1 .1 .1 .1 .0) (length (now (start p .args .flags))) (p .paint .kept .1 .1 .1 .1 .0)
+colors-long-enough : (p : tie.After-paint) → length (now (start p .args .pairs)) / 2 ≤ length (p .paint .last .1 .1 .1 .0 ++ drop (length (now (start p .args .pairs)) / 2) (now (start p .args .constraint-colors)))
+colors-long-enough p = omega (arith, colors-kept p, ok (start p) .constraint-colors)
 
-stamps-long : (p : tie.After-paint) → length (now (start p .args .flags)) ≤ length (p .paint .last .1 .1 .1 .1 .0 ++ drop (length (now (start p .args .flags))) (now (start p .args .body-stamps)))
-stamps-long p = omega (arith, stamps-back p, ok (start p) .body-stamps)
+stamps-kept : (p : tie.After-paint) → length (p .paint .last .1 .1 .1 .1 .0 ++ drop (length (now (start p .args .flags))) (now (start p .args .body-stamps))) ≡ length (now (start p .args .body-stamps))
+stamps-kept p = length-front (now (start p .args .body-stamps)) (p .paint .last .1 .1 .1 .1 .0) (length (now (start p .args .flags))) (p .paint .kept .1 .1 .1 .1 .0)
+
+stamps-long-enough : (p : tie.After-paint) → length (now (start p .args .flags)) ≤ length (p .paint .last .1 .1 .1 .1 .0 ++ drop (length (now (start p .args .flags))) (now (start p .args .body-stamps)))
+stamps-long-enough p = omega (arith, stamps-kept p, ok (start p) .body-stamps)
 
 groups-in : (p : tie.After-paint) → p .paint .result ≤ length (now (start p .args .pairs)) / 2
 groups-in p = groups-few (ok (start p)) (p .paint .ensures)
@@ -109,16 +112,16 @@ paint-requires c κs =
     }
 
 slice-reshare-prefix-list-groups : tie.Need-slice-reshare-prefix-list-groups
-slice-reshare-prefix-list-groups c = colors-back (before-list c)
+slice-reshare-prefix-list-groups c = colors-long-enough (before-list c)
 
 slice-aggregate-list-groups : tie.Need-slice-aggregate-list-groups
-slice-aggregate-list-groups c = sym (length-take-le _ _ (colors-back (before-list (c .before))))
+slice-aggregate-list-groups c = sym (length-take-le _ _ (colors-long-enough (before-list (c .before))))
 
 slice-relend-prefix-list-groups : tie.Need-slice-relend-prefix-list-groups
-slice-relend-prefix-list-groups c = stamps-long (before-list (c .before .before))
+slice-relend-prefix-list-groups c = stamps-long-enough (before-list (c .before .before))
 
 slice-aggregate-list-groups-2 : tie.Need-slice-aggregate-list-groups-2
-slice-aggregate-list-groups-2 c = sym (length-take-le _ _ (stamps-long (before-list (c .before .before .before))))
+slice-aggregate-list-groups-2 c = sym (length-take-le _ _ (stamps-long-enough (before-list (c .before .before .before))))
 
 add-list-groups : tie.Need-add-list-groups
 add-list-groups c = omega (arith, groups-in (before-list (c .before .before .before)), ok (start (before-list (c .before .before .before))) .few-pairs)
@@ -173,7 +176,7 @@ list-groups-requires c κs =
       colored = colored o q;
       scratch-colors = omega (arith, few, p .paint .kept .1 .1 .0, o .scratch-constraints);
       scratch-bodies = omega (arith, p .paint .kept .1 .1 .0, o .scratch-bodies);
-      stamps = length-take-le _ _ (stamps-long p);
+      stamps = length-take-le _ _ (stamps-long-enough p);
       ends = length-take-le _ _ (omega (arith, few, o .color-offsets));
       constraints = length-take-le _ _ (o .colored-constraints) ∙ sym long;
       body-ends = length-take-le _ _ (omega (arith, few, o .color-body-offsets));
@@ -191,16 +194,13 @@ same-length-3 : tie.Need-same-length-3
 same-length-3 c = after-list c .list-groups .kept .1 .1 .1 .1 .0 ∙ after-paint (after-list c .before) .paint .kept .1 .1 .0
 
 same-length-4 : tie.Need-same-length-4
-same-length-4 c =
-    let p = after-paint (after-list c .before) in
-    let w = p .paint in
-    length-front (now (start p .args .constraint-colors)) (w .last .1 .1 .1 .0) (length (now (start p .args .pairs)) / 2) (w .kept .1 .1 .1 .0)
+same-length-4 c = colors-kept (after-paint (after-list c .before))
 
 same-length-5 : tie.Need-same-length-5
 same-length-5 c =
     let p = after-paint (after-list c .before) in
     let w = after-list c .list-groups in
-    length-front (p .paint .last .1 .1 .1 .1 .0 ++ drop (length (now (start p .args .flags))) (now (start p .args .body-stamps))) (w .last .1 .1 .1 .1 .1 .0) (length (now (start p .args .flags))) (w .kept .1 .1 .1 .1 .1 .0) ∙ stamps-back p
+    length-front (p .paint .last .1 .1 .1 .1 .0 ++ drop (length (now (start p .args .flags))) (now (start p .args .body-stamps))) (w .last .1 .1 .1 .1 .1 .0) (length (now (start p .args .flags))) (w .kept .1 .1 .1 .1 .1 .0) ∙ stamps-kept p
 
 same-length-6 : tie.Need-same-length-6
 same-length-6 c =

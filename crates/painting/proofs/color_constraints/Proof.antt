@@ -13,12 +13,12 @@ use Rattle.painting.proofs.color_constraints.Statement.{statement}
 use Rattle.painting.proofs.color_constraints.Tie as tie
 
 abbrev Inv-colors : tie.InvT-colors
-Inv-colors dynamic-bodies endpoints bounds remaining₀ constraint-colors₀ body-stamps₀ uncolored₀ color₀ remaining constraint-colors body-stamps uncolored color =
+Inv-colors dynamic-bodies endpoints bounds remaining₀ constraint-colors₀ body-stamps₀ uncolored-count₀ color₀ remaining constraint-colors body-stamps uncolored-count color =
     (length remaining ≡ length remaining₀) × (length constraint-colors ≡ length constraint-colors₀) × (length body-stamps ≡ length body-stamps₀)
-    × Walks dynamic-bodies (partsAt (length constraint-colors₀) bounds endpoints) color uncolored remaining constraint-colors body-stamps
+    × Walks dynamic-bodies (partsAt (length constraint-colors₀) bounds endpoints) color uncolored-count remaining constraint-colors body-stamps
 
 abbrev μ-colors : tie.MeasureT-colors
-μ-colors dynamic-bodies endpoints bounds remaining₀ constraint-colors₀ body-stamps₀ uncolored₀ color₀ remaining constraint-colors body-stamps uncolored color =
+μ-colors dynamic-bodies endpoints bounds remaining₀ constraint-colors₀ body-stamps₀ uncolored-count₀ color₀ remaining constraint-colors body-stamps uncolored-count color =
     groupCount (colorsOf dynamic-bodies (partsAt (length constraint-colors₀) bounds endpoints)) - color
 
 abbrev start : tie.After-slice-known5 Inv-colors μ-colors → tie.Start Inv-colors μ-colors
@@ -59,7 +59,7 @@ abbrev at : tie.After-slice-known8 Inv-colors μ-colors → tie.At-colors Inv-co
 at c = c .before .before .before .before .before .before .before .before .before .before .before
 
 add-color : tie.Need-add-color Inv-colors μ-colors
-add-color c = let z = at c .colors .inv .3 .opened in omega (arith, z .low, z .sized .few)
+add-color c = let z = at c .colors .inv .3 .opened in omega (arith, z .color-few, z .ready .few)
 
 colors-less : tie.Need-colors-less Inv-colors μ-colors
 colors-less c = omega (arith, walks-few (at c .colors .inv .3) (c .before .before .before .before .before .before .before .before .before .before .if1 .left))

@@ -6,7 +6,7 @@ use lib.ListN.{length}
 use Rattle.groups.specs.Groups.{pairsOf}
 use Rattle.parts.specs.Parts.{partsAt}
 use Rattle.parts.proofs.Parts.{parts-length, parts-pairs, pairs-bounded}
-use Rattle.painting.specs.Painting.{Ready, Sized, Painted, Colored}
+use Rattle.painting.specs.Painting.{Ready, ReadyParts, Painted, PaintedParts}
 use Rattle.painting.proofs.Pairs.{bodies-in}
 use borrow.Author.Needs.{needs}
 use Rattle.painting.proofs.paint.Statement.{statement}
@@ -16,7 +16,7 @@ module _ {flags pairs remaining colors stamps : List ℕ} (r : Ready flags pairs
   same : partsAt (length colors) [] pairs ≡ pairsOf pairs
   same = parts-pairs (length colors) pairs (r .constraints)
 
-  sized : Sized flags (partsAt (length colors) [] pairs) remaining colors stamps
+  sized : ReadyParts flags (partsAt (length colors) [] pairs) remaining colors stamps
   sized =
       record {
         constraints = sym (parts-length (length colors) [] pairs);
@@ -26,7 +26,7 @@ module _ {flags pairs remaining colors stamps : List ℕ} (r : Ready flags pairs
         stamps-length = r .stamps-length;
       }
 
-  painted : {colors′ : List ℕ} {count : ℕ} → Colored flags (partsAt (length colors) [] pairs) colors′ count → Painted flags pairs colors′ count
+  painted : {colors′ : List ℕ} {count : ℕ} → PaintedParts flags (partsAt (length colors) [] pairs) colors′ count → Painted flags pairs colors′ count
   painted {colors′} {count} p = record { colors-are = rw same at (p .colors-are); count-is = rw same at (p .count-is) }
 
 slice-aggregate-color-constraints : tie.Need-slice-aggregate-color-constraints

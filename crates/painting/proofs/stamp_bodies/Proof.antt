@@ -12,9 +12,9 @@ use denote.Ref.{now}
 use borrow.Author.Needs.{needs}
 use borrow.Author.Tests.{eqb-true, eqb-false, eq-eqb, ne-eqb, ltb-true}
 use Rattle.lists.proofs.Laws.{by-cases, all-in, getD-mem}
+use Rattle.lists.proofs.Scans.{any-next}
 use Rattle.groups.specs.Groups.{flagged}
 use Rattle.painting.specs.Painting.{Stamped}
-use Rattle.painting.proofs.Lists.{any-next}
 use Rattle.painting.proofs.stamp_bodies.Statement.{statement}
 use Rattle.painting.proofs.stamp_bodies.Tie as tie
 

@@ -13,9 +13,9 @@ use borrow.Author.Needs.{needs}
 use borrow.Author.Tests.{eq-eqb, ne-eqb, ltb-true}
 use Rattle.lists.specs.Basics.{all}
 use Rattle.lists.proofs.Laws.{any-in, all-in, getD-mem}
+use Rattle.lists.proofs.Scans.{any-next}
 use Rattle.parts.specs.Parts.{partsAt}
 use Rattle.parts.proofs.Parts.{parts-at}
-use Rattle.painting.proofs.Lists.{any-next}
 use Rattle.painting.proofs.Passing.{barred, Passed, walk-starts, next-in, next-bodies, walk-left, walk-given, walk-ends}
 use Rattle.painting.proofs.walk.Statement.{statement}
 use Rattle.painting.proofs.walk.Tie as tie
@@ -58,7 +58,7 @@ low : (l : tie.In-walk Inv-bodies μ-bodies Inv-walk μ-walk) → next (l .befor
 low l = next-in (start (l .before) .pre .1) (l .before .walk .inv .1) (omega arith)
 
 few : (l : tie.In-walk Inv-bodies μ-bodies Inv-walk μ-walk) → next (l .before) < 8192
-few l = omega (arith, low l, start (l .before) .pre .1 .sized .few)
+few l = omega (arith, low l, start (l .before) .pre .1 .ready .few)
 
 -- its bodies
 abbrev at : tie.After-part Inv-bodies μ-bodies Inv-walk μ-walk → tie.At-walk Inv-bodies μ-bodies Inv-walk μ-walk
@@ -86,19 +86,19 @@ passed : (b : tie.At-bodies Inv-bodies μ-bodies Inv-walk μ-walk) → (let l = 
 passed b = rw (b .bodies .inv .1, b .bodies .inv .2, b .bodies .inv .3) (at (b .before) .walk .inv .1)
 
 add-stamp : tie.Need-add-stamp Inv-bodies μ-bodies Inv-walk μ-walk
-add-stamp c = let o = c .before .before .before .before .before .before .pre .1 in omega (arith, o .low, o .sized .few)
+add-stamp c = let o = c .before .before .before .before .before .before .pre .1 in omega (arith, o .color-few, o .ready .few)
 
 cast-stamp : tie.Need-cast-stamp Inv-bodies μ-bodies Inv-walk μ-walk
-cast-stamp c = let o = c .before .before .before .before .before .before .pre .1 in omega (arith, o .low, o .sized .few)
+cast-stamp c = let o = c .before .before .before .before .before .before .pre .1 in omega (arith, o .color-few, o .ready .few)
 
 walk-holds : tie.Need-walk-holds Inv-bodies μ-bodies Inv-walk μ-walk
 walk-holds c = (omega arith, walk-starts (c .before .before .before .before .before .before .pre .1))
 
 mul-constraint : tie.Need-mul-constraint Inv-bodies μ-bodies Inv-walk μ-walk
-mul-constraint c = let o = start (c .before) .pre .1 in omega (arith, o .counted, o .sized .few)
+mul-constraint c = let o = start (c .before) .pre .1 in omega (arith, o .counted, o .ready .few)
 
 slice-read-constraint : tie.Need-slice-read-constraint Inv-bodies μ-bodies Inv-walk μ-walk
-slice-read-constraint c = let l = c .before .before in let o = start l .pre .1 in omega (arith, l .walk .inv .1 .remaining-length, o .counted, o .sized .room)
+slice-read-constraint c = let l = c .before .before in let o = start l .pre .1 in omega (arith, l .walk .inv .1 .remaining-length, o .counted, o .ready .room)
 
 cast-constraint : tie.Need-cast-constraint Inv-bodies μ-bodies Inv-walk μ-walk
 cast-constraint c = omega (arith, few (c .before))
@@ -128,16 +128,16 @@ cast-remaining : tie.Need-cast-remaining Inv-bodies μ-bodies Inv-walk μ-walk
 cast-remaining c = omega (arith, few (c .before .before .before .before .before .before .before))
 
 mul-remaining : tie.Need-mul-remaining Inv-bodies μ-bodies Inv-walk μ-walk
-mul-remaining c = let b = c .before .before .before .before in let o = start (at (b .before)) .pre .1 in omega (arith, passed b .order, b .bodies .inv .3, at (b .before) .walk .inv .0, o .counted, o .sized .few)
+mul-remaining c = let b = c .before .before .before .before in let o = start (at (b .before)) .pre .1 in omega (arith, passed b .order, b .bodies .inv .3, at (b .before) .walk .inv .0, o .counted, o .ready .few)
 
 slice-write-remaining : tie.Need-slice-write-remaining Inv-bodies μ-bodies Inv-walk μ-walk
-slice-write-remaining c = let b = c .before .before .before .before in let o = start (at (b .before)) .pre .1 in omega (arith, passed b .order, passed b .remaining-length, b .bodies .inv .3, c .before .before .before .before .before .before .before .walk-test .taken, o .counted, o .sized .room)
+slice-write-remaining c = let b = c .before .before .before .before in let o = start (at (b .before)) .pre .1 in omega (arith, passed b .order, passed b .remaining-length, b .bodies .inv .3, c .before .before .before .before .before .before .before .walk-test .taken, o .counted, o .ready .room)
 
 add-left : tie.Need-add-left Inv-bodies μ-bodies Inv-walk μ-walk
-add-left c = let b = c .before .before .before .before in let o = start (at (b .before)) .pre .1 in omega (arith, passed b .order, b .bodies .inv .3, at (b .before) .walk .inv .0, o .counted, o .sized .few)
+add-left c = let b = c .before .before .before .before in let o = start (at (b .before)) .pre .1 in omega (arith, passed b .order, b .bodies .inv .3, at (b .before) .walk .inv .0, o .counted, o .ready .few)
 
 add-passed : tie.Need-add-passed Inv-bodies μ-bodies Inv-walk μ-walk
-add-passed c = let b = c .before .before .before .before in let o = start (at (b .before)) .pre .1 in omega (arith, b .bodies .inv .3, at (b .before) .walk .inv .0, o .counted, o .sized .few)
+add-passed c = let b = c .before .before .before .before in let o = start (at (b .before)) .pre .1 in omega (arith, b .bodies .inv .3, at (b .before) .walk .inv .0, o .counted, o .ready .few)
 
 walk-less : tie.Need-walk-less Inv-bodies μ-bodies Inv-walk μ-walk
 walk-less c = let b = c .before .before .before .before in omega (arith, b .bodies .inv .3, c .before .before .before .before .before .before .before .walk-test .taken)
@@ -164,7 +164,7 @@ bodies-again c =
     (omega arith, v .1, v .2, v .3, miss (start l .args .color + 1) (l .walk .body-stamps) (now (b .before .part .result)) (b .bodies .place) (omega arith) (v .4) (c .if1 .left))
 
 cast-constraint-colors : tie.Need-cast-constraint-colors Inv-bodies μ-bodies Inv-walk μ-walk
-cast-constraint-colors c = let o = start (c .before .before .before .before .before) .pre .1 in omega (arith, o .low, o .sized .few)
+cast-constraint-colors c = let o = start (c .before .before .before .before .before) .pre .1 in omega (arith, o .color-few, o .ready .few)
 
 mul-constraint-colors : tie.Need-mul-constraint-colors Inv-bodies μ-bodies Inv-walk μ-walk
 mul-constraint-colors c = omega (arith, few (c .before .before .before .before))
@@ -177,7 +177,7 @@ stamp-bodies-requires : tie.Need-stamp-bodies-requires Inv-bodies μ-bodies Inv-
 stamp-bodies-requires c κs = let p = c .before .before .before in (at p .walk .inv .1 .stamps-length, bodies-in p)
 
 add-passed-2 : tie.Need-add-passed-2 Inv-bodies μ-bodies Inv-walk μ-walk
-add-passed-2 c = let b = c .before .before .before .before .before in let o = start (at (b .before)) .pre .1 in omega (arith, b .bodies .inv .3, at (b .before) .walk .inv .0, o .counted, o .sized .few)
+add-passed-2 c = let b = c .before .before .before .before .before in let o = start (at (b .before)) .pre .1 in omega (arith, b .bodies .inv .3, at (b .before) .walk .inv .0, o .counted, o .ready .few)
 
 walk-less-2 : tie.Need-walk-less-2 Inv-bodies μ-bodies Inv-walk μ-walk
 walk-less-2 c = let b = c .before .before .before .before .before in omega (arith, b .bodies .inv .3, c .before .before .before .before .before .before .before .before .walk-test .taken)
@@ -198,7 +198,7 @@ same-length-2 : tie.Need-same-length-2 Inv-bodies μ-bodies Inv-walk μ-walk
 same-length-2 c = c .before .walk .inv .1 .colors-length
 
 same-length-3 : tie.Need-same-length-3 Inv-bodies μ-bodies Inv-walk μ-walk
-same-length-3 c = let l = c .before in l .walk .inv .1 .stamps-length ∙ sym (start l .pre .1 .sized .stamps-length)
+same-length-3 c = let l = c .before in l .walk .inv .1 .stamps-length ∙ sym (start l .pre .1 .ready .stamps-length)
 
 returns : tie.Need-returns Inv-bodies μ-bodies Inv-walk μ-walk
 returns c = let l = c .before in walk-ends (start l .pre .1) (l .walk .inv .1) (omega arith) (l .walk .inv .0)
