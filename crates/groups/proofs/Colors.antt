@@ -1,4 +1,4 @@
--- The greedy coloring is proper, and no color is above the number of earlier conflicts.
+-- The greedy coloring is proper and least, and no color is above the number of earlier conflicts.
 use Prim.Native.Nat.{ℕ, zero, suc, _+_, _-_, _*_, _≤_, _<_}
 use mathlib.Core.Path.{_≡_, refl, sym, ap, _∙_}
 use mathlib.Core.Bool.{Bool, true, false, not, _&&_}
