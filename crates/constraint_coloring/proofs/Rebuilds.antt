@@ -2,32 +2,22 @@
 -- the definition of the plan gives.
 use Prim.Native.Nat.{ℕ, _+_, _/_, _≤_}
 use mathlib.Core.Path.{_≡_, sym, ap, ap₂, _∙_}
-use mathlib.Core.Bool.{true}
-use mathlib.Core.List.{List, [], _∷_, _++_}
-use native.Mathlib.Nat.{max-le}
+use mathlib.Core.List.{List, _++_}
 use native.Mathlib.Omega.{arith}
-use lib.Dec.{ltb}
 use lib.ListN.{length, take}
 use lib.Seq.{take-at}
-use borrow.Author.Tests.{ltb-true}
-use Rattle.lists.specs.Basics.{all, over}
-use Rattle.lists.proofs.Laws.{and-left, and-right}
+use Rattle.lists.specs.Basics.{over}
 use Rattle.groups.specs.Groups.{planOf, pairsOf, colorsOf, groupCount, members, largestGroup, positions, flatten, offsets}
 use Rattle.groups.proofs.Colors.{colors-length}
 use Rattle.painting.specs.Painting.{Painted}
 use Rattle.painting.proofs.Pairs.{pairs-length, entries-in}
-use Rattle.painting.proofs.Used.{colors-low}
+use Rattle.painting.proofs.Used.{colors-low, groups-below}
 use Rattle.gathering.specs.Gathers.{Colored, bodiesIn}
 use Rattle.plan_questions.specs.Plans.{Tables}
 use Rattle.constraint_coloring.specs.Calls.{carried}
 use Rattle.constraint_coloring.specs.Stages.{Scheduled}
 use Rattle.constraint_coloring.specs.declared.ConstraintColoring.{ConstraintColoring}
 use Rattle.constraint_coloring.proofs.Accepted.{Accepted}
-
-groups-below : (n : ℕ) (colors : List ℕ) → all (λ c. ltb c n) colors ≡ true → groupCount colors ≤ n
-unfolding groupCount
-groups-below n [] h = omega arith
-groups-below n (c ∷ cs) h = max-le (ltb-true c n (and-left (ltb c n) (all (λ d. ltb d n) cs) h)) (groups-below n cs (and-right (ltb c n) (all (λ d. ltb d n) cs) h))
 
 -- the colors as the listing is lent them: the first places of the table
 pub painted-front : {flags pairs colors : List ℕ} {k : ℕ} (rest : List ℕ) (n : ℕ) → length colors ≡ n → Painted flags pairs colors k → Painted flags pairs (take n (colors ++ rest)) k

@@ -1,15 +1,16 @@
--- Every color is below the number of constraints.
+-- Every color is below the number of constraints, and where all are below n there are at most n groups.
 use Prim.Native.Nat.{ℕ, _+_, _≤_}
 use mathlib.Core.Path.{_≡_, refl}
 use mathlib.Core.Bool.{true}
 use mathlib.Core.List.{List, [], _∷_, _++_}
+use native.Mathlib.Nat.{max-le}
 use native.Mathlib.Omega.{arith}
 use lib.Dec.{ltb}
 use lib.ListN.{length, length-append}
-use borrow.Author.Tests.{lt-ltb}
+use borrow.Author.Tests.{ltb-true, lt-ltb}
 use Rattle.lists.specs.Basics.{all}
-use Rattle.lists.proofs.Laws.{and-both, by-cases, all-append}
-use Rattle.groups.specs.Groups.{clash, free, usedBy, colorFrom, colorsOf}
+use Rattle.lists.proofs.Laws.{and-left, and-right, and-both, by-cases, all-append}
+use Rattle.groups.specs.Groups.{clash, free, usedBy, colorFrom, colorsOf, groupCount}
 use Rattle.groups.proofs.Colors.{free-le}
 
 module _ (flags : List ℕ) where
@@ -31,3 +32,8 @@ module _ (flags : List ℕ) where
   pub colors-low : (cs : List (List ℕ)) → all (λ c. ltb c (length cs)) (colorsOf flags cs) ≡ true
   unfolding colorsOf
   colors-low cs = low-from (length cs) [] [] cs (omega arith) refl
+
+pub groups-below : (n : ℕ) (colors : List ℕ) → all (λ c. ltb c n) colors ≡ true → groupCount colors ≤ n
+unfolding groupCount
+groups-below n [] h = omega arith
+groups-below n (c ∷ cs) h = max-le (ltb-true c n (and-left (ltb c n) (all (λ d. ltb d n) cs) h)) (groups-below n cs (and-right (ltb c n) (all (λ d. ltb d n) cs) h))

@@ -1,26 +1,21 @@
 -- The walks one after another, a color each: before the walk for color k the constraints that are promised a lower color have it.
 use Prim.Native.Nat.{ℕ, suc, _+_, _≤_, _<_}
 use mathlib.Core.Path.{_≡_, refl, sym, ap, _∙_}
-use mathlib.Core.List.{List, [], _∷_}
+use mathlib.Core.List.{List, []}
 use native.Mathlib.Omega.{arith}
 use lib.Dec.{leb, ltb, eqb}
 use lib.ListN.{length, getD, take, replicate, length-replicate, getD-replicate}
 use lib.Seq.{ext-getD}
-use borrow.Author.Tests.{eqb-true, eqb-false, ltb-true, ltb-false, le-leb}
-use Rattle.lists.specs.Basics.{range, mem, maxOf}
-use Rattle.lists.proofs.Laws.{clashes, by-cases, all-in, getD-mem, max-in, all-intro}
+use borrow.Author.Tests.{eqb-true, eqb-false, ltb-true, ltb-false, lt-ltb, le-leb}
+use Rattle.lists.specs.Basics.{range, mem, place}
+use Rattle.lists.proofs.Laws.{clashes, by-cases, getD-mem, max-in, all-intro, place-lt, place-get}
 use Rattle.lists.proofs.Sums.{filter-all}
 use Rattle.groups.specs.Groups.{colorsOf, groupCount}
 use Rattle.groups.proofs.Colors.{colors-length}
 use Rattle.painting.specs.Painting.{promised, uncolored, ReadyParts, Opened, Walked}
-use Rattle.painting.proofs.Used.{colors-low}
+use Rattle.painting.proofs.Used.{colors-low, groups-below}
 use Rattle.painting.proofs.Promised.{listed-in, in-listed}
 use Rattle.painting.proofs.Passing.{many}
-
--- the least count above all colors
-max-low : (colors : List ℕ) (k : ℕ) → ((r : ℕ) → r < length colors → getD colors r 0 < k) → maxOf suc colors ≤ k
-max-low [] k h = omega arith
-max-low (c ∷ cs) k h = omega (arith, h 0 (omega arith), max-low cs k (λ r l. h (suc r) (omega arith)))
 
 module _ (flags : List ℕ) (cs : List (List ℕ)) where
   -- before the first walk every constraint is uncolored
@@ -42,12 +37,13 @@ module _ (flags : List ℕ) (cs : List (List ℕ)) where
       (λ l. clashes (mem r []) (rw e at (in-listed flags cs k r h (ltb-false (promised flags cs r) k l))) refl)
 
   count-low : (k : ℕ) → ((r : ℕ) → r < length cs → promised flags cs r < k) → groupCount (colorsOf flags cs) ≤ k
-  unfolding groupCount
-  count-low k h = max-low (colorsOf flags cs) k (λ r l. h r (omega (arith, colors-length flags cs)))
+  count-low k h =
+      let colors = colorsOf flags cs in
+      groups-below k colors (all-intro (λ c. ltb c k) colors
+      (λ c m. lt-ltb c k (omega (arith, place-get c colors m, h (place c colors) (omega (arith, place-lt c colors m, colors-length flags cs))))))
 
   count-few : groupCount (colorsOf flags cs) ≤ length cs
-  count-few = count-low (length cs) (λ r l. ltb-true (promised flags cs r) (length cs)
-      (all-in (λ c. ltb c (length cs)) (promised flags cs r) (colorsOf flags cs) (getD-mem (colorsOf flags cs) r (omega (arith, colors-length flags cs))) (colors-low flags cs)))
+  count-few = groups-below (length cs) (colorsOf flags cs) (colors-low flags cs)
 
 -- the walks for the colors below k are made
 pub record Walks (flags : List ℕ) (cs : List (List ℕ)) (k count : ℕ) (remaining colors stamps : List ℕ) : Type 0 where
