@@ -65,7 +65,8 @@ const COLORED: &[(&[u8], &[u16], &[u16])] = &[
     (&[1, 1, 1, 0], &[0, 1, 0, 2, 0, 3, 1, 2, 1, 3, 2, 3], &[0, 1, 2, 2, 1, 0]),
 ];
 
-/// Colorings: the samples, each side against their colors; then every list of five pairs among four bodies, on one plan with every choice of flags.
+/// Colorings: the samples, each side against their colors; then every list of five pairs among four bodies, on one plan with
+/// every choice of flags.
 fn colorings<L: Calls, R: Calls>(agree: &mut Agree<L, R>) {
     for (flags, pairs, colors) in COLORED {
         agree.colored(flags, pairs, colors);
