@@ -1,10 +1,10 @@
-// Internal: the endpoints of a constraint are a part of the endpoint list. The color stage of an update reads them here, so that it need
-// not know how many endpoints a constraint has.
+// Internal: the endpoints of a constraint are a part of the endpoint list, and a group is a part of its table. The stages of an update
+// read both here, so that they need not know how many endpoints a constraint has.
 ghost use mathlib.Core.Path.{_≡_};
 ghost use Rattle.parts.specs.Parts.{cut, Cut, Present, partAt};
 
 // The part of a table from the bound at place `from` up to that at place `to`.
-fn between<'a>(table: &'a [u16], bounds: &[u16], from: usize, to: usize) -> &'a [u16]
+pub fn between<'a>(table: &'a [u16], bounds: &[u16], from: usize, to: usize) -> &'a [u16]
     requires { ⌜ Cut (now table) (now bounds) from to ⌝ }
     ensures { λ r. ⌜ now r ≡ cut (now (table .entry)) (now (bounds .entry)) from to ⌝ }
 {
