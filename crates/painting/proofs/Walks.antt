@@ -1,18 +1,23 @@
--- The walks one after another, a color each: before the walk for color k the constraints that are promised a lower color have it.
-use Prim.Native.Nat.{ℕ, suc, _+_, _≤_, _<_}
+-- The walks one after another, a color each: before the walk for color k the constraints that are promised a lower color have it, and stand
+-- in their groups.
+use Prim.Native.Nat.{ℕ, zero, suc, _+_, _-_, _≤_, _<_}
 use mathlib.Core.Path.{_≡_, refl, sym, ap, _∙_}
-use mathlib.Core.List.{List, []}
+use mathlib.Core.Bool.{true, and-false}
+use mathlib.Core.List.{List, [], _∷_, _++_}
+use native.Mathlib.Numerals.{add-one}
 use native.Mathlib.Omega.{arith}
 use lib.Dec.{leb, ltb, eqb}
-use lib.ListN.{length, getD, take, replicate, length-replicate, getD-replicate}
-use lib.Seq.{ext-getD}
+use lib.ListN.{length, getD, set, take, drop, replicate, take-append-drop, length-set, length-replicate, getD-replicate}
+use lib.Seq.{ext-getD, take-all, take-suc-set, drop-at, drop-drop, drop-set-lt, length-take-le}
 use borrow.Author.Tests.{eqb-true, eqb-false, ltb-true, ltb-false, lt-ltb, le-leb}
 use Rattle.lists.specs.Basics.{range, mem, place}
-use Rattle.lists.proofs.Laws.{clashes, by-cases, getD-mem, max-in, all-intro, place-lt, place-get}
+use Rattle.lists.proofs.Laws.{clashes, by-cases, bool-ext, getD-mem, max-in, all-intro, place-lt, place-get, filter-mem, mem-filter, in-range, range-high}
+use Rattle.lists.proofs.Ranges.{map-range-suc}
 use Rattle.lists.proofs.Sums.{filter-all}
-use Rattle.groups.specs.Groups.{colorsOf, groupCount}
+use Rattle.groups.specs.Groups.{colorsOf, groupCount, members, flatten, offsets}
 use Rattle.groups.proofs.Colors.{colors-length}
-use Rattle.painting.specs.Painting.{promised, uncolored, ReadyParts, Opened, Walked}
+use Rattle.groups.proofs.Tables.{flatten-suc, length-offsets}
+use Rattle.painting.specs.Painting.{promised, uncolored, touched, Ready, Painted, Opened, Walked, Closable, Closed}
 use Rattle.painting.proofs.Used.{colors-low, groups-below}
 use Rattle.painting.proofs.Promised.{listed-in, in-listed}
 use Rattle.painting.proofs.Passing.{many}
@@ -45,62 +50,173 @@ module _ (flags : List ℕ) (cs : List (List ℕ)) where
   count-few : groupCount (colorsOf flags cs) ≤ length cs
   count-few = groups-below (length cs) (colorsOf flags cs) (colors-low flags cs)
 
--- the walks for the colors below k are made
-pub record Walks (flags : List ℕ) (cs : List (List ℕ)) (k count : ℕ) (remaining colors stamps : List ℕ) : Type 0 where
-  pub opened : Opened flags cs k count remaining colors stamps
+  -- a member of group k is a constraint that is promised color k, and the other way round
+  member-is : (k r : ℕ) → mem r (members (colorsOf flags cs) k) ≡ true → (r < length cs) × (eqb k (promised flags cs r) ≡ true)
+  unfolding members
+  member-is k r m =
+      let o = filter-mem (λ r. eqb k (promised flags cs r)) r (range (length (colorsOf flags cs))) m in
+      (omega (arith, range-high r 0 (length (colorsOf flags cs)) (o .0), colors-length flags cs), o .1)
+
+  is-member : (k r : ℕ) → r < length cs → mem r (members (colorsOf flags cs) k) ≡ eqb k (promised flags cs r)
+  unfolding members
+  is-member k r l = bool-ext (mem r (members (colorsOf flags cs) k)) (eqb k (promised flags cs r))
+      (λ m. member-is k r m .1)
+      (λ e. mem-filter (λ r. eqb k (promised flags cs r)) r (range (length (colorsOf flags cs))) (in-range r 0 (length (colorsOf flags cs)) (omega arith) (omega (arith, colors-length flags cs))) e)
+
+-- ---- tables
+take-none : (n : ℕ) → _≡_ {A = List ℕ} (take n []) []
+take-none zero = refl
+take-none (suc n) = refl
+
+drop-take : (s n : ℕ) (xs : List ℕ) → drop s (take n xs) ≡ take (n - s) (drop s xs)
+drop-take zero n xs = let e : n - 0 ≡ n = omega arith in rw e
+drop-take (suc s) zero xs = let e : 0 - suc s ≡ 0 = omega arith in rw e
+drop-take (suc s) (suc n) [] = sym (take-none (suc n - suc s))
+drop-take (suc s) (suc n) (x ∷ xs) = let e : suc n - suc s ≡ n - s = omega arith in rw e (drop-take s n xs)
+
+-- the part behind what stands in front
+part-behind : (n s : ℕ) (xs ys zs : List ℕ) → take n xs ≡ ys ++ zs → length ys ≡ s → take (n - s) (drop s xs) ≡ zs
+part-behind n s xs ys zs e l = sym (drop-take s n xs) ∙ ap (drop s) e ∙ drop-at ys zs s l
+
+first-zero : (xs : List ℕ) → 0 < length xs → take 1 (set xs 0 0) ≡ 0 ∷ []
+first-zero [] h = absurd (omega arith)
+first-zero (x ∷ xs) h = refl
+
+-- the walks for the colors below k are made, of n constraints
+pub record Walks (flags : List ℕ) (cs : List (List ℕ)) (n k count : ℕ) (starts₀ remaining colors starts colored busy : List ℕ) : Type 0 where
+  pub all : length cs ≡ n
+  pub opened : Opened flags cs k (n - count) count remaining colored busy
+  pub sized : length colors ≡ length cs
+  pub starts-length : length starts ≡ length cs + 1
   pub few : k ≤ groupCount (colorsOf flags cs)
-  pub colored : (r : ℕ) → r < length cs → promised flags cs r < k → getD colors r 0 ≡ promised flags cs r
+  pub given : (r : ℕ) → r < length cs → promised flags cs r < k → getD colors r 0 ≡ promised flags cs r
+  pub started : take (k + 1) starts ≡ offsets (members (colorsOf flags cs)) k
+  pub beyond : drop (k + 1) starts ≡ drop (k + 1) starts₀
 
-pub walks-none : {flags : List ℕ} {cs : List (List ℕ)} {remaining colors stamps : List ℕ} (n : ℕ) → ReadyParts flags cs remaining colors stamps
-    → take (length colors) remaining ≡ range (length colors) → stamps ≡ replicate n 0 → Walks flags cs 0 (length colors) remaining colors stamps
-walks-none {flags} {cs} {remaining} {colors} {stamps} n z e s =
+pub walks-none : {flags : List ℕ} {cs : List (List ℕ)} {remaining colors starts colored busy₀ : List ℕ} → Ready flags cs remaining colors starts colored busy₀
+    → (n : ℕ) (remaining′ busy : List ℕ) → length remaining′ ≡ length remaining → take (length colors) remaining′ ≡ range (length colors) → length busy ≡ length busy₀ → busy ≡ replicate n 0
+    → Walks flags cs (length colors) 0 (length colors) (set starts 0 0) remaining′ colors (set starts 0 0) colored busy
+unfolding offsets flatten
+walks-none {flags} {cs} {remaining} {colors} {starts} {colored} {busy₀} z n remaining′ busy lr e lb s =
     record {
+      all = sym (z .sized);
       opened = record {
-        ready = z;
-        color-few = omega arith;
-        counted = omega arith;
-        listed = e ∙ rw (z .constraints) (sym (uncolored-all flags cs));
-        stamps-low = λ b l. omega (arith, ap (λ (t : List ℕ). getD t b 0) s, getD-replicate {A = ℕ} n b 0 0 (omega (arith, z .stamps-length, ap length s, length-replicate {A = ℕ} n 0)));
+        few = omega (arith, z .sized, z .few);
+        bodies = z .bodies;
+        room = omega (arith, z .sized, z .room);
+        members-length = z .members-length ∙ z .sized;
+        busy-length = lb ∙ z .busy-length;
+        counted = omega (arith, z .sized);
+        listed = e ∙ rw (z .sized) (sym (uncolored-all flags cs));
+        grouped = ap (λ (n : ℕ). take n colored) none;
+        idle = λ b l. ap (λ (t : List ℕ). getD t b 0) s ∙ getD-replicate {A = ℕ} n b 0 0 (omega (arith, lb, z .busy-length, ap length s, length-replicate {A = ℕ} n 0));
       };
+      sized = z .sized;
+      starts-length = length-set starts 0 0 ∙ z .starts-length ∙ ap (λ (n : ℕ). n + 1) (z .sized);
       few = omega arith;
-      colored = λ r l h. absurd (omega arith);
+      given = λ r l h. absurd (omega arith);
+      started = first-zero starts (omega (arith, z .starts-length));
+      beyond = refl;
     }
+  where
+    none : length colors - length colors ≡ 0
+    none = omega arith
 
-module _ {flags : List ℕ} {cs : List (List ℕ)} {k count : ℕ} {remaining colors stamps : List ℕ} (w : Walks flags cs k count remaining colors stamps) where
+module _ {flags : List ℕ} {cs : List (List ℕ)} {n k count : ℕ} {starts₀ remaining colors starts colored busy : List ℕ} (w : Walks flags cs n k count starts₀ remaining colors starts colored busy) where
   pub walks-few : (count ≡ 0 → ⊥) → k < groupCount (colorsOf flags cs)
   walks-few h = opened-few flags cs k (omega (arith, many (w .opened)))
 
-  pub walks-more : {remaining′ colors′ stamps′ : List ℕ} {count′ : ℕ} → (count ≡ 0 → ⊥) → length remaining′ ≡ length remaining → length colors′ ≡ length colors → length stamps′ ≡ length stamps
-      → Walked flags cs k colors count′ remaining′ colors′ stamps′ → Walks flags cs (k + 1) count′ remaining′ colors′ stamps′
-  walks-more {remaining′} {colors′} {stamps′} {count′} h lr lc ls d =
-      let z = w .opened .ready in
-      record {
-        opened = record {
-          ready = record {
-            constraints = lc ∙ z .constraints;
-            few = omega (arith, z .few);
-            bodies = z .bodies;
-            room = omega (arith, z .room);
-            stamps-length = ls ∙ z .stamps-length;
+  -- a color that is opened is below the number of constraints
+  pub color-small : (count ≡ 0 → ⊥) → k < length cs
+  color-small h = omega (arith, walks-few h, count-few flags cs)
+
+  module _ {remaining′ colored′ busy′ : List ℕ} {left : ℕ} (d : Walked flags cs k (n - count) count left remaining′ colored′ busy′) (lc : length colored′ ≡ length colored) (lb : length busy′ ≡ length busy) where
+    abbrev start : ℕ
+    start = n - count
+
+    abbrev end : ℕ
+    end = n - left
+
+    abbrev g : ℕ → List ℕ
+    g = members (colorsOf flags cs)
+
+    grouped : take end colored′ ≡ flatten g (suc k)
+    grouped = let e : start + (count - left) ≡ end = omega (arith, w .all, w .opened .counted, d .counted) in rw (sym e) (d .grouped)
+
+    end-is : length (flatten g (suc k)) ≡ end
+    end-is = sym (ap length grouped) ∙ length-take-le end colored′ (omega (arith, w .all, lc, w .opened .members-length))
+
+    -- the members of the color
+    pub part-members : take (end - start) (drop start colored′) ≡ g k
+    part-members = part-behind end start colored′ (flatten g k) (g k) (grouped ∙ flatten-suc g k) (sym (ap length (w .opened .grouped)) ∙ length-take-le start colored (omega (arith, w .all, w .opened .members-length, w .opened .counted)))
+
+    pub closable : (count ≡ 0 → ⊥) → Closable cs k (take (end - start) (drop start colored′)) colors busy′
+    closable h =
+        rw part-members
+        (record {
+          few = omega (arith, w .sized, w .opened .few);
+          color-few = omega (arith, color-small h, w .opened .few);
+          inside = all-intro (λ r. ltb r (length colors)) (g k) (λ r m. lt-ltb r (length colors) (omega (arith, w .sized, member-is flags cs k r m .0)));
+          bodies = rw (lb, w .opened .busy-length) (w .opened .bodies);
+        })
+
+    pub walks-more : {colors″ busy″ : List ℕ} → (count ≡ 0 → ⊥) → length remaining′ ≡ length remaining → length colors″ ≡ length colors → length busy″ ≡ length busy′
+        → Closed cs k (take (end - start) (drop start colored′)) colors busy′ colors″ busy″ → Walks flags cs n (k + 1) left starts₀ remaining′ colors″ (set starts (k + 1) end) colored′ busy″
+    unfolding offsets
+    walks-more {colors″} {busy″} h lr lk lf c =
+        record {
+          all = w .all;
+          opened = record {
+            few = w .opened .few;
+            bodies = w .opened .bodies;
+            room = omega (arith, lr, w .opened .room);
+            members-length = lc ∙ w .opened .members-length;
+            busy-length = lf ∙ lb ∙ w .opened .busy-length;
+            counted = omega (arith, w .all, d .counted, w .opened .counted);
+            listed = d .left-are;
+            grouped = rw (add-one k) grouped;
+            idle = idle;
           };
-          color-few = omega (arith, walks-few h, count-few flags cs, z .constraints);
-          counted = omega (arith, d .counted);
-          listed = d .left;
-          stamps-low = d .stamps-low;
-        };
-        few = omega (arith, walks-few h);
-        colored = λ r l m. d .given r l ∙ by-cases (eqb k (promised flags cs r))
+          sized = lk ∙ w .sized;
+          starts-length = length-set starts (k + 1) end ∙ w .starts-length;
+          few = omega (arith, walks-few h);
+          given = given;
+          started = started;
+          beyond = beyond;
+        }
+      where
+        closed : Closed cs k (g k) colors busy′ colors″ busy″
+        closed = rw part-members at c
+
+        idle : (b : ℕ) → b < length flags → getD busy″ b 0 ≡ 0
+        idle b l = by-cases (touched cs (g k) b)
+            (λ t. closed .freed b (omega (arith, lb, w .opened .busy-length)) ∙ rw t)
+            (λ t. closed .freed b (omega (arith, lb, w .opened .busy-length)) ∙ rw t (d .held b l ∙ rw (t, and-false)))
+
+        given : (r : ℕ) → r < length cs → promised flags cs r < k + 1 → getD colors″ r 0 ≡ promised flags cs r
+        given r l m = closed .given r (omega (arith, w .sized)) ∙ rw (is-member flags cs k r l) (by-cases (eqb k (promised flags cs r))
             (λ e. rw e (eqb-true k (promised flags cs r) e))
-            (λ e. rw e (w .colored r l (omega (arith, eqb-false k (promised flags cs r) e))));
-      }
+            (λ e. rw e (w .given r l (omega (arith, eqb-false k (promised flags cs r) e)))))
+
+        started : take (k + 1 + 1) (set starts (k + 1) end) ≡ offsets g (k + 1)
+        started =
+            let a : take (suc (k + 1)) (set starts (k + 1) end) ≡ take (k + 1) starts ++ end ∷ [] = take-suc-set starts (k + 1) end (omega (arith, w .starts-length, color-small h)) in
+            let b : offsets g (suc k) ≡ offsets g k ++ end ∷ [] = map-range-suc (λ j. length (flatten g j)) (suc k) ∙ rw end-is in
+            ap (λ (m : ℕ). take m (set starts (k + 1) end)) (add-one (k + 1)) ∙ a ∙ ap (λ (t : List ℕ). t ++ end ∷ []) (w .started) ∙ sym b ∙ ap (offsets g) (sym (add-one k))
+
+        beyond : drop (k + 1 + 1) (set starts (k + 1) end) ≡ drop (k + 1 + 1) starts₀
+        beyond = drop-set-lt (k + 1 + 1) starts (k + 1) end (omega arith) ∙ sym (drop-drop 1 (k + 1) starts) ∙ ap (drop 1) (w .beyond) ∙ drop-drop 1 (k + 1) starts₀
 
   module _ (h : count ≡ 0) where
     below : (r : ℕ) → r < length cs → promised flags cs r < k
     below r l = none-left flags cs k r (sym (w .opened .listed) ∙ ap (λ (n : ℕ). take n remaining) h) l
 
-    pub walks-colors : colors ≡ colorsOf flags cs
-    walks-colors = ext-getD 0 colors (colorsOf flags cs) (w .opened .ready .constraints ∙ sym (colors-length flags cs))
-        (λ r l. let m : r < length cs = omega (arith, w .opened .ready .constraints) in w .colored r m (below r m))
-
-    pub walks-count : k ≡ groupCount (colorsOf flags cs)
-    walks-count = omega (arith, w .few, count-low flags cs k below)
+    pub walks-done : (t : List ℕ) → starts₀ ≡ set t 0 0 → Painted flags cs t colors starts colored busy k
+    walks-done t e =
+        record {
+          colors-are = ext-getD 0 colors (colorsOf flags cs) (w .sized ∙ sym (colors-length flags cs)) (λ r l. let m : r < length cs = omega (arith, w .sized) in w .given r m (below r m));
+          count-is = omega (arith, w .few, count-low flags cs k below);
+          starts-are = sym (take-append-drop (k + 1) starts) ∙ rw (w .started, w .beyond, e, drop-set-lt (k + 1) t 0 0 (omega arith), length-offsets (members (colorsOf flags cs)) k, add-one k);
+          members-are = sym (take-all (n - count) colored (omega (arith, w .all, w .opened .members-length))) ∙ w .opened .grouped;
+          idle = w .opened .idle;
+        }

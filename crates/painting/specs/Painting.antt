@@ -1,41 +1,31 @@
--- The color stage: what it is lent, what it promises, and what its tables hold from color to color.
-use Prim.Native.Nat.{ℕ, _+_, _*_, _≤_, _<_}
+-- The color stage: what it is lent, what it promises, and what its tables hold from color to color. A constraint is the list of its bodies,
+-- of whatever length.
+use Prim.Native.Nat.{ℕ, suc, _+_, _-_, _≤_, _<_}
 use mathlib.Core.Path.{_≡_}
-use mathlib.Core.Bool.{true, _&&_, cond}
-use mathlib.Core.List.{List}
+use mathlib.Core.Bool.{Bool, true, _&&_, cond}
+use mathlib.Core.List.{List, []}
 use lib.Dec.{leb, ltb, eqb}
 use lib.ListN.{length, getD, take}
-use Rattle.lists.specs.Basics.{all, mem, filter, range}
-use Rattle.frame.specs.Frames.{fits}
-use Rattle.groups.specs.Groups.{pairsOf, flagged, colorsOf, groupCount}
+use Rattle.lists.specs.Basics.{one, any, all, mem, filter, range, over}
+use Rattle.groups.specs.Groups.{flagged, colorsOf, groupCount, members, flatten, offsets}
 
--- the sizes of what is lent, and endpoints that pass question 7; of what the tables hold nothing is asked
-pub record Ready (flags pairs remaining colors stamps : List ℕ) : Type 0 where
-  pub constraints : length pairs ≡ 2 * length colors
-  pub few : length colors ≤ 8192
-  pub sound : all (fits (length flags)) (pairsOf pairs) ≡ true
-  pub room : length colors ≤ length remaining
-  pub stamps-length : length stamps ≡ length flags
-
--- the colors, and how many groups they make
-pub record Painted (flags pairs colors : List ℕ) (color-count : ℕ) : Type 0 where
-  pub colors-are : colors ≡ colorsOf flags (pairsOf pairs)
-  pub count-is : color-count ≡ groupCount (colorsOf flags (pairsOf pairs))
-
--- ---- the same for constraints cs, each a list of as many bodies as it has
-
--- the sizes of what is lent, and bodies that exist
-pub record ReadyParts (flags : List ℕ) (cs : List (List ℕ)) (remaining colors stamps : List ℕ) : Type 0 where
-  pub constraints : length colors ≡ length cs
+-- the sizes of what is lent, and bodies that exist; of what the tables hold nothing is asked
+pub record Ready (flags : List ℕ) (cs : List (List ℕ)) (remaining colors starts colored busy : List ℕ) : Type 0 where
+  pub sized : length colors ≡ length cs
   pub few : length colors ≤ 8192
   pub bodies : all (λ bs. all (λ b. ltb b (length flags)) bs) cs ≡ true
   pub room : length colors ≤ length remaining
-  pub stamps-length : length stamps ≡ length flags
+  pub starts-length : length starts ≡ length colors + 1
+  pub members-length : length colored ≡ length colors
+  pub busy-length : length busy ≡ length flags
 
--- the colors, and how many groups they make
-pub record PaintedParts (flags : List ℕ) (cs : List (List ℕ)) (colors : List ℕ) (color-count : ℕ) : Type 0 where
-  pub colors-are : colors ≡ colorsOf flags cs
+-- the colors, how many groups they make, the members of all groups and where each group starts, with the end; no body is left busy
+pub record Painted (flags : List ℕ) (cs : List (List ℕ)) (starts colors′ starts′ colored′ busy′ : List ℕ) (color-count : ℕ) : Type 0 where
+  pub colors-are : colors′ ≡ colorsOf flags cs
   pub count-is : color-count ≡ groupCount (colorsOf flags cs)
+  pub starts-are : starts′ ≡ over (offsets (members (colorsOf flags cs)) color-count) starts
+  pub members-are : colored′ ≡ flatten (members (colorsOf flags cs)) color-count
+  pub idle : (b : ℕ) → b < length flags → getD busy′ b 0 ≡ 0
 
 -- ---- a walk for each color
 
@@ -47,22 +37,47 @@ promised flags cs r = getD (colorsOf flags cs) r 0
 unfoldable pub uncolored : List ℕ → List (List ℕ) → ℕ → List ℕ
 uncolored flags cs k = filter (λ r. leb k (promised flags cs r)) (range (length cs))
 
--- color k is opened: the first `count` of the remaining are the constraints still uncolored, and no body bears its stamp, k + 1
-pub record Opened (flags : List ℕ) (cs : List (List ℕ)) (k count : ℕ) (remaining colors stamps : List ℕ) : Type 0 where
-  pub ready : ReadyParts flags cs remaining colors stamps
-  pub color-few : k ≤ length colors
-  pub counted : count ≤ length colors
+-- a body is on one of the constraints ms
+abbrev pub touched : List (List ℕ) → List ℕ → ℕ → Bool
+touched cs ms b = any (λ r. mem b (getD cs r [])) ms
+
+-- color k is opened: the first `count` of the remaining are the constraints still uncolored, the groups of the lower colors are listed up
+-- to place `start`, and no body is busy
+pub record Opened (flags : List ℕ) (cs : List (List ℕ)) (k start count : ℕ) (remaining colored busy : List ℕ) : Type 0 where
+  pub few : length cs ≤ 8192
+  pub bodies : all (λ bs. all (λ b. ltb b (length flags)) bs) cs ≡ true
+  pub room : length cs ≤ length remaining
+  pub members-length : length colored ≡ length cs
+  pub busy-length : length busy ≡ length flags
+  pub counted : start + count ≡ length cs
   pub listed : take count remaining ≡ uncolored flags cs k
-  pub stamps-low : (b : ℕ) → b < length flags → getD stamps b 0 ≤ k
+  pub grouped : take start colored ≡ flatten (members (colorsOf flags cs)) k
+  pub idle : (b : ℕ) → b < length flags → getD busy b 0 ≡ 0
 
--- its walk is made: the constraints that are promised color k have it, the other colors stay as they were, uncolored are left exactly
--- the constraints promised a higher color, and no body bears the stamp of the next color, k + 2
-pub record Walked (flags : List ℕ) (cs : List (List ℕ)) (k : ℕ) (colors : List ℕ) (count : ℕ) (remaining′ colors′ stamps′ : List ℕ) : Type 0 where
-  pub given : (r : ℕ) → r < length cs → getD colors′ r 0 ≡ cond (eqb k (promised flags cs r)) k (getD colors r 0)
-  pub counted : count ≤ length colors
-  pub left : take count remaining′ ≡ uncolored flags cs (k + 1)
-  pub stamps-low : (b : ℕ) → b < length flags → getD stamps′ b 0 ≤ k + 1
+-- its walk is made: uncolored are left exactly the constraints promised a higher color, the others are listed as group k, and busy are the
+-- dynamic bodies on them
+pub record Walked (flags : List ℕ) (cs : List (List ℕ)) (k start count left : ℕ) (remaining′ colored′ busy′ : List ℕ) : Type 0 where
+  pub counted : left ≤ count
+  pub left-are : take left remaining′ ≡ uncolored flags cs (k + 1)
+  pub grouped : take (start + (count - left)) colored′ ≡ flatten (members (colorsOf flags cs)) (suc k)
+  pub held : (b : ℕ) → b < length flags → getD busy′ b 0 ≡ one (flagged flags b && touched cs (members (colorsOf flags cs) k) b)
 
--- those of the bodies bs that are dynamic bear the stamp, the others what they bore
-abbrev pub Stamped : List ℕ → ℕ → List ℕ → List ℕ → List ℕ → Type 0
-Stamped flags stamp bs stamps stamps′ = (b : ℕ) → b < length stamps → getD stamps′ b 0 ≡ cond (flagged flags b && mem b bs) stamp (getD stamps b 0)
+-- of the bodies bs the dynamic ones are held, if the color fits; the others stay as they were
+abbrev pub Held : List ℕ → ℕ → List ℕ → List ℕ → List ℕ → Type 0
+Held flags fits bs busy busy′ = (b : ℕ) → b < length busy → getD busy′ b 0 ≡ cond (eqb fits 1 && (flagged flags b && mem b bs)) 1 (getD busy b 0)
+
+-- the bodies bs are not busy; the others stay as they were
+abbrev pub Freed : List ℕ → List ℕ → List ℕ → Type 0
+Freed bs busy busy′ = (b : ℕ) → b < length busy → getD busy′ b 0 ≡ cond (mem b bs) 0 (getD busy b 0)
+
+-- the members ms of color k are constraints, on bodies that exist
+pub record Closable (cs : List (List ℕ)) (k : ℕ) (ms colors busy : List ℕ) : Type 0 where
+  pub few : length colors ≤ 8192
+  pub color-few : k ≤ 8192
+  pub inside : all (λ r. ltb r (length colors)) ms ≡ true
+  pub bodies : all (λ bs. all (λ b. ltb b (length busy)) bs) cs ≡ true
+
+-- color k is closed: the constraints ms have it, and their bodies are not busy; the others stay as they were
+pub record Closed (cs : List (List ℕ)) (k : ℕ) (ms colors busy colors′ busy′ : List ℕ) : Type 0 where
+  pub given : (r : ℕ) → r < length colors → getD colors′ r 0 ≡ cond (mem r ms) k (getD colors r 0)
+  pub freed : (b : ℕ) → b < length busy → getD busy′ b 0 ≡ cond (touched cs ms b) 0 (getD busy b 0)

@@ -1,15 +1,20 @@
 // Internal: the color stage of an update (constraint_coloring.rs, the coloring loop of `rebuild`), in the order of Welsh and Powell
 // (1967): open a color, walk the list once and give it to every uncolored constraint that it fits, open the following color. The list
-// order is ours. A dynamic body's stamp is the last color given on it, plus 1: a color fits a constraint if no body of it bears the
-// color's stamp. Cost: a constraint is met once for each color up to its own.
+// order is ours. While a color is open, a dynamic body is busy (1, else 0) if a constraint of the color is on it: the color fits a
+// constraint if no body of it is busy. A walk lists the constraints of its color, in list order. Cost: a constraint is met once for each
+// color up to its own.
 ghost use mathlib.Core.Path.{_≡_};
 ghost use mathlib.Core.Bool.{true};
-ghost use Prim.Native.Nat.{_≤_};
+ghost use Prim.Native.Nat.{ℕ, _<_, _≤_};
 ghost use lib.Dec.{ltb};
-ghost use lib.ListN.{length, take};
+ghost use lib.ListN.{length, getD, take};
 ghost use Rattle.lists.specs.Basics.{all, range};
 ghost use Rattle.parts.specs.Parts.{Bounded, partsAt};
-ghost use Rattle.painting.specs.Painting.{Ready, Painted, ReadyParts, PaintedParts, Opened, Walked, Stamped};
+ghost use Rattle.painting.specs.Painting.{Ready, Painted, Opened, Walked, Held, Freed, Closable, Closed};
+
+// Which constraints fit one of the first colors can't be guessed, so their walks don't branch on it. Later walks leave most constraints
+// uncolored, so they pass one at its first busy body.
+const UNGUESSED: usize = 8;
 
 // Lists all constraints, in list order.
 fn list_all(remaining: &mut [u16], constraint_count: usize)
@@ -21,109 +26,145 @@ fn list_all(remaining: &mut [u16], constraint_count: usize)
     }
 }
 
-// Puts the stamp on those of the bodies that are dynamic.
-fn stamp_bodies(dynamic_bodies: &[u8], bodies: &[u16], body_stamps: &mut [u16], stamp: u16)
-    requires { ⌜ (length (now «body_stamps») ≡ length (now «dynamic_bodies»)) × (all (λ b. ltb b (length (now «dynamic_bodies»))) (now bodies) ≡ true) ⌝ }
-    ensures { λ _. ⌜ Stamped (now («dynamic_bodies» .entry)) stamp (now (bodies .entry)) (now («body_stamps» .entry)) (now («body_stamps» .exit)) ⌝ }
+// Holds those of the bodies that are dynamic, if the color fits (1); if not (0), none.
+fn hold_bodies(dynamic_bodies: &[u8], bodies: &[u16], fits: u16, busy_bodies: &mut [u16])
+    requires { ⌜ (length (now «busy_bodies») ≡ length (now «dynamic_bodies»)) × (all (λ b. ltb b (length (now «dynamic_bodies»))) (now bodies) ≡ true) ⌝ }
+    requires { ⌜ (fits ≤ 1) × ((b : ℕ) → b < length (now «busy_bodies») → getD (now «busy_bodies») b 0 ≤ 1) ⌝ }
+    ensures { λ _. ⌜ Held (now («dynamic_bodies» .entry)) fits (now (bodies .entry)) (now («busy_bodies» .entry)) (now («busy_bodies» .exit)) ⌝ }
 {
     for place in 0..bodies.len() {
         let body = bodies[place] as usize;
-        if dynamic_bodies[body] == 1 {
-            body_stamps[body] = stamp;
-        }
+        let dynamic = (dynamic_bodies[body] == 1) as u16;
+        busy_bodies[body] = busy_bodies[body] | (dynamic & fits);
     }
 }
 
 // The walk for a color: the first `count` of the remaining constraints are uncolored; those that the color does not fit stay, in list
-// order. Answers how many.
+// order, and the others are listed from place `start` on. Answers how many stay.
 fn walk(
     dynamic_bodies: &[u8],
     endpoints: &[u16],
     bounds: &[u16],
     remaining: &mut [u16],
-    constraint_colors: &mut [u16],
-    body_stamps: &mut [u16],
+    colored_constraints: &mut [u16],
+    busy_bodies: &mut [u16],
     color: usize,
+    start: usize,
     count: usize,
 ) -> usize
-    requires { ⌜ Bounded (length (now «constraint_colors»)) (now bounds) (now endpoints) ⌝ }
-    requires { ⌜ Opened (now «dynamic_bodies») (partsAt (length (now «constraint_colors»)) (now bounds) (now endpoints)) color count (now remaining) (now «constraint_colors») (now «body_stamps») ⌝ }
-    ensures { λ r. ⌜ Walked (now («dynamic_bodies» .entry)) (partsAt (length (now («constraint_colors» .entry))) (now (bounds .entry)) (now (endpoints .entry))) color (now («constraint_colors» .entry)) r (now (remaining .exit)) (now («constraint_colors» .exit)) (now («body_stamps» .exit)) ⌝ }
+    requires { ⌜ Bounded (length (now «colored_constraints»)) (now bounds) (now endpoints) ⌝ }
+    requires { ⌜ Opened (now «dynamic_bodies») (partsAt (length (now «colored_constraints»)) (now bounds) (now endpoints)) color start count (now remaining) (now «colored_constraints») (now «busy_bodies») ⌝ }
+    ensures { λ r. ⌜ Walked (now («dynamic_bodies» .entry)) (partsAt (length (now («colored_constraints» .entry))) (now (bounds .entry)) (now (endpoints .entry))) color start count r (now (remaining .exit)) (now («colored_constraints» .exit)) (now («busy_bodies» .exit)) ⌝ }
 {
-    let stamp = (color + 1) as u16;
-    // Of those passed, the first `left` of the remaining stay uncolored, and the bodies of the others, if dynamic, bear the stamp.
+    let guessed = UNGUESSED <= color;
+    // Of those passed, the first `left` of the remaining stay uncolored, and the others are listed up to place `end`.
     let mut left = 0;
+    let mut end = start;
     'walk: for passed in 0..count {
-        let constraint = remaining[passed] as usize;
-        let bodies = parts::part(endpoints, bounds, constraint);
+        let constraint = remaining[passed];
+        let bodies = parts::part(endpoints, bounds, constraint as usize);
+        let mut busy = 0;
         'bodies: for place in 0..bodies.len() {
             let body = bodies[place] as usize;
-            if body_stamps[body] == stamp {
-                remaining[left] = constraint as u16;
+            busy = busy | busy_bodies[body];
+            if guessed & (busy == 1) {
+                remaining[left] = constraint;
                 left += 1;
                 continue 'walk;
             }
         }
-        constraint_colors[constraint] = color as u16;
-        stamp_bodies(dynamic_bodies, bodies, body_stamps, stamp);
+        let fits = 1 - busy;
+        remaining[left] = constraint;
+        left += busy as usize;
+        colored_constraints[end] = constraint;
+        end += fits as usize;
+        hold_bodies(dynamic_bodies, bodies, fits, busy_bodies);
     }
     left
 }
 
-// The colors of all constraints, whatever the number of their bodies, and how many groups they make: the first color that no
-// constraint needs.
-fn color_constraints(
+// Lets the bodies of a constraint go.
+fn free_bodies(bodies: &[u16], busy_bodies: &mut [u16])
+    requires { ⌜ all (λ b. ltb b (length (now «busy_bodies»))) (now bodies) ≡ true ⌝ }
+    ensures { λ _. ⌜ Freed (now (bodies .entry)) (now («busy_bodies» .entry)) (now («busy_bodies» .exit)) ⌝ }
+{
+    for place in 0..bodies.len() {
+        busy_bodies[bodies[place] as usize] = 0;
+    }
+}
+
+// Gives the color to its members and lets their bodies go.
+fn close(
+    endpoints: &[u16],
+    bounds: &[u16],
+    members: &[u16],
+    color: usize,
+    constraint_colors: &mut [u16],
+    busy_bodies: &mut [u16],
+)
+    requires { ⌜ Bounded (length (now «constraint_colors»)) (now bounds) (now endpoints) ⌝ }
+    requires { ⌜ Closable (partsAt (length (now «constraint_colors»)) (now bounds) (now endpoints)) color (now members) (now «constraint_colors») (now «busy_bodies») ⌝ }
+    ensures { λ _. ⌜ Closed (partsAt (length (now («constraint_colors» .entry))) (now (bounds .entry)) (now (endpoints .entry))) color (now (members .entry)) (now («constraint_colors» .entry)) (now («busy_bodies» .entry)) (now («constraint_colors» .exit)) (now («busy_bodies» .exit)) ⌝ }
+{
+    for place in 0..members.len() {
+        let constraint = members[place] as usize;
+        constraint_colors[constraint] = color as u16;
+        free_bodies(
+            parts::part(endpoints, bounds, constraint),
+            busy_bodies,
+        );
+    }
+}
+
+// The colors of all constraints, the members of all groups, where each group starts, with the end, and how many groups there are: the
+// first color that no constraint needs.
+pub fn color_constraints(
     dynamic_bodies: &[u8],
     endpoints: &[u16],
     bounds: &[u16],
     remaining: &mut [u16],
     constraint_colors: &mut [u16],
-    body_stamps: &mut [u16],
+    color_offsets: &mut [u16],
+    colored_constraints: &mut [u16],
+    busy_bodies: &mut [u16],
 ) -> usize
     requires { ⌜ Bounded (length (now «constraint_colors»)) (now bounds) (now endpoints) ⌝ }
-    requires { ⌜ ReadyParts (now «dynamic_bodies») (partsAt (length (now «constraint_colors»)) (now bounds) (now endpoints)) (now remaining) (now «constraint_colors») (now «body_stamps») ⌝ }
-    ensures { λ r. ⌜ PaintedParts (now («dynamic_bodies» .entry)) (partsAt (length (now («constraint_colors» .entry))) (now (bounds .entry)) (now (endpoints .entry))) (now («constraint_colors» .exit)) r ⌝ }
+    requires { ⌜ Ready (now «dynamic_bodies») (partsAt (length (now «constraint_colors»)) (now bounds) (now endpoints)) (now remaining) (now «constraint_colors») (now «color_offsets») (now «colored_constraints») (now «busy_bodies») ⌝ }
+    ensures { λ r. ⌜ Painted (now («dynamic_bodies» .entry)) (partsAt (length (now («constraint_colors» .entry))) (now (bounds .entry)) (now (endpoints .entry))) (now («color_offsets» .entry)) (now («constraint_colors» .exit)) (now («color_offsets» .exit)) (now («colored_constraints» .exit)) (now («busy_bodies» .exit)) r ⌝ }
 {
-    tables::fill(body_stamps, 0);
-    list_all(remaining, constraint_colors.len());
-    let mut uncolored_count = constraint_colors.len();
-    // The first `uncolored_count` of the remaining are promised no color below `color`; all others have theirs.
+    let constraint_count = constraint_colors.len();
+    tables::fill(busy_bodies, 0);
+    list_all(remaining, constraint_count);
+    color_offsets[0] = 0;
+    let mut uncolored_count = constraint_count;
+    // The first `uncolored_count` of the remaining are promised no color below `color`; all others have theirs, and are listed.
     let mut color = 0;
     'colors: loop {
         if uncolored_count == 0 {
             break 'colors color;
         }
+        let start = constraint_count - uncolored_count;
         uncolored_count = walk(
             dynamic_bodies,
             endpoints,
             bounds,
             remaining,
-            constraint_colors,
-            body_stamps,
+            colored_constraints,
+            busy_bodies,
             color,
+            start,
             uncolored_count,
         );
+        let end = constraint_count - uncolored_count;
+        close(
+            endpoints,
+            bounds,
+            &colored_constraints[start..end],
+            color,
+            constraint_colors,
+            busy_bodies,
+        );
         color += 1;
+        color_offsets[color] = end as u16;
     }
-}
-
-// The colors of all pairs, and how many groups they make.
-pub fn paint(
-    dynamic_bodies: &[u8],
-    endpoints: &[u16],
-    remaining: &mut [u16],
-    constraint_colors: &mut [u16],
-    body_stamps: &mut [u16],
-) -> usize
-    requires { ⌜ Ready (now «dynamic_bodies») (now endpoints) (now remaining) (now «constraint_colors») (now «body_stamps») ⌝ }
-    ensures { λ r. ⌜ Painted (now («dynamic_bodies» .entry)) (now (endpoints .entry)) (now («constraint_colors» .exit)) r ⌝ }
-{
-    color_constraints(
-        dynamic_bodies,
-        endpoints,
-        &[],
-        remaining,
-        constraint_colors,
-        body_stamps,
-    )
 }
