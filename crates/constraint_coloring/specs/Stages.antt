@@ -1,35 +1,27 @@
--- What the two private steps of an update leave: the listing of all groups, and the whole rebuild.
-use Prim.Native.Nat.{ℕ, _+_, _≤_}
+-- What the private steps of an update leave: the largest group, the listing of all groups, and the whole rebuild.
+use Prim.Native.Nat.{ℕ, suc, _-_, _≤_, _<_}
 use mathlib.Core.Path.{_≡_}
 use mathlib.Core.List.{List}
-use lib.ListN.{length}
-use Rattle.lists.specs.Basics.{over}
-use Rattle.groups.specs.Groups.{planOf, pairsOf, members, largestGroup, positions, flatten, offsets}
-use Rattle.gathering.specs.Gathers.{Colored, bodiesIn}
+use lib.ListN.{length, getD}
+use Rattle.lists.specs.Basics.{maxOf, range, over}
+use Rattle.groups.specs.Groups.{planOf, positions, flatten}
+use Rattle.gathering.specs.Gathers.{Gathered}
 use Rattle.plan_questions.specs.Plans.{Tables}
 use Rattle.constraint_coloring.specs.Calls.{carried}
 use Rattle.constraint_coloring.specs.declared.ConstraintColoring.{ConstraintColoring}
 
--- colored constraints can be listed: tables of these lengths
-pub record Schedulable (body-count : ℕ) (endpoints constraint-colors : List ℕ) (color-count : ℕ) (scratch-offsets body-stamps color-offsets colored-constraints color-body-offsets color-bodies constraint-body-positions : List ℕ) : Type 0 where
-  pub colored : Colored body-count endpoints constraint-colors color-count
-  pub scratch-colors : color-count ≤ length scratch-offsets
-  pub scratch-bodies : body-count ≤ length scratch-offsets
-  pub stamps : length body-stamps ≡ body-count
-  pub ends : length color-offsets ≡ color-count + 1
-  pub constraints : length colored-constraints ≡ length constraint-colors
-  pub body-ends : length color-body-offsets ≡ color-count + 1
-  pub bodies : length color-bodies ≡ length endpoints
-  pub positions : length constraint-body-positions ≡ length endpoints
+-- no start is above the next
+abbrev pub Rising : List ℕ → Type 0
+Rising starts = (k : ℕ) → suc k < length starts → getD starts k 0 ≤ getD starts (suc k) 0
 
--- they are listed: members and bodies of all groups, positions of all constraints; the answer is the size of the largest group
-pub record Scheduled (body-count : ℕ) (endpoints constraint-colors : List ℕ) (color-count : ℕ) (color-bodies color-offsets′ colored-constraints′ color-body-offsets′ color-bodies′ constraint-body-positions′ : List ℕ) (answer : ℕ) : Type 0 where
-  pub largest : answer ≡ largestGroup constraint-colors
-  pub starts : color-offsets′ ≡ offsets (members constraint-colors) color-count
-  pub constraints : colored-constraints′ ≡ flatten (members constraint-colors) color-count
-  pub body-starts : color-body-offsets′ ≡ offsets (bodiesIn body-count endpoints constraint-colors) color-count
-  pub bodies : color-bodies′ ≡ over (flatten (bodiesIn body-count endpoints constraint-colors) color-count) color-bodies
-  pub positions : constraint-body-positions′ ≡ flatten (positions body-count (pairsOf endpoints) constraint-colors) (length constraint-colors)
+-- the largest distance from one start to the next
+unfoldable pub widest : List ℕ → ℕ
+widest starts = maxOf (λ k. getD starts (suc k) 0 - getD starts k 0) (range (length starts - 1))
+
+-- colored constraints cs are listed: the bodies of all groups, where each group's start, with the end, and the positions of all constraints
+pub record Scheduled (body-count : ℕ) (cs : List (List ℕ)) (constraint-colors : List ℕ) (color-count : ℕ) (color-bodies color-body-offsets′ color-bodies′ constraint-body-positions′ : List ℕ) : Type 0 where
+  pub gathered : Gathered body-count cs constraint-colors color-count color-body-offsets′ color-bodies color-bodies′
+  pub positions : constraint-body-positions′ ≡ flatten (positions body-count cs constraint-colors) (length constraint-colors)
 
 -- the plan is rebuilt: the tables t at entry and u at exit, the plan r; of the free tables the lengths are kept
 pub record Rebuilt (flags pairs : List ℕ) (t u : Tables) (r : ConstraintColoring) : Type 0 where

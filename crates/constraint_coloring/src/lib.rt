@@ -1,12 +1,15 @@
 // Conflict-free groups of constraints (constraint_coloring.rs): the plan that an update builds, and the lookups in it.
 use frame::Frame;
 ghost use mathlib.Core.Path.{_≡_};
-ghost use Prim.Native.Nat.{_≤_};
+ghost use Prim.Native.Nat.{_≤_, max};
 ghost use lib.ListN.{length};
 ghost use Rattle.lists.specs.Basics.{over};
+ghost use Rattle.groups.specs.Groups.{groupCount};
+ghost use Rattle.parts.specs.Parts.{partsAt, Bounded, Gapless};
+ghost use Rattle.gathering.specs.Gathers.{Gatherable};
 ghost use Rattle.plan_questions.specs.Plans.{groupPart};
 ghost use Rattle.constraint_coloring.specs.Calls.{freshPlan, refusalWith, Updated, Located};
-ghost use Rattle.constraint_coloring.specs.Stages.{Schedulable, Scheduled, Rebuilt};
+ghost use Rattle.constraint_coloring.specs.Stages.{Rising, widest, Scheduled, Rebuilt};
 
 // What a plan carries by value; the rest stands in the tables that its caller lends.
 pub struct ConstraintColoring {
@@ -53,34 +56,49 @@ fn copy_pairs(from: &[u16], to: &mut [u16])
     }
 }
 
-// The members and bodies of all groups and the positions of all constraints, of colored constraints; answers the size of the
-// largest group.
+fn larger(a: u16, b: u16) -> u16
+    ensures { λ r. ⌜ r ≡ max a b ⌝ }
+{
+    if a < b { b } else { a }
+}
+
+// The size of the largest group, from where each starts, with the end.
+fn largest_group(color_offsets: &[u16]) -> usize
+    requires { ⌜ Rising (now «color_offsets») ⌝ }
+    ensures { λ r. ⌜ r ≡ widest (now («color_offsets» .entry)) ⌝ }
+{
+    let mut largest = 0;
+    let mut end: usize = 1;
+    while end < color_offsets.len() {
+        largest = larger(largest, color_offsets[end] - color_offsets[end - 1]);
+        end += 1;
+    }
+    largest as usize
+}
+
+// The bodies of all groups and the positions of all constraints, whatever the number of their bodies.
 fn list_groups(
     body_count: usize,
     endpoints: &[u16],
+    bounds: &[u16],
     constraint_colors: &[u16],
     color_count: usize,
+    color_offsets: &[u16],
+    colored_constraints: &[u16],
     scratch_offsets: &mut [u16],
     body_stamps: &mut [u16],
-    color_offsets: &mut [u16],
-    colored_constraints: &mut [u16],
     color_body_offsets: &mut [u16],
     color_bodies: &mut [u16],
     constraint_body_positions: &mut [u16],
-) -> usize
-    requires { ⌜ Schedulable «body_count» (now endpoints) (now «constraint_colors») «color_count» (now «scratch_offsets») (now «body_stamps») (now «color_offsets») (now «colored_constraints») (now «color_body_offsets») (now «color_bodies») (now «constraint_body_positions») ⌝ }
-    ensures { λ r. ⌜ Scheduled «body_count» (now (endpoints .entry)) (now («constraint_colors» .entry)) «color_count» (now («color_bodies» .entry)) (now («color_offsets» .exit)) (now («colored_constraints» .exit)) (now («color_body_offsets» .exit)) (now («color_bodies» .exit)) (now («constraint_body_positions» .exit)) r ⌝ }
+)
+    requires { ⌜ Bounded (length (now «constraint_colors»)) (now bounds) (now endpoints) × Gapless (length (now «constraint_colors»)) (now bounds) (now endpoints) × (length (now «constraint_body_positions») ≡ length (now endpoints)) ⌝ }
+    requires { ⌜ Gatherable «body_count» (partsAt (length (now «constraint_colors»)) (now bounds) (now endpoints)) (now «constraint_colors») «color_count» (now «color_offsets») (now «colored_constraints») (now «body_stamps») (now «scratch_offsets») (now «color_body_offsets») (now «color_bodies») × («color_count» ≡ groupCount (now «constraint_colors»)) ⌝ }
+    ensures { λ _. ⌜ Scheduled «body_count» (partsAt (length (now («constraint_colors» .entry))) (now (bounds .entry)) (now (endpoints .entry))) (now («constraint_colors» .entry)) «color_count» (now («color_bodies» .entry)) (now («color_body_offsets» .exit)) (now («color_bodies» .exit)) (now («constraint_body_positions» .exit)) ⌝ }
 {
-    let largest = grouping::group(
-        constraint_colors,
-        color_count,
-        scratch_offsets,
-        color_offsets,
-        colored_constraints,
-    );
     gathering::gather(
         body_count,
         endpoints,
+        bounds,
         constraint_colors,
         color_count,
         color_offsets,
@@ -90,16 +108,19 @@ fn list_groups(
         color_body_offsets,
         color_bodies,
     );
-    gathering::locate(
+    locating::locate(
         body_count,
         endpoints,
+        bounds,
         constraint_colors,
         color_count,
+        color_offsets,
+        colored_constraints,
         color_body_offsets,
         color_bodies,
+        scratch_offsets,
         constraint_body_positions,
     );
-    largest
 }
 
 // Remembers the input and builds its plan: each table is cut to the places that are used. The walks of the colors need no adjacency, so
@@ -170,26 +191,31 @@ fn rebuild(
     let constraint_count = pairs.len() / 2;
     copy_flags(flags, dynamic_bodies);
     copy_pairs(pairs, endpoints);
-    let color_count = painting::paint(
+    let color_count = painting::color_constraints(
         flags,
         pairs,
+        &[],
         scratch_offsets,
         &mut constraint_colors[..constraint_count],
+        &mut color_offsets[..constraint_count + 1],
+        &mut colored_constraints[..constraint_count],
         &mut body_stamps[..body_count],
     );
-    let largest = list_groups(
+    list_groups(
         body_count,
         pairs,
+        &[],
         &constraint_colors[..constraint_count],
         color_count,
+        &color_offsets[..color_count + 1],
+        &colored_constraints[..constraint_count],
         scratch_offsets,
         &mut body_stamps[..body_count],
-        &mut color_offsets[..color_count + 1],
-        &mut colored_constraints[..constraint_count],
         &mut color_body_offsets[..color_count + 1],
         &mut color_bodies[..2 * constraint_count],
         &mut constraint_body_positions[..2 * constraint_count],
     );
+    let largest = largest_group(&color_offsets[..color_count + 1]);
     ConstraintColoring {
         body_count: body_count,
         constraint_count: constraint_count,

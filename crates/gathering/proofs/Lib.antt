@@ -1,8 +1,8 @@
-pub mod Parts
-pub mod Pairs
+pub mod Cuts
+pub mod Ends
 pub mod Stamps
+pub mod Counts
 pub mod Notes
 pub mod Collects
 pub mod Arranges
 pub mod Groups
-pub mod Locates

@@ -1,86 +1,60 @@
-// Gathering, internal: the stages of an update that list the bodies of each group and the positions of each constraint among them.
+// Gathering, internal: the stage of an update that lists the bodies of each group.
 
 ghost use mathlib.Core.Path.{_≡_};
-ghost use mathlib.Core.List.{[], _∷_, map};
-ghost use Prim.Native.Nat.{_*_, _≤_, _<_};
-ghost use lib.ListN.{length, getD};
-ghost use lib.Seq.{sets};
-ghost use Rattle.lists.specs.Basics.{sorted, place};
-ghost use Rattle.groups.specs.Groups.{pairsOf, positions, flatten};
-ghost use Rattle.gathering.specs.Gathers.{endsOf, stamped, Noted, Notable, Fresh, Listed, Gatherable, Gathered, Findable, Locatable};
+ghost use mathlib.Core.List.{[], _∷_};
+ghost use Prim.Native.Nat.{_≤_, _<_};
+ghost use lib.ListN.{length};
+ghost use Rattle.parts.specs.Parts.{partAt, partsAt, Bounded};
+ghost use Rattle.gathering.specs.Gathers.{endsOf, stamped, Stampable, Counted, Notable, Noted, AllPresent, Fresh, Listed, Gatherable, Gathered};
 
-// A part that holds a sixteenth of all bodies or more is collected anew, and a shorter one sorted.
-const LONG: usize = 16;
+// A group with a constraint for every 32 bodies or more is collected from the stamps, a smaller one noted and sorted.
+const MANY: usize = 32;
 
-// A body with another stamp gets this one and is appended.
-fn note(
-    body: u16,
-    stamp: u16,
-    body_stamps: &mut [u16],
-    color_bodies: &mut [u16],
-    end: usize,
-) -> usize
-    requires { ⌜ (body < length (now «body_stamps»)) × (end < length (now «color_bodies»)) ⌝ }
-    ensures { λ r. ⌜ Noted stamp (body ∷ []) end (now («body_stamps» .entry)) (now («color_bodies» .entry)) (now («body_stamps» .exit)) (now («color_bodies» .exit)) r ⌝ }
+// A body gets the stamp; answers 1 if it had another, else 0. There is no branch to guess wrong.
+fn stamp_body(body: u16, stamp: u16, body_stamps: &mut [u16]) -> usize
+    requires { ⌜ body < length (now «body_stamps») ⌝ }
+    ensures { λ r. ⌜ Counted stamp (body ∷ []) 0 (now («body_stamps» .entry)) (now («body_stamps» .exit)) r ⌝ }
 {
-    let b = body as usize;
-    if body_stamps[b] == stamp {
-        return end;
+    let place = body as usize;
+    let fresh = (body_stamps[place] != stamp) as usize;
+    body_stamps[place] = stamp;
+    fresh
+}
+
+// The bodies of a constraint.
+fn stamp_part(bodies: &[u16], stamp: u16, body_stamps: &mut [u16]) -> usize
+    requires { ⌜ Stampable (now bodies) (now «body_stamps») ⌝ }
+    ensures { λ r. ⌜ Counted stamp (now (bodies .entry)) 0 (now («body_stamps» .entry)) (now («body_stamps» .exit)) r ⌝ }
+{
+    let mut count = 0;
+    let mut i = 0;
+    while i < bodies.len() {
+        count += stamp_body(bodies[i], stamp, body_stamps);
+        i += 1;
     }
-    body_stamps[b] = stamp;
-    color_bodies[end] = body;
-    end + 1
+    count
 }
 
-// Both bodies of a constraint.
-fn note_pair(
+// The bodies of a group's constraints; answers how many they are.
+fn stamp_members(
     endpoints: &[u16],
-    constraint: usize,
-    stamp: u16,
-    body_stamps: &mut [u16],
-    color_bodies: &mut [u16],
-    end: usize,
-) -> usize
-    requires { ⌜ Notable (now endpoints) (constraint ∷ []) (now «body_stamps») (now «color_bodies») end ⌝ }
-    ensures { λ r. ⌜ Noted stamp (getD (pairsOf (now (endpoints .entry))) constraint []) end (now («body_stamps» .entry)) (now («color_bodies» .entry)) (now («body_stamps» .exit)) (now («color_bodies» .exit)) r ⌝ }
-{
-    let first = 2 * constraint;
-    let middle = note(endpoints[first], stamp, body_stamps, color_bodies, end);
-    note(
-        endpoints[first + 1],
-        stamp,
-        body_stamps,
-        color_bodies,
-        middle,
-    )
-}
-
-// The bodies of a group's constraints, as they come.
-fn note_members(
-    endpoints: &[u16],
+    bounds: &[u16],
     members: &[u16],
     stamp: u16,
     body_stamps: &mut [u16],
-    color_bodies: &mut [u16],
-    start: usize,
 ) -> usize
-    requires { ⌜ Notable (now endpoints) (now members) (now «body_stamps») (now «color_bodies») start ⌝ }
-    ensures { λ r. ⌜ Noted stamp (endsOf (now (endpoints .entry)) (now (members .entry))) start (now («body_stamps» .entry)) (now («color_bodies» .entry)) (now («body_stamps» .exit)) (now («color_bodies» .exit)) r ⌝ }
+    requires { ⌜ AllPresent (now endpoints) (now bounds) (now members) ⌝ }
+    requires { ⌜ Stampable (endsOf (partAt (now bounds) (now endpoints)) (now members)) (now «body_stamps») ⌝ }
+    ensures { λ r. ⌜ Counted stamp (endsOf (partAt (now (bounds .entry)) (now (endpoints .entry))) (now (members .entry))) 0 (now («body_stamps» .entry)) (now («body_stamps» .exit)) r ⌝ }
 {
-    let mut end = start;
+    let mut count = 0;
     let mut i = 0;
     while i < members.len() {
-        end = note_pair(
-            endpoints,
-            members[i] as usize,
-            stamp,
-            body_stamps,
-            color_bodies,
-            end,
-        );
+        let bodies = parts::part(endpoints, bounds, members[i] as usize);
+        count += stamp_part(bodies, stamp, body_stamps);
         i += 1;
     }
-    end
+    count
 }
 
 // The stamped bodies in rising order, into a part of just their number.
@@ -97,21 +71,92 @@ fn collect(body_stamps: &[u16], stamp: u16, part: &mut [u16])
     }
 }
 
-// The stamped bodies, which the part holds in another order, in rising order.
-fn arrange(body_stamps: &[u16], stamp: u16, part: &mut [u16], scratch_offsets: &mut [u16])
-    requires { ⌜ (length (now «body_stamps») ≤ 4096) × (length (now «body_stamps») ≤ length (now «scratch_offsets»)) × (sorted (now part) ≡ stamped stamp (now «body_stamps»)) ⌝ }
-    ensures { λ _. ⌜ now (part .exit) ≡ stamped stamp (now («body_stamps» .entry)) ⌝ }
+// The bodies of a group with many constraints, from place `start` on; answers where they end.
+fn list_many(
+    endpoints: &[u16],
+    bounds: &[u16],
+    members: &[u16],
+    stamp: u16,
+    body_stamps: &mut [u16],
+    color_bodies: &mut [u16],
+    start: usize,
+) -> usize
+    requires { ⌜ AllPresent (now endpoints) (now bounds) (now members) ⌝ }
+    requires { ⌜ Fresh (endsOf (partAt (now bounds) (now endpoints)) (now members)) stamp (now «body_stamps») (now «color_bodies») start ⌝ }
+    ensures { λ r. ⌜ Listed (endsOf (partAt (now (bounds .entry)) (now (endpoints .entry))) (now (members .entry))) stamp (now («body_stamps» .exit)) (now («color_bodies» .entry)) (now («color_bodies» .exit)) start r ⌝ }
 {
-    if part.len() * LONG >= body_stamps.len() {
-        collect(body_stamps, stamp, part);
-        return;
-    }
-    ordering::sort(part, scratch_offsets);
+    let count = stamp_members(endpoints, bounds, members, stamp, body_stamps);
+    let end = start + count;
+    collect(body_stamps, stamp, &mut color_bodies[start..end]);
+    end
 }
 
-// The bodies of one group, from place `start` on; answers where they end.
-fn list_bodies(
+// A body with another stamp gets this one and is appended.
+fn note(
+    body: u16,
+    stamp: u16,
+    body_stamps: &mut [u16],
+    color_bodies: &mut [u16],
+    end: usize,
+) -> usize
+    requires { ⌜ (body < length (now «body_stamps»)) × (end < length (now «color_bodies»)) ⌝ }
+    ensures { λ r. ⌜ Noted stamp (body ∷ []) end (now («body_stamps» .entry)) (now («color_bodies» .entry)) (now («body_stamps» .exit)) (now («color_bodies» .exit)) r ⌝ }
+{
+    if stamp_body(body, stamp, body_stamps) == 0 {
+        return end;
+    }
+    color_bodies[end] = body;
+    end + 1
+}
+
+// The bodies of a constraint, as they come.
+fn note_part(
+    bodies: &[u16],
+    stamp: u16,
+    body_stamps: &mut [u16],
+    color_bodies: &mut [u16],
+    start: usize,
+) -> usize
+    requires { ⌜ Notable (now bodies) (now «body_stamps») (now «color_bodies») start ⌝ }
+    ensures { λ r. ⌜ Noted stamp (now (bodies .entry)) start (now («body_stamps» .entry)) (now («color_bodies» .entry)) (now («body_stamps» .exit)) (now («color_bodies» .exit)) r ⌝ }
+{
+    let mut end = start;
+    let mut i = 0;
+    while i < bodies.len() {
+        end = note(bodies[i], stamp, body_stamps, color_bodies, end);
+        i += 1;
+    }
+    end
+}
+
+// The bodies of a group's constraints, as they come.
+fn note_members(
     endpoints: &[u16],
+    bounds: &[u16],
+    members: &[u16],
+    stamp: u16,
+    body_stamps: &mut [u16],
+    color_bodies: &mut [u16],
+    start: usize,
+) -> usize
+    requires { ⌜ AllPresent (now endpoints) (now bounds) (now members) ⌝ }
+    requires { ⌜ Notable (endsOf (partAt (now bounds) (now endpoints)) (now members)) (now «body_stamps») (now «color_bodies») start ⌝ }
+    ensures { λ r. ⌜ Noted stamp (endsOf (partAt (now (bounds .entry)) (now (endpoints .entry))) (now (members .entry))) start (now («body_stamps» .entry)) (now («color_bodies» .entry)) (now («body_stamps» .exit)) (now («color_bodies» .exit)) r ⌝ }
+{
+    let mut end = start;
+    let mut i = 0;
+    while i < members.len() {
+        let bodies = parts::part(endpoints, bounds, members[i] as usize);
+        end = note_part(bodies, stamp, body_stamps, color_bodies, end);
+        i += 1;
+    }
+    end
+}
+
+// The same of a group with few.
+fn list_few(
+    endpoints: &[u16],
+    bounds: &[u16],
     members: &[u16],
     stamp: u16,
     body_stamps: &mut [u16],
@@ -119,23 +164,68 @@ fn list_bodies(
     color_bodies: &mut [u16],
     start: usize,
 ) -> usize
-    requires { ⌜ Fresh (now endpoints) (now members) stamp (now «body_stamps») (now «scratch_offsets») (now «color_bodies») start ⌝ }
-    ensures { λ r. ⌜ Listed (now (endpoints .entry)) (now (members .entry)) stamp (now («body_stamps» .exit)) (now («color_bodies» .entry)) (now («color_bodies» .exit)) start r ⌝ }
+    requires { ⌜ AllPresent (now endpoints) (now bounds) (now members) ⌝ }
+    requires { ⌜ Fresh (endsOf (partAt (now bounds) (now endpoints)) (now members)) stamp (now «body_stamps») (now «color_bodies») start ⌝ }
+    requires { ⌜ length (now «body_stamps») ≤ length (now «scratch_offsets») ⌝ }
+    ensures { λ r. ⌜ Listed (endsOf (partAt (now (bounds .entry)) (now (endpoints .entry))) (now (members .entry))) stamp (now («body_stamps» .exit)) (now («color_bodies» .entry)) (now («color_bodies» .exit)) start r ⌝ }
 {
-    let end = note_members(endpoints, members, stamp, body_stamps, color_bodies, start);
-    arrange(
-        body_stamps,
+    let end = note_members(
+        endpoints,
+        bounds,
+        members,
         stamp,
-        &mut color_bodies[start..end],
-        scratch_offsets,
+        body_stamps,
+        color_bodies,
+        start,
     );
+    ordering::sort(&mut color_bodies[start..end], scratch_offsets);
     end
 }
 
-// The bodies of all groups, group after group, and the start of each, with the end. Stamps and scratch are free.
+// The same of any group.
+fn list_bodies(
+    endpoints: &[u16],
+    bounds: &[u16],
+    members: &[u16],
+    stamp: u16,
+    body_stamps: &mut [u16],
+    scratch_offsets: &mut [u16],
+    color_bodies: &mut [u16],
+    start: usize,
+) -> usize
+    requires { ⌜ AllPresent (now endpoints) (now bounds) (now members) ⌝ }
+    requires { ⌜ Fresh (endsOf (partAt (now bounds) (now endpoints)) (now members)) stamp (now «body_stamps») (now «color_bodies») start ⌝ }
+    requires { ⌜ length (now «body_stamps») ≤ length (now «scratch_offsets») ⌝ }
+    ensures { λ r. ⌜ Listed (endsOf (partAt (now (bounds .entry)) (now (endpoints .entry))) (now (members .entry))) stamp (now («body_stamps» .exit)) (now («color_bodies» .entry)) (now («color_bodies» .exit)) start r ⌝ }
+{
+    if members.len() >= body_stamps.len() / MANY {
+        return list_many(
+            endpoints,
+            bounds,
+            members,
+            stamp,
+            body_stamps,
+            color_bodies,
+            start,
+        );
+    }
+    list_few(
+        endpoints,
+        bounds,
+        members,
+        stamp,
+        body_stamps,
+        scratch_offsets,
+        color_bodies,
+        start,
+    )
+}
+
+// The bodies of all groups, group after group, and the start of each, with the end. Stamps and scratch are free afterwards.
 pub fn gather(
     body_count: usize,
     endpoints: &[u16],
+    bounds: &[u16],
     constraint_colors: &[u16],
     color_count: usize,
     color_offsets: &[u16],
@@ -145,20 +235,20 @@ pub fn gather(
     color_body_offsets: &mut [u16],
     color_bodies: &mut [u16],
 )
-    requires { ⌜ Gatherable «body_count» (now endpoints) (now «constraint_colors») «color_count» (now «color_offsets») (now «colored_constraints») (now «body_stamps») (now «scratch_offsets») (now «color_body_offsets») (now «color_bodies») ⌝ }
-    ensures { λ _. ⌜ Gathered «body_count» (now (endpoints .entry)) (now («constraint_colors» .entry)) «color_count» (now («color_body_offsets» .exit)) (now («color_bodies» .entry)) (now («color_bodies» .exit)) ⌝ }
+    requires { ⌜ Bounded (length (now «constraint_colors»)) (now bounds) (now endpoints) ⌝ }
+    requires { ⌜ Gatherable «body_count» (partsAt (length (now «constraint_colors»)) (now bounds) (now endpoints)) (now «constraint_colors») «color_count» (now «color_offsets») (now «colored_constraints») (now «body_stamps») (now «scratch_offsets») (now «color_body_offsets») (now «color_bodies») ⌝ }
+    ensures { λ _. ⌜ Gathered «body_count» (partsAt (length (now («constraint_colors» .entry))) (now (bounds .entry)) (now (endpoints .entry))) (now («constraint_colors» .entry)) «color_count» (now («color_body_offsets» .exit)) (now («color_bodies» .entry)) (now («color_bodies» .exit)) ⌝ }
 {
-    tables::fill(body_stamps, 0);
     color_body_offsets[0] = 0;
     let mut end = 0;
     let mut color = 0;
     while color < color_count {
-        let first = color_offsets[color] as usize;
-        let last = color_offsets[color + 1] as usize;
+        let members = parts::between(colored_constraints, color_offsets, color, color + 1);
         let stamp = (color + 1) as u16;
         end = list_bodies(
             endpoints,
-            &colored_constraints[first..last],
+            bounds,
+            members,
             stamp,
             body_stamps,
             scratch_offsets,
@@ -167,50 +257,5 @@ pub fn gather(
         );
         color += 1;
         color_body_offsets[color] = end as u16;
-    }
-}
-
-// The places of a constraint's two bodies among its group's, in the order a, b.
-fn locate_pair(
-    endpoints: &[u16],
-    constraint: usize,
-    bodies: &[u16],
-    constraint_body_positions: &mut [u16],
-)
-    requires { ⌜ Findable (now endpoints) constraint (now bodies) (now «constraint_body_positions») ⌝ }
-    ensures { λ _. ⌜ now («constraint_body_positions» .exit) ≡ sets (now («constraint_body_positions» .entry)) (2 * constraint) (map (λ b. place b (now (bodies .entry))) (getD (pairsOf (now (endpoints .entry))) constraint [])) ⌝ }
-{
-    let first = 2 * constraint;
-    let a = ordering::position(bodies, endpoints[first]);
-    let b = ordering::position(bodies, endpoints[first + 1]);
-    constraint_body_positions[first] = a as u16;
-    constraint_body_positions[first + 1] = b as u16;
-}
-
-// The positions of all constraints.
-pub fn locate(
-    body_count: usize,
-    endpoints: &[u16],
-    constraint_colors: &[u16],
-    color_count: usize,
-    color_body_offsets: &[u16],
-    color_bodies: &[u16],
-    constraint_body_positions: &mut [u16],
-)
-    requires { ⌜ Locatable «body_count» (now endpoints) (now «constraint_colors») «color_count» (now «color_body_offsets») (now «color_bodies») (now «constraint_body_positions») ⌝ }
-    ensures { λ _. ⌜ now («constraint_body_positions» .exit) ≡ flatten (positions «body_count» (pairsOf (now (endpoints .entry))) (now («constraint_colors» .entry))) (length (now («constraint_colors» .entry))) ⌝ }
-{
-    let mut constraint = 0;
-    while constraint < constraint_colors.len() {
-        let color = constraint_colors[constraint] as usize;
-        let start = color_body_offsets[color] as usize;
-        let end = color_body_offsets[color + 1] as usize;
-        locate_pair(
-            endpoints,
-            constraint,
-            &color_bodies[start..end],
-            constraint_body_positions,
-        );
-        constraint += 1;
     }
 }

@@ -1,7 +1,9 @@
 // Internal: the endpoints of a constraint are a part of the endpoint list, and a group is a part of its table. The stages of an update
 // read both here, so that they need not know how many endpoints a constraint has.
+ghost use Prim.Native.Nat.{_*_, _≤_, _<_};
 ghost use mathlib.Core.Path.{_≡_};
-ghost use Rattle.parts.specs.Parts.{cut, Cut, Present, partAt};
+ghost use lib.ListN.{length};
+ghost use Rattle.parts.specs.Parts.{cut, Cut, Present, partAt, startAt};
 
 // The part of a table from the bound at place `from` up to that at place `to`.
 pub fn between<'a>(table: &'a [u16], bounds: &[u16], from: usize, to: usize) -> &'a [u16]
@@ -22,4 +24,15 @@ pub fn part<'a>(endpoints: &'a [u16], bounds: &[u16], constraint: usize) -> &'a 
         return &endpoints[2 * constraint..2 * constraint + 2];
     }
     between(endpoints, bounds, 2 * constraint, 2 * constraint + 1)
+}
+
+// Where the endpoints of a constraint start in the endpoint list; its positions start there too.
+pub fn start(bounds: &[u16], constraint: usize) -> usize
+    requires { ⌜ (constraint ≤ 32767) × ((length (now bounds) ≡ 0 → ⊥) → 2 * constraint < length (now bounds)) ⌝ }
+    ensures { λ r. ⌜ r ≡ startAt (now (bounds .entry)) constraint ⌝ }
+{
+    if bounds.len() == 0 {
+        return 2 * constraint;
+    }
+    bounds[2 * constraint] as usize
 }

@@ -1,0 +1,76 @@
+-- The endpoints of constraints, one after another: what holds of each constraint's holds of all, and a body is among them if it is one
+-- of some constraint's. There are no more bodies among endpoints than endpoints. A list is passed body by body, or constraint by
+-- constraint.
+use Prim.Native.Nat.{ℕ, _+_, _≤_, _<_}
+use mathlib.Core.Path.{_≡_, refl, sym, ap, _∙_}
+use mathlib.Core.Bool.{Bool, true, _||_, or-assoc, or-false}
+use mathlib.Core.List.{List, [], _∷_, _++_, append-nil}
+use native.Mathlib.Omega.{arith}
+use native.Mathlib.Numerals.{add-one}
+use lib.Dec.{eqb}
+use lib.ListN.{length, getD, take, drop, length-append, take-append-drop}
+use lib.Seq.{take-suc, length-take-le}
+use borrow.Author.Tests.{eqb-true}
+use Rattle.lists.specs.Basics.{one, any, all, sumOf, count, range, mem}
+use Rattle.lists.proofs.Sums.{sum-le, sum-swap, length-filter}
+use Rattle.lists.proofs.Laws.{or-right, mem-self, any-in, all-append, getD-mem, one-any, at-most-one, sum-one}
+use Rattle.lists.proofs.Ranges.{joinMap-append, filter-ext-in}
+use Rattle.groups.specs.Groups.{members, groupBodies}
+use Rattle.gathering.specs.Gathers.{endsOf, among}
+
+any-append : (p : ℕ → Bool) (xs ys : List ℕ) → any p (xs ++ ys) ≡ (any p xs || any p ys)
+any-append p [] ys = refl
+any-append p (x ∷ xs) ys = rw (any-append p xs ys, or-assoc)
+
+pub ends-all : (p : ℕ → Bool) (ends : ℕ → List ℕ) (ms : List ℕ) → ((r : ℕ) → all p (ends r) ≡ true) → all p (endsOf ends ms) ≡ true
+ends-all p ends [] h = refl
+ends-all p ends (r ∷ ms) h = all-append p (ends r) (endsOf ends ms) (h r) (ends-all p ends ms h)
+
+pub ends-ext : (f g : ℕ → List ℕ) (ms : List ℕ) → ((r : ℕ) → mem r ms ≡ true → f r ≡ g r) → endsOf f ms ≡ endsOf g ms
+ends-ext f g [] h = refl
+ends-ext f g (r ∷ ms) h = rw (h r (mem-self r ms), ends-ext f g ms (λ s m. h s (or-right (eqb s r) (mem s ms) m)))
+
+mem-ends : (ends : ℕ → List ℕ) (ms : List ℕ) (b : ℕ) → mem b (endsOf ends ms) ≡ any (λ r. mem b (ends r)) ms
+mem-ends ends [] b = refl
+mem-ends ends (r ∷ ms) b = any-append (eqb b) (ends r) (endsOf ends ms) ∙ ap (λ (t : Bool). mem b (ends r) || t) (mem-ends ends ms b)
+
+pub group-bodies : (nb : ℕ) (cs : List (List ℕ)) (colors : List ℕ) (k : ℕ) → groupBodies nb cs colors k ≡ among nb (endsOf (λ r. getD cs r []) (members colors k))
+unfolding groupBodies among
+group-bodies nb cs colors k = filter-ext-in _ (λ b. mem b (endsOf (λ r. getD cs r []) (members colors k))) (range nb) (λ b m. sym (mem-ends (λ r. getD cs r []) (members colors k) b))
+
+pub among-few : (nb : ℕ) (bs : List ℕ) → length (among nb bs) ≤ length bs
+unfolding among
+among-few nb bs =
+    omega (
+      arith,
+      length-filter (λ b. mem b bs) (range nb),
+      sum-le (λ b. one (mem b bs)) (λ b. count (eqb b) bs) (range nb) (λ b. one-any (eqb b) bs),
+      sum-swap (λ b x. one (eqb b x)) (range nb) bs,
+      sum-le (λ x. sumOf (λ b. one (eqb b x)) (range nb)) (λ x. 1) bs (λ x. at-most-one x 0 nb),
+      sum-one bs,
+    )
+
+-- ---- of the list `whole`, `front` is passed; `this` is next, and then `more` is passed
+pub record Next (whole front this more : List ℕ) : Type 0 where
+  pub joined : more ≡ front ++ this
+  pub short : length more ≤ length whole
+  pub inside : (b : ℕ) → mem b this ≡ true → mem b whole ≡ true
+
+-- body by body
+pub next-body : (bs : List ℕ) (i : ℕ) → i < length bs → Next bs (take i bs) (getD bs i 0 ∷ []) (take (i + 1) bs)
+next-body bs i h =
+    record {
+      joined = rw (add-one i) (take-suc bs i 0 h);
+      short = omega (arith, length-take-le (i + 1) bs (omega arith));
+      inside = λ b m. let e : b ≡ getD bs i 0 = eqb-true b (getD bs i 0) (sym (or-false (eqb b (getD bs i 0))) ∙ m) in rw e (getD-mem bs i h);
+    }
+
+-- constraint by constraint
+pub next-part : (ends : ℕ → List ℕ) (ms : List ℕ) (i : ℕ) → i < length ms → Next (endsOf ends ms) (endsOf ends (take i ms)) (ends (getD ms i 0)) (endsOf ends (take (i + 1) ms))
+next-part ends ms i h =
+    let whole : endsOf ends ms ≡ endsOf ends (take (i + 1) ms) ++ endsOf ends (drop (i + 1) ms) = ap (endsOf ends) (sym (take-append-drop (i + 1) ms)) ∙ joinMap-append ends (take (i + 1) ms) (drop (i + 1) ms) in
+    record {
+      joined = rw (add-one i, take-suc ms i 0 h, joinMap-append ends (take i ms) (getD ms i 0 ∷ []), append-nil);
+      short = omega (arith, ap length whole, length-append (endsOf ends (take (i + 1) ms)) (endsOf ends (drop (i + 1) ms)));
+      inside = λ b m. mem-ends ends ms b ∙ any-in (λ r. mem b (ends r)) (getD ms i 0) ms (getD-mem ms i h) m;
+    }
