@@ -1,5 +1,6 @@
 -- Bindings and takes.
-use Prim.Native.Nat.{ℕ, _-_}
+use Prim.Native.Nat.{ℕ, _-_, _≤_}
+use mathlib.Core.Path.{_≡_}
 use mathlib.Core.Bool.{Bool, true, _&&_, cond}
 use mathlib.Core.List.{List, [], _∷_, _++_, map}
 use lib.Dec.{leb, ltb, eqb}
@@ -23,6 +24,10 @@ bindRefusal types bs = asked
     ∷ question 5 (typesKnown types)
     ∷ question 8 (rises bs && lastBelow (length types) bs)
     ∷ [])
+
+-- types that pass questions 3 and 5: a bind of them asks 8 alone
+abbrev pub Known : List ℕ → Type 0
+Known types = (length types ≤ 4096) × (typesKnown types ≡ true)
 
 -- a dynamic body is held (1), any other read-only (0)
 abbrev pub markOf : List ℕ → ℕ → ℕ

@@ -10,7 +10,7 @@ ghost use Prim.Native.Nat.{ℕ, _≤_, _<_};
 ghost use lib.Dec.{leb, eqb};
 ghost use lib.ListN.{length, take, replicate};
 ghost use Rattle.lists.specs.Basics.{rises};
-ghost use Rattle.colored_bodies.specs.Bindings.{lastBelow, bindRefusal, markOf, padded, bindOf, placed, spend, refusalFrom, marksFrom};
+ghost use Rattle.colored_bodies.specs.Bindings.{lastBelow, bindRefusal, Known, markOf, padded, bindOf, placed, spend, refusalFrom, marksFrom};
 ghost use Rattle.colored_bodies.specs.Answers.{withBodies, Placed, Fillable, Binds, Takes, Marks};
 
 // For each place a body number and a mark: 0 read-only, 1 held, and any other number taken.
@@ -69,6 +69,17 @@ fn rises_below(indices: &[u16], n: usize) -> bool
     low <= n
 }
 
+// Question 8, the only one left of known types.
+fn known_refusal(types: &[u8], indices: &[u16]) -> u8
+    requires { ⌜ Known (now types) ⌝ }
+    ensures { λ r. ⌜ r ≡ bindRefusal (now (types .entry)) (now (indices .entry)) ⌝ }
+{
+    if !rises_below(indices, types.len()) {
+        return 8;
+    }
+    0
+}
+
 // Questions 3, 5 and 8, in that order.
 fn bind_refusal(types: &[u8], indices: &[u16]) -> u8
     ensures { λ r. ⌜ r ≡ bindRefusal (now (types .entry)) (now (indices .entry)) ⌝ }
@@ -79,10 +90,7 @@ fn bind_refusal(types: &[u8], indices: &[u16]) -> u8
     if !frame::at_most(types, 2) {
         return 5;
     }
-    if !rises_below(indices, types.len()) {
-        return 8;
-    }
-    0
+    known_refusal(types, indices)
 }
 
 // How many places a bind fills: none if it is refused.
@@ -117,11 +125,13 @@ fn mark_bodies(types: &[u8], indices: &[u16], count: usize, marks: &mut [u8; 409
     }
 }
 
-// All that a bind does to marks, whatever stood in the table, with no copy: what a loop over groups calls. Answers the binding's count.
+// All that a bind of known types does to marks, whatever stood in the table, with no copy: what a loop over groups calls. Answers the
+// binding's count.
 pub fn bind_marks(types: &[u8], indices: &[u16], marks: &mut [u8; 4096]) -> usize
+    requires { ⌜ Known (now types) ⌝ }
     ensures { λ r. ⌜ (r ≡ bindOf (now (types .entry)) (now (indices .entry)) .count) × (now (marks .exit) ≡ bindOf (now (types .entry)) (now (indices .entry)) .marks) ⌝ }
 {
-    let count = bound_count(bind_refusal(types, indices), indices.len());
+    let count = bound_count(known_refusal(types, indices), indices.len());
     *marks = [0u8; 4096];
     mark_bodies(types, indices, count, marks);
     count
