@@ -8,16 +8,17 @@ use native.Mathlib.Omega.{arith}
 use lib.Dec.{eqb}
 use lib.ListN.{length, take, length-map}
 use Rattle.lists.specs.Basics.{over, put, joinMap}
-use Rattle.lists.proofs.Laws.{by-cases}
+use Rattle.lists.proofs.Laws.{by-cases, and-left}
 use Rattle.frame.specs.Frames.{Frame, constraints, allSound, flagOf}
-use Rattle.frame.specs.Questions.{question, asked}
-use Rattle.frame.specs.Files.{countB, countM, countJ, jointsAt, typesIn, decode, fileQuestions}
+use Rattle.frame.specs.Questions.{question, asked, typesKnown, bits}
+use Rattle.frame.specs.Files.{countB, countM, countJ, jointsAt, typesIn, enabledIn, decode, fileQuestions}
 use Rattle.frame.proofs.Questions.{asked-append}
 use Rattle.connected_sets.specs.Islands.{islandCount, label}
 use Rattle.island.specs.Calls.{Built}
 use Rattle.groups.specs.Groups.{members}
 use Rattle.plan_questions.specs.Plans.{Tables, roomy, updateRefusal}
 use Rattle.plan_questions.proofs.Rooms.{fitted-roomy}
+use Rattle.colored_bodies.specs.Bindings.{Known}
 use Rattle.schedules.specs.Runs.{turnOf, turnsOf, takesOf, runCalls, runRefusal, runOf}
 use Rattle.island_numbers.specs.Numbers.{pairsAmong}
 use Rattle.turn_table.specs.declared.Tally.{Tally}
@@ -27,8 +28,8 @@ use Rattle.island_run.specs.Islands.{callsOf, Prepared}
 use Rattle.island_run.proofs.Rooms.{SameLengths, room-kept}
 use Rattle.frame_tables.specs.declared.Filling.{Filling}
 use Rattle.frame_tables.specs.Filled.{labelsIn, soundness, Fills, Roomy}
-use Rattle.frame_parts.proofs.Decoding.{fronts-long}
-use Rattle.frame_tables.proofs.Tables.{file-accepted, types-long, labels-are, labels-sortable, enabled-long}
+use Rattle.frame_parts.proofs.Decoding.{file-sized, fronts-long}
+use Rattle.frame_tables.proofs.Tables.{file-known, file-accepted, types-long, labels-are, labels-sortable, enabled-long}
 use Rattle.run_answer.specs.declared.Report.{Report}
 use Rattle.run_answer.specs.declared.Answer.{Answer}
 use Rattle.run_answer.specs.Answers.{runNumber, runReport, Told}
@@ -139,6 +140,10 @@ module _ (bs : List ℕ) (e : asked (fileQuestions bs) ≡ 0) where
 
       pub room-cut : (tt : List ℕ) → 3 * (countM bs + countJ bs) ≤ length tt → Room (addedBy (callsOf ts fs ps cut (r .islands))) tt none
       room-cut tt l = rw (fronts m em) (room-for tt l)
+
+    -- questions 3 and 5 of a bind are the file's
+    pub types-known : Known ts
+    types-known = rw (h .decoded .types) (omega (arith, types-long bs e, file-sized bs e .bodies), and-left (typesKnown (typesIn bs)) (bits (enabledIn bs)) (file-known bs e))
 
     -- ---- the answer
 

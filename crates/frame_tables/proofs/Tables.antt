@@ -48,7 +48,7 @@ module _ (bs : List ℕ) (e : asked (fileQuestions bs) ≡ 0) where
   abbrev f : Frame
   f = decode bs
 
-  file-known : (typesKnown (typesIn bs) && bits (enabledIn bs)) ≡ true
+  pub file-known : (typesKnown (typesIn bs) && bits (enabledIn bs)) ≡ true
   file-known =
       by-cases (typesKnown (typesIn bs) && bits (enabledIn bs)) (λ t. t)
       (λ t. absurd (by-cases (eqb (asked (sizeQuestions bs)) 0)

@@ -8,7 +8,7 @@ ghost use mathlib.Core.Path.{_≡_};
 ghost use mathlib.Core.List.{[], _∷_};
 ghost use Prim.Native.Nat.{_≤_};
 ghost use lib.ListN.{getD};
-ghost use Rattle.colored_bodies.specs.Bindings.{bindOf};
+ghost use Rattle.colored_bodies.specs.Bindings.{bindOf, Known};
 ghost use Rattle.schedules.specs.Runs.{callsFrom};
 ghost use Rattle.turn_table.specs.Turns.{Room, Appended};
 ghost use Rattle.group_run.specs.Appends.{seen, planCalls, addedBy, marksOnly, RankTaken, MemberTaken};
@@ -118,6 +118,7 @@ fn run_group(
     tally: Tally,
 ) -> Tally
     requires { ⌜ Room (addedBy (callsFrom (seen plan [] [] [] [] (now positions)) (now numbers) island group (bindOf (now types) (now bodies)) (now members))) (now turns) tally ⌝ }
+    requires { ⌜ Known (now types) ⌝ }
     ensures { λ r. ⌜ Appended (addedBy (callsFrom (seen plan [] [] [] [] (now (positions .entry))) (now (numbers .entry)) island group (bindOf (now (types .entry)) (now (bodies .entry))) (now (members .entry)))) (now (turns .entry)) tally (now (turns .exit)) r ⌝ }
 {
     let count = colored_bodies::bind_marks(types, bodies, marks);
@@ -151,6 +152,7 @@ pub fn run_groups(
 ) -> Tally
     requires { ⌜ plan .«color_count» ≤ 8192 ⌝ }
     requires { ⌜ Room (addedBy (planCalls (seen plan (now «color_offsets») (now «colored_constraints») (now «color_body_offsets») (now «color_bodies») (now positions)) (now types) (now numbers) island)) (now turns) tally ⌝ }
+    requires { ⌜ Known (now types) ⌝ }
     ensures { λ r. ⌜ Appended (addedBy (planCalls (seen plan (now («color_offsets» .entry)) (now («colored_constraints» .entry)) (now («color_body_offsets» .entry)) (now («color_bodies» .entry)) (now (positions .entry))) (now (types .entry)) (now (numbers .entry)) island)) (now (turns .entry)) tally (now (turns .exit)) r ⌝ }
 {
     let mut marks = [0u8; 4096];

@@ -1,6 +1,7 @@
 // The islands of the run, internal: one after another, each with its part of the sorted constraint numbers.
 use turn_table::Tally;
 ghost use mathlib.Core.List.{_++_};
+ghost use Rattle.colored_bodies.specs.Bindings.{Known};
 ghost use Rattle.turn_table.specs.Turns.{none, Room, Appended};
 ghost use Rattle.group_run.specs.Appends.{addedBy};
 ghost use Rattle.island_run.specs.Islands.{callsOf, Prepared};
@@ -32,6 +33,7 @@ pub fn run_islands(
 ) -> Tally
     requires { ⌜ Prepared islands (now flags) (now pairs) (now «manifold_islands» ++ now «joint_islands») (now numbers) (now «island_pairs») (record { dynamic-bodies = now «dynamic_bodies»; endpoints = now endpoints; body-offsets = now «body_offsets»; body-constraints = now «body_constraints»; scratch-offsets = now «scratch_offsets»; constraint-colors = now «constraint_colors»; color-stamps = now «color_stamps»; body-stamps = now «body_stamps»; color-offsets = now «color_offsets»; colored-constraints = now «colored_constraints»; color-body-offsets = now «color_body_offsets»; color-bodies = now «color_bodies»; constraint-body-positions = now «constraint_body_positions» }) ⌝ }
     requires { ⌜ Room (addedBy (callsOf (now types) (now flags) (now pairs) (now «manifold_islands» ++ now «joint_islands») islands)) (now turns) none ⌝ }
+    requires { ⌜ Known (now types) ⌝ }
     ensures { λ r. ⌜ Appended (addedBy (callsOf (now (types .entry)) (now (flags .entry)) (now (pairs .entry)) (now («manifold_islands» .entry) ++ now («joint_islands» .entry)) islands)) (now (turns .entry)) none (now (turns .exit)) r ⌝ }
 {
     let mut tally = turn_table::no_turns();

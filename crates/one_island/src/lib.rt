@@ -4,6 +4,7 @@ use constraint_coloring::Update;
 use turn_table::Tally;
 ghost use mathlib.Core.Path.{_≡_};
 ghost use Rattle.constraint_coloring.specs.Calls.{freshPlan, planAfter};
+ghost use Rattle.colored_bodies.specs.Bindings.{Known};
 ghost use Rattle.turn_table.specs.Turns.{Room, Appended};
 ghost use Rattle.group_run.specs.Appends.{addedBy};
 ghost use Rattle.one_island.specs.Island.{islandCalls, Ready};
@@ -45,6 +46,7 @@ pub fn run_island(
 ) -> Tally
     requires { ⌜ Ready (now flags) (now pairs) (now numbers) (now «island_pairs») (record { dynamic-bodies = now «dynamic_bodies»; endpoints = now endpoints; body-offsets = now «body_offsets»; body-constraints = now «body_constraints»; scratch-offsets = now «scratch_offsets»; constraint-colors = now «constraint_colors»; color-stamps = now «color_stamps»; body-stamps = now «body_stamps»; color-offsets = now «color_offsets»; colored-constraints = now «colored_constraints»; color-body-offsets = now «color_body_offsets»; color-bodies = now «color_bodies»; constraint-body-positions = now «constraint_body_positions» }) ⌝ }
     requires { ⌜ Room (addedBy (islandCalls (now types) (now flags) (now pairs) island (now numbers))) (now turns) tally ⌝ }
+    requires { ⌜ Known (now types) ⌝ }
     ensures { λ r. ⌜ Appended (addedBy (islandCalls (now (types .entry)) (now (flags .entry)) (now (pairs .entry)) island (now (numbers .entry)))) (now (turns .entry)) tally (now (turns .exit)) r ⌝ }
 {
     island_numbers::collect_pairs(pairs, numbers, island_pairs);

@@ -5,7 +5,7 @@ use lib.Seq.{length-take-le}
 use Rattle.frame.specs.Files.{countM, countJ}
 use Rattle.plan_questions.specs.Plans.{Tables}
 use Rattle.island_run.proofs.Rooms.{SameLengths}
-use Rattle.frame_run.proofs.Runs.{roomy-of, joints-inside, prepared-cut, room-cut, ran}
+use Rattle.frame_run.proofs.Runs.{roomy-of, joints-inside, prepared-cut, room-cut, types-known, ran}
 use native.Mathlib.Omega.{arith}
 use borrow.Author.Needs.{needs}
 use Rattle.frame_run.proofs.run_sized.Statement.{statement}
@@ -107,7 +107,7 @@ slice-aggregate-run-islands-2 c = let w = c .before .before .before .before .bef
 run-islands-requires : tie.Need-run-islands-requires
 run-islands-requires c κs =
     let w = c .before .before .before .before .before .before .before .before .before .before .before .before .before .before .before .before .before .before .before .before .before .before .before .before .before .before .before .before .before .before .before .before .before .before .before .before .before .before .before .before .before .before .before .before .before .before .before in
-    (prepared-cut (start w .args .frame .now) (start w .pre .0 .file) (w .fill .last .1 .1 .1 .1 .1 .1 .0) (w .fill .last .1 .1 .1 .1 .1 .1 .1 .0) (w .fill .last .1 .1 .1 .1 .1 .1 .1 .1 .0) (w .fill .last .1 .1 .1 .1 .1 .1 .1 .1 .1 .0) (start w .args .parents .now) (start w .args .body-islands .now) (start w .args .manifold-islands .now) (start w .args .joint-islands .now) (w .fill .last .1 .1 .0) (w .fill .last .1 .1 .1 .0) (w .fill .last .1 .1 .1 .1 .0) (w .fill .last .1 .1 .1 .1 .1 .0) (w .fill .last .1 .1 .1 .1 .1 .1 .1 .1 .1 .1 .0) (w .fill .result) (w .fill .ensures) (start w .args .manifolds) (start w .pre .0 .manifolds) _ (entry (start w)) (filled w) (more-manifolds w) (more-joints w) (start w .pre .1 .island-pairs) (start w .pre .1 .tables) (same w), room-cut (start w .args .frame .now) (start w .pre .0 .file) (w .fill .last .1 .1 .1 .1 .1 .1 .0) (w .fill .last .1 .1 .1 .1 .1 .1 .1 .0) (w .fill .last .1 .1 .1 .1 .1 .1 .1 .1 .0) (w .fill .last .1 .1 .1 .1 .1 .1 .1 .1 .1 .0) (start w .args .parents .now) (start w .args .body-islands .now) (start w .args .manifold-islands .now) (start w .args .joint-islands .now) (w .fill .last .1 .1 .0) (w .fill .last .1 .1 .1 .0) (w .fill .last .1 .1 .1 .1 .0) (w .fill .last .1 .1 .1 .1 .1 .0) (w .fill .last .1 .1 .1 .1 .1 .1 .1 .1 .1 .1 .0) (w .fill .result) (w .fill .ensures) (start w .args .manifolds) (start w .pre .0 .manifolds) _ (start w .pre .1 .turns))
+    (prepared-cut (start w .args .frame .now) (start w .pre .0 .file) (w .fill .last .1 .1 .1 .1 .1 .1 .0) (w .fill .last .1 .1 .1 .1 .1 .1 .1 .0) (w .fill .last .1 .1 .1 .1 .1 .1 .1 .1 .0) (w .fill .last .1 .1 .1 .1 .1 .1 .1 .1 .1 .0) (start w .args .parents .now) (start w .args .body-islands .now) (start w .args .manifold-islands .now) (start w .args .joint-islands .now) (w .fill .last .1 .1 .0) (w .fill .last .1 .1 .1 .0) (w .fill .last .1 .1 .1 .1 .0) (w .fill .last .1 .1 .1 .1 .1 .0) (w .fill .last .1 .1 .1 .1 .1 .1 .1 .1 .1 .1 .0) (w .fill .result) (w .fill .ensures) (start w .args .manifolds) (start w .pre .0 .manifolds) _ (entry (start w)) (filled w) (more-manifolds w) (more-joints w) (start w .pre .1 .island-pairs) (start w .pre .1 .tables) (same w), (room-cut (start w .args .frame .now) (start w .pre .0 .file) (w .fill .last .1 .1 .1 .1 .1 .1 .0) (w .fill .last .1 .1 .1 .1 .1 .1 .1 .0) (w .fill .last .1 .1 .1 .1 .1 .1 .1 .1 .0) (w .fill .last .1 .1 .1 .1 .1 .1 .1 .1 .1 .0) (start w .args .parents .now) (start w .args .body-islands .now) (start w .args .manifold-islands .now) (start w .args .joint-islands .now) (w .fill .last .1 .1 .0) (w .fill .last .1 .1 .1 .0) (w .fill .last .1 .1 .1 .1 .0) (w .fill .last .1 .1 .1 .1 .1 .0) (w .fill .last .1 .1 .1 .1 .1 .1 .1 .1 .1 .1 .0) (w .fill .result) (w .fill .ensures) (start w .args .manifolds) (start w .pre .0 .manifolds) _ (start w .pre .1 .turns), types-known (start w .args .frame .now) (start w .pre .0 .file) (w .fill .last .1 .1 .1 .1 .1 .1 .0) (w .fill .last .1 .1 .1 .1 .1 .1 .1 .0) (w .fill .last .1 .1 .1 .1 .1 .1 .1 .1 .0) (w .fill .last .1 .1 .1 .1 .1 .1 .1 .1 .1 .0) (start w .args .parents .now) (start w .args .body-islands .now) (start w .args .manifold-islands .now) (start w .args .joint-islands .now) (w .fill .last .1 .1 .0) (w .fill .last .1 .1 .1 .0) (w .fill .last .1 .1 .1 .1 .0) (w .fill .last .1 .1 .1 .1 .1 .0) (w .fill .last .1 .1 .1 .1 .1 .1 .1 .1 .1 .1 .0) (w .fill .result) (w .fill .ensures)))
 
 told-requires : tie.Need-told-requires
 told-requires c κs = search needs

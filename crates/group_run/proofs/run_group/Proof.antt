@@ -12,7 +12,7 @@ bind-marks-requires c κs = search needs
 take-members-requires : tie.Need-take-members-requires
 take-members-requires c κs =
     let bound = c .before .before .bind-marks .ensures in
-    room-by (bound-added _ _ _ _ _ _ _ _ _ (bound .0) (bound .1)) (c .before .before .before .before .before .before .before .before .before .before .pre)
+    room-by (bound-added _ _ _ _ _ _ _ _ _ (bound .0) (bound .1)) (c .before .before .before .before .before .before .before .before .before .before .pre .0)
 
 same-length : tie.Need-same-length
 same-length c = search needs

@@ -31,7 +31,9 @@ cast-run-group : tie.Need-cast-run-group Inv-loop μ-loop
 cast-run-group c = search needs
 
 run-group-requires : tie.Need-run-group-requires Inv-loop μ-loop
-run-group-requires c κs = going-room (c .before .before .before .before .before .before .before .before .before .before .before .before .before .before .before .pre .1) (c .before .before .before .before .before .before .loop .inv .1) _ _ (group-next _ _ _ _ _ _ _ _ _ _ _ _ (c .before .before .before .before .if1 .taken) (c .before .before .before .constraints-in-schedule-group .ensures) (c .before .before .bodies-in-schedule-group .ensures))
+run-group-requires c κs =
+    let s = c .before .before .before .before .before .before .before .before .before .before .before .before .before .before .before in
+    (going-room (s .pre .1 .0) (c .before .before .before .before .before .before .loop .inv .1) _ _ (group-next _ _ _ _ _ _ _ _ _ _ _ _ (c .before .before .before .before .if1 .taken) (c .before .before .before .constraints-in-schedule-group .ensures) (c .before .before .bodies-in-schedule-group .ensures)), s .pre .1 .1)
 
 add-group : tie.Need-add-group Inv-loop μ-loop
 add-group c = search needs
@@ -40,13 +42,13 @@ loop-less : tie.Need-loop-less Inv-loop μ-loop
 loop-less c = search needs
 
 loop-again : tie.Need-loop-again Inv-loop μ-loop
-loop-again c = (search needs, going-more (c .before .before .before .before .before .before .before .before .before .before .before .before .before .before .before .before .before .before .pre .1) (c .before .before .before .before .before .before .before .before .before .loop .inv .1) _ _ _ _ (group-next _ _ _ _ _ _ _ _ _ _ _ _ (c .before .before .before .before .before .before .before .if1 .taken) (c .before .before .before .before .before .before .constraints-in-schedule-group .ensures) (c .before .before .before .before .before .bodies-in-schedule-group .ensures)) (c .before .before .run-group .ensures))
+loop-again c = (search needs, going-more (c .before .before .before .before .before .before .before .before .before .before .before .before .before .before .before .before .before .before .pre .1 .0) (c .before .before .before .before .before .before .before .before .before .loop .inv .1) _ _ _ _ (group-next _ _ _ _ _ _ _ _ _ _ _ _ (c .before .before .before .before .before .before .before .if1 .taken) (c .before .before .before .before .before .before .constraints-in-schedule-group .ensures) (c .before .before .before .before .before .bodies-in-schedule-group .ensures)) (c .before .before .run-group .ensures))
 
 same-length : tie.Need-same-length Inv-loop μ-loop
-same-length c = going-length (c .before .before .before .before .before .before .before .before .before .before .before .pre .1) (c .before .before .loop .inv .1)
+same-length c = going-length (c .before .before .before .before .before .before .before .before .before .before .before .pre .1 .0) (c .before .before .loop .inv .1)
 
 returns : tie.Need-returns Inv-loop μ-loop
-returns c = going-last (c .before .before .before .before .before .before .before .before .before .before .before .pre .1) (c .before .before .loop .inv .1) (parts-end _ _ _ (c .if1 .left))
+returns c = going-last (c .before .before .before .before .before .before .before .before .before .before .before .pre .1 .0) (c .before .before .loop .inv .1) (parts-end _ _ _ (c .if1 .left))
 
 pub run-groups-spec : {M : Type 1} → statement M
 run-groups-spec =

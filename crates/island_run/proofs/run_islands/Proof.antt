@@ -91,7 +91,7 @@ slice-aggregate-run-island c = sym (length-take-le _ (head (c .before .before) .
 run-island-requires : tie.Need-run-island-requires Inv-loop μ-loop
 run-island-requires c κs =
     let e = c .before .before .before .before .before .before .before .before .before .before .before .before .before .before .before .before in
-    (ready (start e .args .islands) (start e .args .types .now) (start e .args .flags .now) (start e .args .pairs .now) (labels (start e)) (start e .args .numbers .now) (start e .args .island-pairs .now) (entry (start e)) (start e .pre .0) (head e .loop .island) (head e .loop .start) (e .part-end .result) (e .before .loop-test .taken) (head e .loop .inv .1) (e .part-end .ensures) _ _ (length-take-le _ (head e .loop .island-pairs) (roomy e)) (head e .loop .inv .3), going-room (start e .pre .1) (head e .loop .inv .4) _ _ (island-next (start e .args .islands) (start e .args .types .now) (start e .args .flags .now) (start e .args .pairs .now) (labels (start e)) (start e .args .numbers .now) (start e .args .island-pairs .now) (entry (start e)) (start e .pre .0) (head e .loop .island) (head e .loop .start) (e .part-end .result) (e .before .loop-test .taken) (head e .loop .inv .1) (e .part-end .ensures)))
+    (ready (start e .args .islands) (start e .args .types .now) (start e .args .flags .now) (start e .args .pairs .now) (labels (start e)) (start e .args .numbers .now) (start e .args .island-pairs .now) (entry (start e)) (start e .pre .0) (head e .loop .island) (head e .loop .start) (e .part-end .result) (e .before .loop-test .taken) (head e .loop .inv .1) (e .part-end .ensures) _ _ (length-take-le _ (head e .loop .island-pairs) (roomy e)) (head e .loop .inv .3), (going-room (start e .pre .1 .0) (head e .loop .inv .4) _ _ (island-next (start e .args .islands) (start e .args .types .now) (start e .args .flags .now) (start e .args .pairs .now) (labels (start e)) (start e .args .numbers .now) (start e .args .island-pairs .now) (entry (start e)) (start e .pre .0) (head e .loop .island) (head e .loop .start) (e .part-end .result) (e .before .loop-test .taken) (head e .loop .inv .1) (e .part-end .ensures)), start e .pre .1 .1))
 
 add-island : tie.Need-add-island Inv-loop μ-loop
 add-island c = omega (arith, c .before .before .before .before .before .before .before .before .before .before .before .before .before .before .before .before .before .before .before .before .before .before .before .before .before .before .before .before .before .before .before .before .before .before .before .before .before .before .before .before .before .before .before .before .before .before .before .before .loop-test .taken, c .before .before .before .before .before .before .before .before .before .before .before .before .before .before .before .before .before .before .before .before .before .before .before .before .before .before .before .before .before .before .before .before .before .before .before .before .before .before .before .before .before .before .before .before .before .before .before .before .before .before .before .before .before .before .before .before .before .before .before .before .before .before .before .before .before .before .before .before .before .before .before .before .fits .islands)
@@ -108,7 +108,7 @@ loop-again c =
       next e,
       front-back (2 * (e .part-end .result - head e .loop .start)) (r .run-island .last .1 .1 .1 .1 .1 .0) (head e .loop .island-pairs) (k .1 .1 .1 .1 .1 .0) ∙ head e .loop .inv .2,
       record { dynamic-bodies = k .1 .1 .1 .1 .1 .1 .0 ∙ head e .loop .inv .3 .dynamic-bodies; endpoints = k .1 .1 .1 .1 .1 .1 .1 .0 ∙ head e .loop .inv .3 .endpoints; body-offsets = k .1 .1 .1 .1 .1 .1 .1 .1 .0 ∙ head e .loop .inv .3 .body-offsets; body-constraints = k .1 .1 .1 .1 .1 .1 .1 .1 .1 .0 ∙ head e .loop .inv .3 .body-constraints; scratch-offsets = k .1 .1 .1 .1 .1 .1 .1 .1 .1 .1 .0 ∙ head e .loop .inv .3 .scratch-offsets; constraint-colors = k .1 .1 .1 .1 .1 .1 .1 .1 .1 .1 .1 .0 ∙ head e .loop .inv .3 .constraint-colors; color-stamps = k .1 .1 .1 .1 .1 .1 .1 .1 .1 .1 .1 .1 .0 ∙ head e .loop .inv .3 .color-stamps; body-stamps = k .1 .1 .1 .1 .1 .1 .1 .1 .1 .1 .1 .1 .1 .0 ∙ head e .loop .inv .3 .body-stamps; color-offsets = k .1 .1 .1 .1 .1 .1 .1 .1 .1 .1 .1 .1 .1 .1 .0 ∙ head e .loop .inv .3 .color-offsets; colored-constraints = k .1 .1 .1 .1 .1 .1 .1 .1 .1 .1 .1 .1 .1 .1 .1 .0 ∙ head e .loop .inv .3 .colored-constraints; color-body-offsets = k .1 .1 .1 .1 .1 .1 .1 .1 .1 .1 .1 .1 .1 .1 .1 .1 .0 ∙ head e .loop .inv .3 .color-body-offsets; color-bodies = k .1 .1 .1 .1 .1 .1 .1 .1 .1 .1 .1 .1 .1 .1 .1 .1 .1 .0 ∙ head e .loop .inv .3 .color-bodies; constraint-body-positions = k .1 .1 .1 .1 .1 .1 .1 .1 .1 .1 .1 .1 .1 .1 .1 .1 .1 .1 .0 ∙ head e .loop .inv .3 .constraint-body-positions },
-      going-more (start e .pre .1) (head e .loop .inv .4) _ _ _ _ (island-next (start e .args .islands) (start e .args .types .now) (start e .args .flags .now) (start e .args .pairs .now) (labels (start e)) (start e .args .numbers .now) (start e .args .island-pairs .now) (entry (start e)) (start e .pre .0) (head e .loop .island) (head e .loop .start) (e .part-end .result) (e .before .loop-test .taken) (head e .loop .inv .1) (e .part-end .ensures)) (r .run-island .ensures),
+      going-more (start e .pre .1 .0) (head e .loop .inv .4) _ _ _ _ (island-next (start e .args .islands) (start e .args .types .now) (start e .args .flags .now) (start e .args .pairs .now) (labels (start e)) (start e .args .numbers .now) (start e .args .island-pairs .now) (entry (start e)) (start e .pre .0) (head e .loop .island) (head e .loop .start) (e .part-end .result) (e .before .loop-test .taken) (head e .loop .inv .1) (e .part-end .ensures)) (r .run-island .ensures),
     )
 
 same-length : tie.Need-same-length Inv-loop μ-loop
@@ -154,10 +154,10 @@ same-length-14 : tie.Need-same-length-14 Inv-loop μ-loop
 same-length-14 c = c .before .loop .inv .3 .constraint-body-positions
 
 same-length-15 : tie.Need-same-length-15 Inv-loop μ-loop
-same-length-15 c = going-length (c .before .before .before .before .before .before .before .before .before .before .before .before .before .before .before .before .before .before .before .before .before .before .before .before .pre .1) (c .before .loop .inv .4)
+same-length-15 c = going-length (c .before .before .before .before .before .before .before .before .before .before .before .before .before .before .before .before .before .before .before .before .before .before .before .before .pre .1 .0) (c .before .loop .inv .4)
 
 returns : tie.Need-returns Inv-loop μ-loop
-returns c = going-last (c .before .before .before .before .before .before .before .before .before .before .before .before .before .before .before .before .before .before .before .before .before .before .before .before .pre .1) (c .before .loop .inv .4) (parts-end _ _ _ (c .loop-test .left))
+returns c = going-last (c .before .before .before .before .before .before .before .before .before .before .before .before .before .before .before .before .before .before .before .before .before .before .before .before .pre .1 .0) (c .before .loop .inv .4) (parts-end _ _ _ (c .loop-test .left))
 
 pub run-islands-spec : {M : Type 1} → statement M
 run-islands-spec =

@@ -41,7 +41,7 @@ run-groups-requires : tie.Need-run-groups-requires
 run-groups-requires c κs =
     let u = c .before .before .before .before .before .before .before .before .before .before .before .before .before .before .before .before .before .before .before .before .before .before .before .before .before .before .before .before .before .before .before .before .before in
     let q = c .before .before .before .before .before .before in
-    (groups-few (start u .args .types .now) (start u .args .flags .now) (start u .args .pairs .now) (start u .args .numbers .now) _ (start u .args .island) (entry (start u)) (after u) _ _ _ _ (start u .pre .0) (collected u .collect-pairs .ensures) (collected u .collect-pairs .kept .1 .1 .0) (fresh u .new .ensures) (u .update .ensures) (q .plan-of .ensures), room-by (ap addedBy (sym (island-is (start u .args .types .now) (start u .args .flags .now) (start u .args .pairs .now) (start u .args .numbers .now) _ (start u .args .island) (entry (start u)) (after u) _ _ _ _ (start u .pre .0) (collected u .collect-pairs .ensures) (collected u .collect-pairs .kept .1 .1 .0) (fresh u .new .ensures) (u .update .ensures) (q .plan-of .ensures)))) (start u .pre .1))
+    (groups-few (start u .args .types .now) (start u .args .flags .now) (start u .args .pairs .now) (start u .args .numbers .now) _ (start u .args .island) (entry (start u)) (after u) _ _ _ _ (start u .pre .0) (collected u .collect-pairs .ensures) (collected u .collect-pairs .kept .1 .1 .0) (fresh u .new .ensures) (u .update .ensures) (q .plan-of .ensures), (room-by (ap addedBy (sym (island-is (start u .args .types .now) (start u .args .flags .now) (start u .args .pairs .now) (start u .args .numbers .now) _ (start u .args .island) (entry (start u)) (after u) _ _ _ _ (start u .pre .0) (collected u .collect-pairs .ensures) (collected u .collect-pairs .kept .1 .1 .0) (fresh u .new .ensures) (u .update .ensures) (q .plan-of .ensures)))) (start u .pre .1 .0), start u .pre .1 .1))
 
 same-length : tie.Need-same-length
 same-length c = c .before .before .before .before .before .before .before .before .before .before .before .before .before .before .before .before .before .before .before .before .before .before .before .before .before .before .before .before .before .before .before .before .before .before .before .before .before .before .before .before .before .before .before .before .before .before .before .before .before .before .before .before .before .before .collect-pairs .kept .1 .1 .0
