@@ -125,8 +125,8 @@ fn mark_bodies(types: &[u8], indices: &[u16], count: usize, marks: &mut [u8; 409
     }
 }
 
-// All that a bind of known types does to marks, whatever stood in the table, with no copy: what a loop over groups calls. Answers the
-// binding's count.
+// All that a bind of known types does to marks, whatever stood in the table, with no copy. No entry: the run's loop over groups calls
+// it. Answers the binding's count.
 pub fn bind_marks(types: &[u8], indices: &[u16], marks: &mut [u8; 4096]) -> usize
     requires { ⌜ Known (now types) ⌝ }
     ensures { λ r. ⌜ (r ≡ bindOf (now (types .entry)) (now (indices .entry)) .count) × (now (marks .exit) ≡ bindOf (now (types .entry)) (now (indices .entry)) .marks) ⌝ }
