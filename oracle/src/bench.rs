@@ -5,7 +5,7 @@ use crate::collision::constraint_coloring::ConstraintColoring;
 use crate::collision::island::IslandLayout;
 use crate::collision::solver::{Binding, SolverBody, SolverManifold};
 use crate::joint::JointConstraint;
-use crate::kapitsa::{body_types, bools, endpoints, joints, manifolds, solver_bodies};
+use crate::kapitsa::{body_types, bools, endpoints, joints, label, manifolds, solver_bodies};
 use crate::rigid_body::BodyType;
 use crate::scope;
 
@@ -42,12 +42,19 @@ impl RustIslands {
         self.0.island_count()
     }
 
+    /// The island of each body and of each manifold after a build.
+    pub fn labels(&self, frame: &RustFrame) -> [Vec<u16>; 2] {
+        let bodies = self.0.body_labels().iter().map(|island| label(*island)).collect();
+        let manifolds = (0..frame.manifolds.len()).map(|i| label(self.0.manifold_island(i))).collect();
+        [bodies, manifolds]
+    }
+
     /// Islands, then all constraints as one list on a fresh plan: how many islands and groups.
-    pub fn plan(&mut self, frame: &RustFrame) -> (usize, usize) {
+    pub fn plan(&mut self, frame: &RustFrame) -> [usize; 2] {
         let islands = self.build(frame);
         let mut plan = ConstraintColoring::new();
         plan.update(&frame.flags, &frame.endpoints).unwrap();
-        (islands, plan.schedule_group_count())
+        [islands, plan.schedule_group_count()]
     }
 
     /// The run of a file: its turns go to the turn table; how many turns and takes.

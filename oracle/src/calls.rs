@@ -214,6 +214,22 @@ impl Lent for RunTables {
     }
 }
 
+/// Tables of these lengths, filled with a pattern.
+pub fn lent<T: Lent + Default>(lengths: &[usize]) -> T {
+    let mut tables = T::default();
+    for (mut table, n) in tables.tables().into_iter().zip(lengths) {
+        table.fill(*n, 0);
+    }
+    tables
+}
+
+/// Clears the whole of every table.
+pub fn clear(tables: &mut impl Lent) {
+    for mut table in tables.tables() {
+        table.clear();
+    }
+}
+
 /// The lengths that question 6 asks for, in the order of the tables.
 pub fn island_lengths(bodies: usize, manifolds: usize, joints: usize) -> Vec<usize> {
     vec![bodies, bodies, manifolds, joints]

@@ -49,7 +49,7 @@ fn numbers(ns: &[usize]) -> Vec<u16> {
     ns.iter().map(number).collect()
 }
 
-fn label(island: Option<usize>) -> u16 {
+pub fn label(island: Option<usize>) -> u16 {
     island.map_or(NONE, |i| number(&i))
 }
 
