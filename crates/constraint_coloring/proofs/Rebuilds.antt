@@ -1,83 +1,157 @@
--- The stages of a rebuild make up the plan: what `paint` leaves is what the listing of groups needs, and what that leaves is what
--- the definition of the plan gives.
-use Prim.Native.Nat.{ℕ, _+_, _/_, _≤_}
-use mathlib.Core.Path.{_≡_, sym, ap, ap₂, _∙_}
-use mathlib.Core.List.{List, _++_}
+-- The stages of a rebuild make up the plan: what the walks leave is what the listing of groups needs, and what that leaves is what the
+-- definition of the plan gives. Pairs are parts without bounds.
+use Prim.Native.Nat.{ℕ, suc, _+_, _-_, _*_, _/_, _≤_, _<_}
+use mathlib.Core.Path.{_≡_, refl, sym, ap, _∙_}
+use mathlib.Core.List.{List, [], _∷_, _++_}
 use native.Mathlib.Omega.{arith}
-use lib.ListN.{length, take}
-use lib.Seq.{take-at}
-use Rattle.lists.specs.Basics.{over}
+use native.Mathlib.Numerals.{add-one}
+use lib.ListN.{length, getD, take, drop}
+use lib.Seq.{take-at, take-append-le}
+use Rattle.lists.specs.Basics.{sumOf, maxOf, range, over}
+use Rattle.lists.proofs.Laws.{map-ext-in, range-high}
+use Rattle.lists.proofs.Ranges.{max-map}
 use Rattle.groups.specs.Groups.{planOf, pairsOf, colorsOf, groupCount, members, largestGroup, positions, flatten, offsets}
 use Rattle.groups.proofs.Colors.{colors-length}
-use Rattle.painting.specs.Painting.{Painted}
-use Rattle.painting.proofs.Pairs.{pairs-length, entries-in}
+use Rattle.groups.proofs.Tables.{start-suc, start-mono, length-offsets, offsets-at}
+use Rattle.parts.specs.Parts.{partsAt}
+use Rattle.parts.proofs.Parts.{parts-pairs}
+use Rattle.painting.specs.Painting.{Ready}
+use Rattle.painting.proofs.Pairs.{pairs-length, bodies-in}
 use Rattle.painting.proofs.Used.{colors-low, groups-below}
-use Rattle.gathering.specs.Gathers.{Colored, bodiesIn}
+use Rattle.gathering.specs.Gathers.{Gatherable}
 use Rattle.plan_questions.specs.Plans.{Tables}
 use Rattle.constraint_coloring.specs.Calls.{carried}
-use Rattle.constraint_coloring.specs.Stages.{Scheduled}
+use Rattle.constraint_coloring.specs.Stages.{Rising, widest, Scheduled}
 use Rattle.constraint_coloring.specs.declared.ConstraintColoring.{ConstraintColoring}
 use Rattle.constraint_coloring.proofs.Accepted.{Accepted}
 
--- the colors as the listing is lent them: the first places of the table
-pub painted-front : {flags pairs colors : List ℕ} {k : ℕ} (rest : List ℕ) (n : ℕ) → length colors ≡ n → Painted flags pairs colors k → Painted flags pairs (take n (colors ++ rest)) k
-painted-front {flags} {pairs} {colors} rest n l p = record { colors-are = take-at colors rest n l ∙ p .colors-are; count-is = p .count-is }
+-- ---- the size of the largest group
+module _ (g : ℕ → List ℕ) (n : ℕ) where
+  pub offsets-rise : Rising (offsets g n)
+  offsets-rise k h =
+      let l = length-offsets g n in
+      omega (arith, offsets-at g k n (omega arith), offsets-at g (suc k) n (omega arith), start-mono g k (suc k) (omega arith))
+
+  widest-is : widest (offsets g n) ≡ maxOf (λ k. length (g k)) (range n)
+  unfolding widest
+  widest-is =
+      let starts = offsets g n in
+      let width : ℕ → ℕ = λ k. getD starts (suc k) 0 - getD starts k 0 in
+      let size : ℕ → ℕ = λ k. length (g k) in
+      let e : length starts - 1 ≡ n = omega (arith, length-offsets g n) in
+      ap (λ (m : ℕ). maxOf width (range m)) e
+      ∙ sym (max-map (λ x. x) width (range n))
+      ∙ ap (maxOf (λ x. x)) (map-ext-in width size (range n)
+      (λ k m. let l = range-high k 0 n m in omega (arith, offsets-at g k n (omega arith), offsets-at g (suc k) n (omega arith), start-suc g k)))
+      ∙ max-map (λ x. x) size (range n)
+
+pub largest-is : (colors : List ℕ) (n : ℕ) → n ≡ groupCount colors → widest (offsets (members colors) n) ≡ largestGroup colors
+unfolding largestGroup
+largest-is colors n e = widest-is (members colors) n ∙ ap (λ (m : ℕ). maxOf (λ k. length (members colors k)) (range m)) e
 
 carried-eq : (b c c′ k k′ m m′ : ℕ) → c ≡ c′ → k ≡ k′ → m ≡ m′
     → _≡_ {A = ConstraintColoring} (record { «body_count» = b; «constraint_count» = c; «color_count» = k; «max_color_constraint_count» = m })
     (record { «body_count» = b; «constraint_count» = c′; «color_count» = k′; «max_color_constraint_count» = m′ })
 carried-eq b c c′ k k′ m m′ p q r = simp (p, q, r)
 
-module _ {flags pairs : List ℕ} {t : Tables} (ok : Accepted flags pairs t) {colors : List ℕ} {k : ℕ} (painted : Painted flags pairs colors k) where
-  pub colors-long : length colors ≡ length pairs / 2
-  colors-long = ap length (painted .colors-are) ∙ colors-length flags (pairsOf pairs) ∙ pairs-length (length pairs / 2) pairs (ok .even)
+pairs-sum : (es : List ℕ) → sumOf length (pairsOf es) ≤ length es
+pairs-sum [] = omega arith
+pairs-sum (a ∷ []) = omega arith
+pairs-sum (a ∷ b ∷ es) = omega (arith, pairs-sum es)
 
-  pub groups-few : k ≤ length pairs / 2
-  groups-few = omega (arith, painted .count-is, groups-below (length (pairsOf pairs)) (colorsOf flags (pairsOf pairs)) (colors-low flags (pairsOf pairs)), pairs-length (length pairs / 2) pairs (ok .even))
+-- the first places of offsets that stand in a longer table
+pub starts-front : (g : ℕ → List ℕ) (k n : ℕ) (starts₀ starts rest : List ℕ) → starts ≡ over (offsets g k) starts₀ → length starts ≡ n → k + 1 ≤ n → take (k + 1) (starts ++ rest) ≡ offsets g k
+starts-front g k n starts₀ starts rest e l h =
+    take-append-le (k + 1) starts rest (omega arith) ∙ ap (λ (t : List ℕ). take (k + 1) t) e ∙ take-at (offsets g k) (drop (length (offsets g k)) starts₀) (k + 1) (length-offsets g k ∙ sym (add-one k))
 
-  pub colored : Colored (length flags) pairs colors k
-  colored =
-      record {
-        bodies = ok .few-bodies;
-        few = omega (arith, colors-long, ok .few-pairs);
-        pairs = omega (arith, colors-long, ok .even);
-        below = entries-in (length flags) (length pairs / 2) pairs (ok .even) (ok .sound);
-        groups = painted .count-is ∙ ap groupCount (sym (painted .colors-are));
-        low = omega (arith, colors-long, groups-few);
-      }
+module _ {flags pairs : List ℕ} {t : Tables} (ok : Accepted flags pairs t) where
+  abbrev cs : List (List ℕ)
+  cs = pairsOf pairs
 
-  pub colors-planned : colors ≡ planOf flags pairs .colors
+  -- the colors that are promised
+  abbrev pub promised : List ℕ
+  promised = colorsOf flags cs
+
+  abbrev half : ℕ
+  half = length pairs / 2
+
+  pub parts-are : (n : ℕ) → n ≡ half → partsAt n [] pairs ≡ cs
+  parts-are n e = ap (λ (m : ℕ). partsAt m [] pairs) e ∙ parts-pairs half pairs (ok .even)
+
+  pub ready : {remaining colors starts constraints busy : List ℕ} → half ≤ length remaining → length colors ≡ half → length starts ≡ half + 1 → length constraints ≡ half → length busy ≡ length flags
+      → Ready flags (partsAt (length colors) [] pairs) remaining colors starts constraints busy
+  ready {remaining} {colors} r c s m b =
+      rw (parts-are (length colors) c)
+      (record {
+        sized = c ∙ sym (pairs-length half pairs (ok .even));
+        few = omega (arith, c, ok .few-pairs);
+        bodies = bodies-in (length flags) cs (ok .sound);
+        room = omega (arith, c);
+        starts-length = omega (arith, c);
+        members-length = m ∙ sym c;
+        busy-length = b;
+      })
+
+  pub groups-few : (k : ℕ) → k ≡ groupCount promised → k ≤ half
+  groups-few k e = omega (arith, groups-below (length cs) promised (colors-low flags cs), pairs-length half pairs (ok .even))
+
+  pub colors-long : length promised ≡ half
+  colors-long = colors-length flags cs ∙ pairs-length half pairs (ok .even)
+
+  -- what the walks leave can be gathered
+  pub gatherable : {colors starts constraints busy scratch ends bodies : List ℕ} (k : ℕ) → colors ≡ promised → k ≡ groupCount promised → starts ≡ offsets (members promised) k → constraints ≡ flatten (members promised) k
+      → length busy ≡ length flags → ((b : ℕ) → b < length flags → getD busy b 0 ≡ 0) → length flags ≤ length scratch → length ends ≡ k + 1 → length bodies ≡ 2 * half
+      → Gatherable (length flags) (partsAt (length colors) [] pairs) colors k starts constraints busy scratch ends bodies × (k ≡ groupCount colors)
+  gatherable {colors} k ec ek es em lb idle room le lo =
+      let l : length colors ≡ half = ap length ec ∙ colors-long in
+      rw (parts-are (length colors) l) (
+        record {
+          few-bodies = ok .few-bodies;
+          few = omega (arith, l, ok .few-pairs);
+          low = omega (arith, l, groups-few k ek);
+          below = bodies-in (length flags) cs (ok .sound);
+          small = omega (arith, pairs-sum pairs, ok .even, ok .few-pairs);
+          starts = rw ec es;
+          constraints = rw ec em;
+          stamps = lb;
+          unstamped = idle;
+          scratch = room;
+          ends = le;
+          room = omega (arith, pairs-sum pairs, ok .even, lo);
+        },
+        rw ec ek,
+      )
+
+  -- ---- what the plan says
+  pub plan-is : (k largest : ℕ) → k ≡ groupCount promised → largest ≡ largestGroup promised
+      → _≡_ {A = ConstraintColoring} (record { «body_count» = length flags; «constraint_count» = half; «color_count» = k; «max_color_constraint_count» = largest }) (carried (planOf flags pairs))
   unfolding planOf
-  colors-planned = painted .colors-are
+  plan-is k largest ek el = carried-eq (length flags) half (length cs) k (groupCount promised) largest (largestGroup promised) (sym (pairs-length half pairs (ok .even))) ek el
 
-  module _ {bodies₀ starts constraints body-starts bodies positions′ : List ℕ} {largest : ℕ} (l : Scheduled (length flags) pairs colors k bodies₀ starts constraints body-starts bodies positions′ largest) where
-    pub plan-is : _≡_ {A = ConstraintColoring} (record { «body_count» = length flags; «constraint_count» = length pairs / 2; «color_count» = k; «max_color_constraint_count» = largest }) (carried (planOf flags pairs))
-    unfolding planOf
-    plan-is =
-        carried-eq (length flags) (length pairs / 2) (length (pairsOf pairs)) k (groupCount (colorsOf flags (pairsOf pairs))) largest (largestGroup (colorsOf flags (pairsOf pairs)))
-        (sym (pairs-length (length pairs / 2) pairs (ok .even)))
-        (painted .count-is)
-        (l .largest ∙ ap largestGroup (painted .colors-are))
+  pub colors-planned : planOf flags pairs .colors ≡ promised
+  unfolding planOf
+  colors-planned = refl
 
-    pub starts-planned : starts ≡ planOf flags pairs .color-offsets
-    unfolding planOf
-    starts-planned = l .starts ∙ ap₂ (λ (cs : List ℕ) (n : ℕ). offsets (members cs) n) (painted .colors-are) (painted .count-is)
+  pub starts-planned : (k : ℕ) → k ≡ groupCount promised → planOf flags pairs .color-offsets ≡ offsets (members promised) k
+  unfolding planOf
+  starts-planned k e = ap (offsets (members promised)) (sym e)
 
-    pub constraints-planned : constraints ≡ planOf flags pairs .colored-constraints
-    unfolding planOf
-    constraints-planned = l .constraints ∙ ap₂ (λ (cs : List ℕ) (n : ℕ). flatten (members cs) n) (painted .colors-are) (painted .count-is)
+  pub constraints-planned : (k : ℕ) → k ≡ groupCount promised → planOf flags pairs .colored-constraints ≡ flatten (members promised) k
+  unfolding planOf
+  constraints-planned k e = ap (flatten (members promised)) (sym e)
+
+  module _ {colors bodies₀ body-starts bodies positions′ : List ℕ} {k : ℕ} (ec : colors ≡ promised) (ek : k ≡ groupCount promised) (l : Scheduled (length flags) (partsAt (length colors) [] pairs) colors k bodies₀ body-starts bodies positions′) where
+    listed : Scheduled (length flags) cs promised (groupCount promised) bodies₀ body-starts bodies positions′
+    listed = rw (parts-are (length colors) (ap length ec ∙ colors-long), ec, ek) at l
 
     pub body-starts-planned : body-starts ≡ planOf flags pairs .color-body-offsets
     unfolding planOf
-    body-starts-planned = l .body-starts ∙ ap₂ (λ (cs : List ℕ) (n : ℕ). offsets (bodiesIn (length flags) pairs cs) n) (painted .colors-are) (painted .count-is)
+    body-starts-planned = listed .gathered .starts
 
     pub bodies-planned : bodies ≡ over (planOf flags pairs .color-bodies) bodies₀
     unfolding planOf
-    bodies-planned = l .bodies ∙ ap₂ (λ (cs : List ℕ) (n : ℕ). over (flatten (bodiesIn (length flags) pairs cs) n) bodies₀) (painted .colors-are) (painted .count-is)
+    bodies-planned = listed .gathered .bodies
 
     pub positions-planned : positions′ ≡ planOf flags pairs .positions
     unfolding planOf
-    positions-planned =
-        l .positions
-        ∙ ap (λ (cs : List ℕ). flatten (positions (length flags) (pairsOf pairs) cs) (length cs)) (painted .colors-are)
-        ∙ ap (λ (n : ℕ). flatten (positions (length flags) (pairsOf pairs) (colorsOf flags (pairsOf pairs))) n) (colors-length flags (pairsOf pairs))
+    positions-planned = listed .positions ∙ ap (flatten (positions (length flags) cs promised)) (colors-length flags cs)

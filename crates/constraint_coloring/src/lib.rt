@@ -56,7 +56,7 @@ fn copy_pairs(from: &[u16], to: &mut [u16])
     }
 }
 
-fn larger(a: u16, b: u16) -> u16
+fn larger(a: usize, b: usize) -> usize
     ensures { λ r. ⌜ r ≡ max a b ⌝ }
 {
     if a < b { b } else { a }
@@ -70,10 +70,11 @@ fn largest_group(color_offsets: &[u16]) -> usize
     let mut largest = 0;
     let mut end: usize = 1;
     while end < color_offsets.len() {
-        largest = larger(largest, color_offsets[end] - color_offsets[end - 1]);
+        let size = color_offsets[end] as usize - color_offsets[end - 1] as usize;
+        largest = larger(largest, size);
         end += 1;
     }
-    largest as usize
+    largest
 }
 
 // The bodies of all groups and the positions of all constraints, whatever the number of their bodies.

@@ -109,10 +109,7 @@ fn close(
     for place in 0..members.len() {
         let constraint = members[place] as usize;
         constraint_colors[constraint] = color as u16;
-        free_bodies(
-            parts::part(endpoints, bounds, constraint),
-            busy_bodies,
-        );
+        free_bodies(parts::part(endpoints, bounds, constraint), busy_bodies);
     }
 }
 

@@ -110,9 +110,12 @@ loop-again c =
     let l = at p in
     let s = begin l in
     let d = c .before .before .free-bodies in
-    let v = l .loop .inv in
-    (omega arith, length-set (l .loop .constraint-colors) (next l) (s .args .color) ∙ v .1, d .kept .1 .0 ∙ v .2,
-    more (cs l) (s .args .color) (now (s .args .members)) (now (s .args .constraint-colors)) (now (s .args .busy-bodies)) (l .loop .constraint-colors) (l .loop .busy-bodies) (l .loop .place) (omega arith) (omega (arith, low (p .before .before), v .1)) (v .2) (v .3) (now (p .part .result)) _ (bodies-are p) (d .ensures))
+    let v = l .loop .inv in (
+      omega arith,
+      length-set (l .loop .constraint-colors) (next l) (s .args .color) ∙ v .1,
+      d .kept .1 .0 ∙ v .2,
+      more (cs l) (s .args .color) (now (s .args .members)) (now (s .args .constraint-colors)) (now (s .args .busy-bodies)) (l .loop .constraint-colors) (l .loop .busy-bodies) (l .loop .place) (omega arith) (omega (arith, low (p .before .before), v .1)) (v .2) (v .3) (now (p .part .result)) _ (bodies-are p) (d .ensures),
+    )
 
 same-length : tie.Need-same-length Inv-loop μ-loop
 same-length c = c .before .loop .inv .1

@@ -98,9 +98,11 @@ loop-again c =
     let l = c .before .before .before .before in
     let s = l .before in
     let flags = now (s .args .dynamic-bodies) in
-    let bodies = now (s .args .bodies) in
-    (omega arith, length-set (l .loop .busy-bodies) _ _ ∙ l .loop .inv .1,
-    rw (byte-one (flagged flags (getD bodies (l .loop .place) 0))) (more flags bodies (now (s .args .busy-bodies)) (l .loop .busy-bodies) (s .args .fits) (l .loop .place) (omega arith) (s .pre .1 .0) (s .pre .1 .1) (l .loop .inv .1) (l .loop .inv .2) (slice-read-busy-bodies c)))
+    let bodies = now (s .args .bodies) in (
+      omega arith,
+      length-set (l .loop .busy-bodies) _ _ ∙ l .loop .inv .1,
+      rw (byte-one (flagged flags (getD bodies (l .loop .place) 0))) (more flags bodies (now (s .args .busy-bodies)) (l .loop .busy-bodies) (s .args .fits) (l .loop .place) (omega arith) (s .pre .1 .0) (s .pre .1 .1) (l .loop .inv .1) (l .loop .inv .2) (slice-read-busy-bodies c)),
+    )
 
 same-length : tie.Need-same-length Inv-loop μ-loop
 same-length c = search needs
