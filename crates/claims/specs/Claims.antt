@@ -122,8 +122,8 @@ pub colors-differ : (flags : List ℕ) (cs : List (List ℕ)) (r s b : ℕ) → 
 colors-differ = proper
 
 -- Of the code: a walk for color k, as its contract allows it, leaves uncolored exactly the constraints promised a higher color.
-pub walk-leaves : (flags : List ℕ) (cs : List (List ℕ)) (k count : ℕ) (colors remaining′ colors′ stamps′ : List ℕ) → Walked flags cs k colors count remaining′ colors′ stamps′
-    → (r : ℕ) → mem r (take count remaining′) ≡ (ltb r (length cs) && ltb k (getD (colorsOf flags cs) r 0))
+pub walk-leaves : (flags : List ℕ) (cs : List (List ℕ)) (k start count left : ℕ) (remaining′ colored′ busy′ : List ℕ) → Walked flags cs k start count left remaining′ colored′ busy′
+    → (r : ℕ) → mem r (take left remaining′) ≡ (ltb r (length cs) && ltb k (getD (colorsOf flags cs) r 0))
 walk-leaves = left-higher
 
 -- ---- the plan's memory

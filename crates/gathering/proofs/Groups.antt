@@ -14,11 +14,11 @@ use Rattle.lists.specs.Basics.{one, all, sumOf, range, mem, over}
 use Rattle.lists.proofs.Sums.{sum-le, sum-ext, sum-add, sum-filter, sum-getD}
 use Rattle.lists.proofs.Laws.{by-cases, all-getD, filter-mem, range-high}
 use Rattle.lists.proofs.Ranges.{length-joinMap, map-range-suc}
-use Rattle.parts.specs.Parts.{Cut}
+use Rattle.parts.specs.Parts.{cut, Cut}
 use Rattle.groups.specs.Groups.{members, groupBodies, flatten, offsets}
 use Rattle.groups.proofs.Tables.{flatten-zero, flatten-suc, start-suc}
 use Rattle.gathering.specs.Gathers.{endsOf, among, Fresh, Listed, Gatherable, Gathered}
-use Rattle.gathering.proofs.Cuts.{partOf, part-is, group-cut}
+use Rattle.parts.proofs.Groups.{group-cut, group-is}
 use Rattle.gathering.proofs.Ends.{ends-all, ends-ext, group-bodies, among-few}
 
 members-below : (colors : List ℕ) (k r : ℕ) → mem r (members colors k) ≡ true → r < length colors
@@ -81,10 +81,6 @@ pub record Gathering (nb : ℕ) (cs : List (List ℕ)) (colors : List ℕ) (n : 
   pub listed : bodies ≡ over (flatten (groupBodies nb cs colors) color) bodies₀
   pub started : take (color + 1) starts ≡ offsets (groupBodies nb cs colors) color
 
-first-zero : (l : List ℕ) → 0 < length l → take 1 (set l 0 0) ≡ 0 ∷ []
-first-zero [] h = absurd (omega arith)
-first-zero (x ∷ l) h = refl
-
 module _ {nb n : ℕ} {cs : List (List ℕ)} {colors color-offsets constraints st₀ scratch₀ starts₀ bodies₀ : List ℕ} (p : Gatherable nb cs colors n color-offsets constraints st₀ scratch₀ starts₀ bodies₀) where
   -- at the start no stamp is above 0
   pub gathering-none : Gathering nb cs colors n scratch₀ (set starts₀ 0 0) bodies₀ st₀ scratch₀ (set starts₀ 0 0) bodies₀ 0 0
@@ -101,7 +97,7 @@ module _ {nb n : ℕ} {cs : List (List ℕ)} {colors color-offsets constraints s
             (λ l. omega (arith, List·getD-eq-default st₀ 0 {n = b} (omega (arith, p .stamps, ltb-false b nb l))));
         counted = refl;
         listed = refl;
-        started = first-zero starts₀ (omega (arith, p .ends));
+        started = take-suc-set starts₀ 0 0 (omega (arith, p .ends));
       }
 
   pub scratch-room : {st scratch starts bodies : List ℕ} {end color : ℕ} → Gathering nb cs colors n scratch₀ (set starts₀ 0 0) bodies₀ st scratch starts bodies end color → length st ≤ length scratch
@@ -115,18 +111,18 @@ module _ {nb n : ℕ} {cs : List (List ℕ)} {colors color-offsets constraints s
 
   -- the endpoints of a constraint are those that `ends` gives
   module _ (ends : ℕ → List ℕ) (size : length cs ≡ length colors) (same : (r : ℕ) → r < length colors → getD cs r [] ≡ ends r) (color : ℕ) (h : color < n) where
-    group-part : partOf color-offsets constraints color ≡ members colors color
-    group-part = part-is (members colors) n color-offsets constraints (p .starts) constraints-listed color h
+    group-part : cut constraints color-offsets color (color + 1) ≡ members colors color
+    group-part = group-is (members colors) n color-offsets constraints (p .starts) constraints-listed color h
 
-    pub part-below : (r : ℕ) → mem r (partOf color-offsets constraints color) ≡ true → r < length colors
+    pub part-below : (r : ℕ) → mem r (cut constraints color-offsets color (color + 1)) ≡ true → r < length colors
     part-below r m = members-below colors color r (rw group-part at m)
 
-    part-ends : endsOf ends (partOf color-offsets constraints color) ≡ endsOf (λ r. getD cs r []) (members colors color)
+    part-ends : endsOf ends (cut constraints color-offsets color (color + 1)) ≡ endsOf (λ r. getD cs r []) (members colors color)
     part-ends = ap (endsOf ends) group-part ∙ sym (ends-ext (λ r. getD cs r []) ends (members colors color) (λ r m. same r (members-below colors color r m)))
 
     -- the bodies of group `color` can be listed next
     module _ {st scratch starts bodies : List ℕ} {end : ℕ} (v : Gathering nb cs colors n scratch₀ (set starts₀ 0 0) bodies₀ st scratch starts bodies end color) where
-      pub group-fresh : Fresh (endsOf ends (partOf color-offsets constraints color)) (color + 1) st bodies end
+      pub group-fresh : Fresh (endsOf ends (cut constraints color-offsets color (color + 1))) (color + 1) st bodies end
       group-fresh =
           let below : ℕ → Bool = λ b. ltb b nb in
           rw part-ends
@@ -142,12 +138,12 @@ module _ {nb n : ℕ} {cs : List (List ℕ)} {colors color-offsets constraints s
             fresh = λ b. omega (arith, v .low b);
           })
 
-      module _ {st′ bodies′ : List ℕ} {end′ : ℕ} (w : Listed (endsOf ends (partOf color-offsets constraints color)) (color + 1) st′ bodies bodies′ end end′) (ls : length st′ ≡ length st) where
-        group-is : among (length st′) (endsOf ends (partOf color-offsets constraints color)) ≡ groupBodies nb cs colors color
-        group-is = rw (ls, v .st-size, part-ends) (sym (group-bodies nb cs colors color))
+      module _ {st′ bodies′ : List ℕ} {end′ : ℕ} (w : Listed (endsOf ends (cut constraints color-offsets color (color + 1))) (color + 1) st′ bodies bodies′ end end′) (ls : length st′ ≡ length st) where
+        bodies-are : among (length st′) (endsOf ends (cut constraints color-offsets color (color + 1))) ≡ groupBodies nb cs colors color
+        bodies-are = rw (ls, v .st-size, part-ends) (sym (group-bodies nb cs colors color))
 
         end-is : end′ ≡ length (flatten (groupBodies nb cs colors) (suc color))
-        end-is = omega (arith, w .counted, ap length group-is, v .counted, start-suc (groupBodies nb cs colors) color)
+        end-is = omega (arith, w .counted, ap length bodies-are, v .counted, start-suc (groupBodies nb cs colors) color)
 
         pub end-small : end′ ≤ 65535
         end-small = omega (arith, end-is, starts-few cs colors nb (suc color), before-few cs colors size (suc color), p .small)
@@ -159,7 +155,7 @@ module _ {nb n : ℕ} {cs : List (List ℕ)} {colors color-offsets constraints s
             let a : take end bodies ≡ flat = rw (v .listed) (take-at flat (drop (length flat) bodies₀) end (sym (v .counted))) in
             let e : end′ ≡ length flat + length (g color) = end-is ∙ start-suc g color in
             let b : drop end′ bodies ≡ drop (length flat + length (g color)) bodies₀ = rw (e, v .listed) (drop-append-add flat (drop (length flat) bodies₀) (length (g color)) ∙ drop-drop (length (g color)) (length flat) bodies₀) in
-            w .listed ∙ rw (group-is, a, b, flatten-suc g color, length-append flat (g color))
+            w .listed ∙ rw (bodies-are, a, b, flatten-suc g color, length-append flat (g color))
 
         pub gathering-more : {scratch′ : List ℕ} → length scratch′ ≡ length scratch → length bodies′ ≡ length bodies → Gathering nb cs colors n scratch₀ (set starts₀ 0 0) bodies₀ st′ scratch′ (set starts (color + 1) end′) bodies′ end′ (color + 1)
         unfolding offsets

@@ -1,4 +1,3 @@
-pub mod Cuts
 pub mod Ends
 pub mod Stamps
 pub mod Counts

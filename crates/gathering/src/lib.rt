@@ -7,8 +7,8 @@ ghost use lib.ListN.{length};
 ghost use Rattle.parts.specs.Parts.{partAt, partsAt, Bounded};
 ghost use Rattle.gathering.specs.Gathers.{endsOf, stamped, Stampable, Counted, Notable, Noted, AllPresent, Fresh, Listed, Gatherable, Gathered};
 
-// A group with a constraint for every 32 bodies or more is collected from the stamps, a smaller one noted and sorted.
-const MANY: usize = 32;
+// A group with a constraint for every 64 bodies or more is collected from the stamps, a smaller one noted and sorted.
+const MANY: usize = 64;
 
 // A body gets the stamp; answers 1 if it had another, else 0. There is no branch to guess wrong.
 fn stamp_body(body: u16, stamp: u16, body_stamps: &mut [u16]) -> usize

@@ -9,12 +9,12 @@ use native.Mathlib.Omega.{arith}
 use lib.Dec.{leb, ltb, eqb}
 use lib.ListN.{length, getD, take, set, length-set}
 use lib.Seq.{take-suc, take-all, take-suc-set, getD-take, getD-set-other, length-take-le}
-use borrow.Author.Tests.{eqb-true, eq-eqb, ne-eqb, ltb-true, ltb-false, lt-ltb, le-ltb, le-leb}
+use borrow.Author.Tests.{eqb-true, eq-eqb, ne-eqb, ltb-true, ltb-false, le-leb}
 use Rattle.lists.specs.Basics.{one, any, all, filter, range, mem}
 use Rattle.lists.proofs.Laws.{by-cases, all-in, getD-mem, all-getD}
 use Rattle.lists.proofs.Ranges.{filter-append}
 use Rattle.lists.proofs.Scans.{any-next, any-ext-in, filter-filter}
-use Rattle.groups.specs.Groups.{flagged, colorsOf, members, flatten}
+use Rattle.groups.specs.Groups.{flagged, colorsOf, members}
 use Rattle.groups.proofs.Colors.{colors-length}
 use Rattle.groups.proofs.Tables.{flatten-suc}
 use Rattle.painting.specs.Painting.{promised, uncolored, touched, Opened, Walked, Held}

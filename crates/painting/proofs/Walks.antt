@@ -78,10 +78,6 @@ drop-take (suc s) (suc n) (x ∷ xs) = let e : suc n - suc s ≡ n - s = omega a
 part-behind : (n s : ℕ) (xs ys zs : List ℕ) → take n xs ≡ ys ++ zs → length ys ≡ s → take (n - s) (drop s xs) ≡ zs
 part-behind n s xs ys zs e l = sym (drop-take s n xs) ∙ ap (drop s) e ∙ drop-at ys zs s l
 
-first-zero : (xs : List ℕ) → 0 < length xs → take 1 (set xs 0 0) ≡ 0 ∷ []
-first-zero [] h = absurd (omega arith)
-first-zero (x ∷ xs) h = refl
-
 -- the walks for the colors below k are made, of n constraints
 pub record Walks (flags : List ℕ) (cs : List (List ℕ)) (n k count : ℕ) (starts₀ remaining colors starts colored busy : List ℕ) : Type 0 where
   pub all : length cs ≡ n
@@ -115,7 +111,7 @@ walks-none {flags} {cs} {remaining} {colors} {starts} {colored} {busy₀} z n re
       starts-length = length-set starts 0 0 ∙ z .starts-length ∙ ap (λ (n : ℕ). n + 1) (z .sized);
       few = omega arith;
       given = λ r l h. absurd (omega arith);
-      started = first-zero starts (omega (arith, z .starts-length));
+      started = take-suc-set starts 0 0 (omega (arith, z .starts-length));
       beyond = refl;
     }
   where
