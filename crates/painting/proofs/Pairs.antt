@@ -7,7 +7,7 @@ use native.Mathlib.Omega.{arith}
 use lib.Dec.{leb, ltb}
 use lib.ListN.{length, getD}
 use Rattle.lists.specs.Basics.{all, distinct}
-use Rattle.lists.proofs.Laws.{and-left, and-right, and-both, all-append}
+use Rattle.lists.proofs.Laws.{and-left, and-right, and-both}
 use Rattle.frame.specs.Frames.{fewest, most, fits}
 use Rattle.groups.specs.Groups.{pairsOf}
 
@@ -39,12 +39,3 @@ module _ (nb : ℕ) where
   bodies-in (c ∷ cs) h =
       and-both (all (λ b. ltb b nb) c) (all (λ bs. all (λ b. ltb b nb) bs) cs)
       (fits-in c (and-left (fits nb c) (all (fits nb) cs) h)) (bodies-in cs (and-right (fits nb c) (all (fits nb) cs) h))
-
-  -- every entry is a body
-  pub entries-in : (n : ℕ) (es : List ℕ) → length es ≡ 2 * n → all (fits nb) (pairsOf es) ≡ true → all (λ b. ltb b nb) es ≡ true
-  entries-in n [] e s = refl
-  entries-in n (a ∷ []) e s = absurd (omega arith)
-  entries-in zero (a ∷ b ∷ es) e s = absurd (omega arith)
-  entries-in (suc n) (a ∷ b ∷ es) e s =
-      all-append (λ x. ltb x nb) (a ∷ b ∷ []) es (fits-in (a ∷ b ∷ []) (and-left (fits nb (a ∷ b ∷ [])) (all (fits nb) (pairsOf es)) s))
-      (entries-in n es (omega arith) (and-right (fits nb (a ∷ b ∷ [])) (all (fits nb) (pairsOf es)) s))
