@@ -1,4 +1,5 @@
-// Gathering, internal: the stage of an update that lists the bodies of each group.
+// Gathering, internal: the stage of an update that lists the bodies of each group. A body that is met in a group gets the group's stamp, its
+// color plus 1, so that it is listed once.
 
 ghost use mathlib.Core.Path.{_≡_};
 ghost use mathlib.Core.List.{[], _∷_};
@@ -7,7 +8,8 @@ ghost use lib.ListN.{length};
 ghost use Rattle.parts.specs.Parts.{partAt, partsAt, Bounded};
 ghost use Rattle.gathering.specs.Gathers.{endsOf, stamped, Stampable, Counted, Notable, Noted, AllPresent, Fresh, Listed, Gatherable, Gathered};
 
-// A group with a constraint for every 64 bodies or more is collected from the stamps, a smaller one noted and sorted.
+// The bodies of a group with a constraint for every 64 bodies or more are collected from the stamps; those of a smaller one are noted as
+// they come, and sorted.
 const MANY: usize = 64;
 
 // A body gets the stamp; answers 1 if it had another, else 0. There is no branch to guess wrong.
