@@ -10,11 +10,11 @@ use lib.ListN.{length, getD, take, drop, length-drop, length-map}
 use lib.Seq.{length-take-le, take-all}
 use borrow.Author.Tests.{eqb-true, eqb-false, ltb-true}
 use Rattle.lists.specs.Basics.{all, mem, place, joinMap}
-use Rattle.lists.proofs.Laws.{and-left, and-right, and-both, or-left, or-right, or-cases, clashes, by-cases, not-true-false, all-in, all-intro, getD-mem, map-ext-in}
+use Rattle.lists.proofs.Laws.{and-left, and-right, and-both, or-left, or-right, or-cases, clashes, by-cases, not-true-false, all-in, getD-mem}
 use Rattle.lists.proofs.Scans.{any-next}
 use Rattle.parts.specs.Parts.{startAt, partAt, Present}
 use Rattle.parts.proofs.Gapless.{written, written-long, part-inside, part-written, part-kept}
-use Rattle.locating.specs.Locates.{Laid, Findable, Placed, Located}
+use Rattle.locating.specs.Locates.{Laid, Located}
 
 -- ---- what passes for all endpoints of the constraints ms passes for those of each
 all-parts : (p : ℕ → Bool) (xs ys : List ℕ) → all p (xs ++ ys) ≡ true → (all p xs ≡ true) × (all p ys ≡ true)
@@ -35,16 +35,16 @@ mem-front r [] (suc i) m = m
 mem-front r (x ∷ ms) (suc i) m = or-cases (eqb r x) (mem r (take i ms)) m (λ e. or-left (eqb r x) (mem r ms) e) (λ e. or-right (eqb r x) (mem r ms) (mem-front r ms i e))
 
 -- ---- the first i members are located
-pub record Locating (bounds es ms : List ℕ) (g : ℕ → ℕ) (positions₀ table : List ℕ) (i : ℕ) : Type 0 where
+pub record Locating (bounds es ms bodies positions₀ table : List ℕ) (i : ℕ) : Type 0 where
   pub inside : i ≤ length ms
   pub size : length table ≡ length positions₀
-  pub done : (r : ℕ) → mem r (take i ms) ≡ true → partAt bounds table r ≡ map g (partAt bounds es r)
+  pub done : (r : ℕ) → mem r (take i ms) ≡ true → partAt bounds table r ≡ map (λ b. place b bodies) (partAt bounds es r)
   pub kept : (w : Laid bounds es ms positions₀) (r : ℕ) → r < w .many → mem r (take i ms) ≡ false → partAt bounds table r ≡ partAt bounds positions₀ r
 
-pub locating-none : (bounds es ms : List ℕ) (g : ℕ → ℕ) (positions₀ : List ℕ) → Locating bounds es ms g positions₀ positions₀ 0
-locating-none bounds es ms g positions₀ = record { inside = omega arith; size = refl; done = λ r m. clashes false m refl; kept = λ w r h m. refl }
+pub locating-none : (bounds es ms bodies positions₀ : List ℕ) → Locating bounds es ms bodies positions₀ positions₀ 0
+locating-none bounds es ms bodies positions₀ = record { inside = omega arith; size = refl; done = λ r m. clashes false m refl; kept = λ w r h m. refl }
 
-pub locating-done : {bounds es ms : List ℕ} {g : ℕ → ℕ} {positions₀ table : List ℕ} {i : ℕ} → Locating bounds es ms g positions₀ table i → length ms ≤ i → Located bounds es ms g positions₀ table
+pub locating-done : {bounds es ms bodies positions₀ table : List ℕ} {i : ℕ} → Locating bounds es ms bodies positions₀ table i → length ms ≤ i → Located bounds es ms bodies positions₀ table
 locating-done {ms} {i} v h =
     let e : take i ms ≡ ms = take-all i ms h in
     record { done = rw e at (v .done); kept = rw e at (v .kept) }
@@ -68,16 +68,17 @@ module _ {bounds es ms positions₀ : List ℕ} (w : Laid bounds es ms positions
     member-all p bs b a = rw b (joined-in p (partAt bounds es) ms (getD ms i 0) a (getD-mem ms i h))
 
     -- its endpoints bs, and their start
-    module _ {g : ℕ → ℕ} {table bs : List ℕ} {start : ℕ} (v : Locating bounds es ms g positions₀ table i) (b : bs ≡ partAt bounds es (getD ms i 0)) (s : start ≡ startAt bounds (getD ms i 0)) where
+    module _ {bodies table bs : List ℕ} {start : ℕ} (v : Locating bounds es ms bodies positions₀ table i) (b : bs ≡ partAt bounds es (getD ms i 0)) (s : start ≡ startAt bounds (getD ms i 0)) where
       pub end-inside : start + length bs ≤ length table
       end-inside = omega (arith, s, ap length b, part-inside (w .bounded) (w .gapless) (getD ms i 0) low, w .room, v .size)
 
       pub places-many : length (take (start + length bs - start) (drop start table)) ≡ length bs
       places-many = omega (arith, end-inside, length-take-le (start + length bs - start) (drop start table) (omega (arith, end-inside, length-drop start table)))
 
-      pub locating-more : (ps : List ℕ) → ps ≡ map g bs → Locating bounds es ms g positions₀ (written start (start + length bs) table ps) (i + 1)
+      pub locating-more : (ps : List ℕ) → ps ≡ map (λ b. place b bodies) bs → Locating bounds es ms bodies positions₀ (written start (start + length bs) table ps) (i + 1)
       locating-more ps e =
           let q = getD ms i 0 in
+          let g : ℕ → ℕ = λ b. place b bodies in
           let more : (r : ℕ) → mem r (take (i + 1) ms) ≡ (mem r (take i ms) || eqb r q) = λ r. any-next (eqb r) ms i h in
           let long : length ps ≡ length (partAt bounds es q) = ap length e ∙ length-map bs g ∙ ap length b in
           let room : length table ≡ length es = v .size ∙ w .room in
@@ -100,14 +101,3 @@ module _ {bounds es ms positions₀ : List ℕ} (w : Laid bounds es ms positions
                 ∙ part-kept (z .bounded) (z .gapless) table ps q (ltb-true q (z .many) (all-in (λ r. ltb r (z .many)) q ms (getD-mem ms i h) (z .below))) room long r k (eqb-false r q c)
                 ∙ v .kept z r k a;
           }
-
--- ---- what is read from the table of places is the place
-pub bodies-low : (ends bodies : List ℕ) (n : ℕ) → Findable ends bodies → all (λ b. ltb b n) bodies ≡ true → all (λ b. ltb b n) ends ≡ true
-bodies-low ends bodies n f h = all-intro (λ b. ltb b n) ends (λ b m. all-in (λ b. ltb b n) b bodies (all-in (λ b. mem b bodies) b ends m (f .there)) h)
-
-pub read-places : {bounds es ms bodies places positions₀ table : List ℕ} → Findable (joinMap (partAt bounds es) ms) bodies → Placed bodies places → Located bounds es ms (λ b. getD places b 0) positions₀ table → Located bounds es ms (λ b. place b bodies) positions₀ table
-read-places {bounds} {es} {ms} {bodies} {places} f l v =
-    record {
-      done = λ r m. v .done r m ∙ map-ext-in (λ b. getD places b 0) (λ b. place b bodies) (partAt bounds es r) (λ b k. l .placed b (all-in (λ b. mem b bodies) b (partAt bounds es r) k (joined-in (λ b. mem b bodies) (partAt bounds es) ms r (f .there) m)));
-      kept = v .kept;
-    }

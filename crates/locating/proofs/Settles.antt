@@ -9,7 +9,7 @@ use lib.Dec.{eqb, ltb}
 use lib.ListN.{length, getD, take}
 use lib.Seq.{take-length}
 use borrow.Author.Tests.{eqb-true, eqb-false, ltb-true, lt-ltb}
-use Rattle.lists.specs.Basics.{any, all, range, mem, place, rises, joinMap}
+use Rattle.lists.specs.Basics.{any, all, range, mem, rises, joinMap}
 use Rattle.lists.proofs.Laws.{or-right, mem-self, by-cases, not-true-false, all-in, all-intro, all-append, all-getD, any-in, filter-mem, mem-filter, in-range, range-high, length-range, filter-length-le, max-in, getD-mem, rises-filter}
 use Rattle.groups.specs.Groups.{groupCount, members, groupBodies, positions, flatten}
 use Rattle.parts.specs.Parts.{cut, Cut, partAt, partsAt, Bounded, Gapless}
@@ -120,7 +120,7 @@ module _ {nb n : ℕ} {bounds es colors offsets constraints starts bodies places
     pub group-low : all (λ b. ltb b (length places)) bs ≡ true
     group-low = rw (bodies-are p k h b) (bodies-exist nb (partsAt (length colors) bounds es) colors k (length places) (omega (arith, v .places-size, p .by-body)))
 
-    pub settling-more : {places′ table′ : List ℕ} → length places′ ≡ length places → length table′ ≡ length table → Located bounds es ms (λ b. place b bs) table table′ → Settling nb bounds es colors n places₀ positions₀ places′ table′ (k + 1)
+    pub settling-more : {places′ table′ : List ℕ} → length places′ ≡ length places → length table′ ≡ length table → Located bounds es ms bs table table′ → Settling nb bounds es colors n places₀ positions₀ places′ table′ (k + 1)
     unfolding positions group-laid
     settling-more lp lt u =
         record {

@@ -30,7 +30,7 @@ pub record Laid (bounds es ms positions : List ℕ) : Type 0 where
   pub room : length positions ≡ length es
   pub below : all (λ r. ltb r many) ms ≡ true
 
--- the bodies bs can be searched: all stand in a rising list
+-- the bodies bs can be found: all stand in a rising list
 pub record Findable (bs bodies : List ℕ) : Type 0 where
   pub few : length bodies ≤ 4096
   pub rising : rises bodies ≡ true
@@ -40,7 +40,12 @@ pub record Findable (bs bodies : List ℕ) : Type 0 where
 pub record Placed (bodies places : List ℕ) : Type 0 where
   pub placed : (b : ℕ) → mem b bodies ≡ true → getD places b 0 ≡ place b bodies
 
--- the constraints ms have the positions that g gives their bodies, and the others keep theirs
-pub record Located (bounds es ms : List ℕ) (g : ℕ → ℕ) (positions positions′ : List ℕ) : Type 0 where
-  pub done : (r : ℕ) → mem r ms ≡ true → partAt bounds positions′ r ≡ map g (partAt bounds es r)
+-- each body of the list is below the length of the table, and if they are more than 16 the table has the place of each
+pub record Known (bodies places : List ℕ) : Type 0 where
+  pub below : all (λ b. ltb b (length places)) bodies ≡ true
+  pub listed : 16 < length bodies → Placed bodies places
+
+-- the constraints ms have the positions of their endpoints among the bodies, and the others keep theirs
+pub record Located (bounds es ms bodies positions positions′ : List ℕ) : Type 0 where
+  pub done : (r : ℕ) → mem r ms ≡ true → partAt bounds positions′ r ≡ map (λ b. place b bodies) (partAt bounds es r)
   pub kept : (w : Laid bounds es ms positions) (r : ℕ) → r < w .many → mem r ms ≡ false → partAt bounds positions′ r ≡ partAt bounds positions r
