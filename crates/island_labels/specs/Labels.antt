@@ -1,5 +1,5 @@
 -- What numbers the islands and labels the constraints, step by step.
-use Prim.Native.Nat.{ℕ, _+_, min}
+use Prim.Native.Nat.{ℕ, _+_, _<_, min}
 use mathlib.Core.Path.{_≡_}
 use mathlib.Core.Bool.{Bool, not, _&&_, cond}
 use mathlib.Core.List.{List, [], _∷_}
@@ -33,16 +33,17 @@ leadsBy m low x = m x && eqb (low x) x
 unfoldable pub Together : (ℕ → Bool) → (ℕ → ℕ) → Type 0
 Together m low = (x y : ℕ) → low x ≡ low y → m x ≡ m y
 
--- body b with n islands before it: its label, and the islands then
-abbrev pub nextLabel : List ℕ → List ℕ → List ℕ → ℕ → ℕ → ℕ
-nextLabel ts p l b n = cond (marked ts l b) (cond (eqb (getD p b 0) b) n (getD l (getD p b 0) 0)) none
+-- each body's place tells whether it leads
+pub record Flagged (m : ℕ → Bool) (low : ℕ → ℕ) (size : ℕ) (l : List ℕ) : Type 0 where
+  pub flags : (x : ℕ) → x < size → getD l x 0 ≡ one (leadsBy m low x)
 
-abbrev pub nextCount : List ℕ → List ℕ → List ℕ → ℕ → ℕ → ℕ
-nextCount ts p l b n = n + one (marked ts l b && eqb (getD p b 0) b)
+-- body b with n islands before it: its own number if it is flagged, then its parent's
+abbrev pub own : List ℕ → ℕ → ℕ → List ℕ
+own l b n = set l b (cond (eqb (getD l b 0) 1) n none)
 
-pub record Stepped (ts p l : List ℕ) (b n : ℕ) (l′ : List ℕ) (n′ : ℕ) : Type 0 where
-  pub count : n′ ≡ nextCount ts p l b n
-  pub labels : l′ ≡ set l b (nextLabel ts p l b n)
+pub record Stepped (p l : List ℕ) (b n : ℕ) (l′ : List ℕ) (n′ : ℕ) : Type 0 where
+  pub count : n′ ≡ n + getD l b 0
+  pub labels : l′ ≡ set (own l b n) b (getD (own l b n) (getD p b 0) 0)
 
 -- the marked bodies have the number of marked lowest bodies below their own, any other has none
 pub record Numbered (m : ℕ → Bool) (low : ℕ → ℕ) (size islands : ℕ) (l : List ℕ) : Type 0 where

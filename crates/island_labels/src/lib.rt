@@ -3,11 +3,11 @@ ghost use mathlib.Core.Path.{_≡_};
 ghost use mathlib.Core.Bool.{true, cond};
 ghost use mathlib.Core.List.{map};
 ghost use Prim.Native.Nat.{_<_, _≤_};
-ghost use lib.ListN.{length};
+ghost use lib.ListN.{length, getD};
 ghost use Rattle.lists.specs.Basics.{one, all};
 ghost use Rattle.frame.specs.Frames.{constraint, constraintsOf, sound};
-ghost use Rattle.island_sets.specs.Sets.{rootOf};
-ghost use Rattle.island_labels.specs.Labels.{Fit, marked, Together, Stepped, Numbered, labelBy};
+ghost use Rattle.island_sets.specs.Sets.{rootOf, Falls};
+ghost use Rattle.island_labels.specs.Labels.{Fit, marked, Together, Flagged, Stepped, Numbered, labelBy};
 
 // The label of what has no island.
 pub const NONE: u16 = 65535;
@@ -30,24 +30,31 @@ fn bit(test: bool) -> u16
     0
 }
 
-// A marked dynamic body gets the next number if it is its own parent, and its parent's number if not; any other body none.
-// Answers how many islands there are so far. There is no branch to guess wrong.
-fn number_one(
-    body_types: &[u8],
-    parents: &[u16],
-    body_islands: &mut [u16],
-    body: usize,
-    count: u16,
-) -> u16
-    requires { ⌜ Fit (now «body_types») (now parents) (now «body_islands») × (body < length (now «body_types»)) × (count ≤ 4096) ⌝ }
-    ensures { λ r. ⌜ Stepped (now («body_types» .entry)) (now (parents .entry)) (now («body_islands» .entry)) body count (now («body_islands» .exit)) r ⌝ }
+// 1 for each body that leads an island: it is dynamic, marked and its own parent. 0 for any other.
+fn flag_leaders(body_types: &[u8], parents: &[u16], body_islands: &mut [u16])
+    requires { ⌜ Fit (now «body_types») (now parents) (now «body_islands») × (length (now «body_types») ≤ 4096) ⌝ }
+    ensures { λ _. ⌜ Flagged (marked (now («body_types» .entry)) (now («body_islands» .entry))) (rootOf (now (parents .entry)))
+        (length (now («body_types» .entry))) (now («body_islands» .exit)) ⌝ }
 {
-    let marked = (body_types[body] == 2) & (body_islands[body] != NONE);
-    let parent = parents[body] as usize;
-    let leads = parent == body;
-    let island = pick(leads, count, body_islands[parent]);
-    body_islands[body] = pick(marked, island, NONE);
-    count + bit(marked & leads)
+    let mut body = 0;
+    while body < body_islands.len() {
+        let marked = (body_types[body] == 2) & (body_islands[body] != NONE);
+        body_islands[body] = bit(marked & (parents[body] == body as u16));
+        body += 1;
+    }
+}
+
+// A body that leads gets the next number, any other its parent's. Answers how many islands there are so far.
+// There is no branch to guess wrong: one that leads finds the number at its parent too, as that is itself.
+fn number_one(parents: &[u16], body_islands: &mut [u16], body: usize, count: u16) -> u16
+    requires { ⌜ Falls (now parents) × (length (now parents) ≡ length (now «body_islands»)) × (body < length (now parents))
+        × (getD (now «body_islands») body 0 ≤ 1) × (count ≤ 4096) ⌝ }
+    ensures { λ r. ⌜ Stepped (now (parents .entry)) (now («body_islands» .entry)) body count (now («body_islands» .exit)) r ⌝ }
+{
+    let leads = body_islands[body];
+    body_islands[body] = pick(leads == 1, count, NONE);
+    body_islands[body] = body_islands[parents[body] as usize];
+    count + leads
 }
 
 // The marked dynamic bodies get their island's number, in rising order: a parent is lower, so it has its number already.
@@ -58,10 +65,11 @@ pub fn number(body_types: &[u8], parents: &[u16], body_islands: &mut [u16]) -> u
     ensures { λ r. ⌜ Numbered (marked (now («body_types» .entry)) (now («body_islands» .entry))) (rootOf (now (parents .entry)))
         (length (now («body_types» .entry))) r (now («body_islands» .exit)) ⌝ }
 {
+    flag_leaders(body_types, parents, body_islands);
     let mut islands: u16 = 0;
     let mut next = 0;
     while next < body_islands.len() {
-        islands = number_one(body_types, parents, body_islands, next, islands);
+        islands = number_one(parents, body_islands, next, islands);
         next += 1;
     }
     islands

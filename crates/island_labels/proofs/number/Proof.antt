@@ -1,62 +1,84 @@
--- `island::number` meets its contract. The bodies before the loop's have their labels, the others are as they were, and as many islands are counted as have their lowest body before.
+-- `island::number` meets its contract. The flags tell which bodies lead; the bodies before the loop's have their numbers, the others their flags,
+-- and as many islands are counted as have their lowest body before.
 use borrow.Author.Needs.{needs}
 use native.Mathlib.Omega.{arith}
-use Prim.Native.Nat.{_-_, _<_}
-use mathlib.Core.Path.{_∙_}
-use lib.ListN.{length}
-use Rattle.island_sets.specs.Sets.{rootOf}
-use Rattle.island_labels.specs.Labels.{marked, leadsBy}
-use Rattle.lists.proofs.Counts.{count-le}
-use Rattle.island_labels.proofs.Numbering.{Numbering, numbering-starts, numbering-turns, numbering-ends}
+use native.Mathlib.Nat.{le-refl}
+use Prim.Native.Nat.{ℕ, _-_, _≤_, _<_}
+use mathlib.Core.Path.{_≡_, _∙_, sym}
+use mathlib.Core.List.{List}
+use lib.ListN.{length, getD}
+use Rattle.island_labels.proofs.Numbering.{Numbering, numbering-starts, islands-few, numbering-turns, flag-le, numbering-ends}
 use Rattle.island_labels.proofs.number.Statement.{statement}
 use Rattle.island_labels.proofs.number.Tie as tie
 
 abbrev Inv-loop : tie.InvT-loop
-Inv-loop body-types parents body-islands₀ islands₀ next₀ body-islands islands next = Numbering body-types parents body-islands₀ body-islands islands next
+Inv-loop body-types parents body-islands₀ islands₀ next₀ body-islands islands next = Numbering parents body-islands₀ body-islands islands next
 
 abbrev μ-loop : tie.MeasureT-loop
-μ-loop body-types parents body-islands₀ islands₀ next₀ body-islands islands next = length body-types - next
+μ-loop body-types parents body-islands₀ islands₀ next₀ body-islands islands next = length parents - next
+
+-- inside the loop: the start, the flags, and the bounds of the loop's body
+abbrev Here : Type 0
+Here = tie.After-number-one-arg Inv-loop μ-loop
+
+abbrev start : Here → tie.Start Inv-loop μ-loop
+start c = c .before .before .before .before .before .before .before .before .before .before
+
+abbrev flags : Here → List ℕ
+flags c = c .before .before .before .before .before .flag-leaders .last .1 .1 .0
+
+long : (c : Here) → length (flags c) ≡ length (start c .args .parents .now)
+long c = c .before .before .before .before .before .flag-leaders .kept .1 .1 .0 ∙ start c .pre .0 .long-bodies ∙ sym (start c .pre .0 .long-parents)
+
+inside : (c : Here) → c .before .before .loop .next < length (start c .args .parents .now)
+inside c = omega (arith, long c, c .before .before .loop .inv .long, c .before .loop-test .taken)
+
+bit : (c : Here) → getD (flags c) (c .before .before .loop .next) 0 ≤ 1
+bit c =
+    let s = start c in
+    flag-le (s .args .body-types .now) (s .args .parents .now) (s .args .body-islands .now) (flags c) (s .pre .0) (c .before .before .before .before .before .flag-leaders .ensures) (c .before .before .loop .next) (omega (arith, inside c, s .pre .0 .long-parents))
+
+flag-leaders-requires : tie.Need-flag-leaders-requires Inv-loop μ-loop
+flag-leaders-requires c κs = search needs
 
 loop-holds : tie.Need-loop-holds Inv-loop μ-loop
-loop-holds c =
-    let a = c .before .before .before .args in
-    numbering-starts (a .body-types .now) (a .parents .now) (a .body-islands .now)
+loop-holds c = numbering-starts (c .before .before .before .before .before .before .before .args .parents .now) (c .before .before .flag-leaders .last .1 .1 .0)
 
 number-one-requires : tie.Need-number-one-requires Inv-loop μ-loop
 number-one-requires c κs =
-    let s = c .before .before .before .before .before .before in
-    let a = s .args in
+    let s = start c in
     let l = c .before .before .loop in (
-      record { falls = s .pre .0 .falls; long-parents = s .pre .0 .long-parents; long-bodies = l .inv .long ∙ s .pre .0 .long-bodies },
-      omega (arith, l .inv .long),
-      omega (arith, l .inv .islands, l .inv .inside, count-le (leadsBy (marked (a .body-types .now) (a .body-islands .now)) (rootOf (a .parents .now))) (l .next)),
+      s .pre .0 .falls,
+      sym (l .inv .long ∙ long c),
+      inside c,
+      omega (arith, l .inv .todo (l .next) (le-refl (l .next)), bit c),
+      omega (arith, islands-few (s .args .parents .now) (flags c) (l .body-islands) (l .islands) (l .next) (l .inv), inside c, s .pre .0 .long-parents, s .pre .1),
     )
 
 add-next : tie.Need-add-next Inv-loop μ-loop
 add-next c = search needs
 
 loop-less : tie.Need-loop-less Inv-loop μ-loop
-loop-less c = omega (arith, c .before .before .before .before .before .loop .inv .long)
+loop-less c = search needs
 
 loop-again : tie.Need-loop-again Inv-loop μ-loop
 loop-again c =
-    let s = c .before .before .before .before .before .before .before .before .before in
-    let a = s .args in
-    let l = c .before .before .before .before .before .loop in
+    let d = c .before .before .before in
+    let s = start d in
+    let l = d .before .before .loop in
     let f = c .before .before .number-one in
-    let k : l .next < length (a .body-types .now) = omega (arith, l .inv .long) in
-    numbering-turns (a .body-types .now) (a .parents .now) (a .body-islands .now) (l .body-islands) (l .islands) (l .next) (l .inv) (s .pre .0) k (s .pre .2)
-    (f .last .1 .1 .0) (f .result) (f .ensures) (f .kept .1 .1 .0)
+    numbering-turns (s .args .parents .now) (flags d) (l .body-islands) (l .islands) (l .next) (l .inv) (s .pre .0 .falls) (long d) (inside d) (bit d) (f .last .1 .0) (f .result) (f .ensures)
 
 same-length : tie.Need-same-length Inv-loop μ-loop
-same-length c = c .before .loop .inv .long
+same-length c = search needs
 
 returns : tie.Need-returns Inv-loop μ-loop
 returns c =
-    let s = c .before .before .before .before .before in
+    let s = c .before .before .before .before .before .before .before .before .before in
     let a = s .args in
+    let f = c .before .before .before .before .flag-leaders in
     let l = c .before .loop in
-    numbering-ends (a .body-types .now) (a .parents .now) (a .body-islands .now) (l .body-islands) (l .islands) (l .next) (l .inv) (s .pre .0 .long-bodies) (c .loop-test .left)
+    numbering-ends (a .body-types .now) (a .parents .now) (a .body-islands .now) (f .last .1 .1 .0) (s .pre .0) (f .ensures) (s .pre .2) (f .kept .1 .1 .0) (l .body-islands) (l .islands) (l .next) (l .inv) (c .loop-test .left)
 
 pub number-spec : {M : Type 1} → statement M
 number-spec =
@@ -64,6 +86,7 @@ number-spec =
     (tie.spec
     Inv-loop
     μ-loop
+    flag-leaders-requires
     loop-holds
     number-one-requires
     add-next

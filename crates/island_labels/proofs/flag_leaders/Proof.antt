@@ -1,0 +1,91 @@
+-- `island::flag_leaders` meets its contract. The bodies before the loop's have their flags, the others are as they were.
+use borrow.Author.Needs.{needs}
+use native.Mathlib.Omega.{arith}
+use Prim.Native.Nat.{_-_}
+use lib.ListN.{length}
+use Rattle.island_labels.proofs.Numbering.{Flagging, flagging-starts, flagging-turns, flagging-ends}
+use Rattle.island_labels.proofs.flag_leaders.Statement.{statement}
+use Rattle.island_labels.proofs.flag_leaders.Tie as tie
+
+abbrev Inv-loop : tie.InvT-loop
+Inv-loop body-types parents body-islands₀ body₀ body-islands body = Flagging body-types parents body-islands₀ body-islands body
+
+abbrev μ-loop : tie.MeasureT-loop
+μ-loop body-types parents body-islands₀ body₀ body-islands body = length body-types - body
+
+loop-holds : tie.Need-loop-holds Inv-loop μ-loop
+loop-holds c =
+    let a = c .before .before .before .args in
+    flagging-starts (a .body-types .now) (a .parents .now) (a .body-islands .now)
+
+shared-slice-read-marked : tie.Need-shared-slice-read-marked Inv-loop μ-loop
+shared-slice-read-marked c = search needs
+
+mul-marked : tie.Need-mul-marked Inv-loop μ-loop
+mul-marked c = search needs
+
+slice-read-marked : tie.Need-slice-read-marked Inv-loop μ-loop
+slice-read-marked c = search needs
+
+mul-bit : tie.Need-mul-bit Inv-loop μ-loop
+mul-bit c = search needs
+
+shared-slice-read-bit : tie.Need-shared-slice-read-bit Inv-loop μ-loop
+shared-slice-read-bit c = search needs
+
+cast-bit : tie.Need-cast-bit Inv-loop μ-loop
+cast-bit c = search needs
+
+bit-requires : tie.Need-bit-requires Inv-loop μ-loop
+bit-requires c κs = search needs
+
+mul-body-islands : tie.Need-mul-body-islands Inv-loop μ-loop
+mul-body-islands c = search needs
+
+slice-write-body-islands : tie.Need-slice-write-body-islands Inv-loop μ-loop
+slice-write-body-islands c = search needs
+
+add-body : tie.Need-add-body Inv-loop μ-loop
+add-body c = search needs
+
+loop-less : tie.Need-loop-less Inv-loop μ-loop
+loop-less c = search needs
+
+loop-again : tie.Need-loop-again Inv-loop μ-loop
+loop-again c =
+    let s = c .before .before .before .before .before .before .before .before .before in
+    let a = s .args in
+    let l = c .before .before .before .before .before .loop in
+    flagging-turns (a .body-types .now) (a .parents .now) (a .body-islands .now) (l .body-islands) (l .body) (l .inv) (s .pre .0) (omega (arith, l .inv .long)) (c .bit .result) (c .bit .ensures .0)
+
+same-length : tie.Need-same-length Inv-loop μ-loop
+same-length c = c .before .loop .inv .long
+
+returns : tie.Need-returns Inv-loop μ-loop
+returns c =
+    let s = c .before .before .before .before .before in
+    let a = s .args in
+    let l = c .before .loop in
+    flagging-ends (a .body-types .now) (a .parents .now) (a .body-islands .now) (l .body-islands) (l .body) (l .inv) (s .pre .0 .long-bodies) (c .loop-test .left)
+
+pub flag-leaders-spec : {M : Type 1} → statement M
+flag-leaders-spec =
+    tie.close
+    (tie.spec
+    Inv-loop
+    μ-loop
+    loop-holds
+    shared-slice-read-marked
+    mul-marked
+    slice-read-marked
+    mul-bit
+    shared-slice-read-bit
+    cast-bit
+    bit-requires
+    mul-body-islands
+    slice-write-body-islands
+    add-body
+    loop-less
+    loop-again
+    same-length
+    returns)
