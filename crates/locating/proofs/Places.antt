@@ -65,10 +65,10 @@ module _ {bodies places₀ places : List ℕ} {i : ℕ} (v : Placing bodies plac
   placing-done h =
       record { placed = λ b m. ap (λ (x : ℕ). getD places x 0) (sym (place-get b bodies m)) ∙ v .placed (place b bodies) (omega (arith, place-lt b bodies m)) }
 
--- ---- the table keeps its length, and of more than 16 bodies it has the places: they were listed, or there are no more than 16
+-- ---- the table keeps its length, and of more than 4 bodies it has the places: they were listed, or there are no more than 4
 module _ {bodies places : List ℕ} (places₀ : List ℕ) (p : all (λ b. ltb b (length places₀)) bodies ≡ true) where
   pub known-listed : {listed : List ℕ} → length listed ≡ length places₀ → Placed bodies listed → places ≡ listed → (length places ≡ length places₀) × Known bodies places
   known-listed e l q = rw q (e, record { below = rw e p; listed = λ h. l })
 
-  pub known-few : length bodies ≤ 16 → places ≡ places₀ → (length places ≡ length places₀) × Known bodies places
+  pub known-few : length bodies ≤ 4 → places ≡ places₀ → (length places ≡ length places₀) × Known bodies places
   known-few h q = rw q (refl, record { below = p; listed = λ k. absurd (omega arith) })

@@ -40,10 +40,10 @@ pub record Findable (bs bodies : List ℕ) : Type 0 where
 pub record Placed (bodies places : List ℕ) : Type 0 where
   pub placed : (b : ℕ) → mem b bodies ≡ true → getD places b 0 ≡ place b bodies
 
--- each body of the list is below the length of the table, and if they are more than 16 the table has the place of each
+-- each body of the list is below the length of the table, and if they are more than 4 the table has the place of each
 pub record Known (bodies places : List ℕ) : Type 0 where
   pub below : all (λ b. ltb b (length places)) bodies ≡ true
-  pub listed : 16 < length bodies → Placed bodies places
+  pub listed : 4 < length bodies → Placed bodies places
 
 -- the constraints ms have the positions of their endpoints among the bodies, and the others keep theirs
 pub record Located (bounds es ms bodies positions positions′ : List ℕ) : Type 0 where

@@ -12,7 +12,7 @@ ghost use Rattle.parts.specs.Parts.{partAt, partsAt, Bounded, Gapless};
 ghost use Rattle.locating.specs.Locates.{Locatable, Laid, Findable, Placed, Known, Located};
 
 // In a list of this many bodies or fewer a place is searched; of a longer one it is read from the table of places.
-const FEW: usize = 16;
+const FEW: usize = 4;
 
 // The place of each body of a rising list, in a table by body; the places of other bodies stay as they are.
 fn list_places(bodies: &[u16], places: &mut [u16])

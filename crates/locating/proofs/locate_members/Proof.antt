@@ -31,7 +31,7 @@ entry l = start-of (l .before)
 list-places-requires : tie.Need-list-places-requires Inv-loop μ-loop
 list-places-requires c κs = search needs
 
--- the table keeps its length, and of more than 16 bodies it has the places
+-- the table keeps its length, and of more than 4 bodies it has the places
 known : (j : tie.Joined1 Inv-loop μ-loop) → (length (j .if1 .places) ≡ length (now (start-of j .args .places))) × Known (now (start-of j .args .bodies)) (j .if1 .places)
 known j =
     let s = start-of j in

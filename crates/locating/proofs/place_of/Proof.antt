@@ -1,4 +1,4 @@
--- `place_of`: the body stands in the list. `position` answers its place, which fits 16 bits; of more than 16 bodies the table has it.
+-- `place_of`: the body stands in the list. `position` answers its place, which fits 16 bits; of more than 4 bodies the table has it.
 use borrow.Author.Needs.{needs}
 use native.Mathlib.Omega.{arith}
 use lib.Dec.{ltb}
