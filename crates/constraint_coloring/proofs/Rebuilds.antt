@@ -1,6 +1,6 @@
 -- The stages of a rebuild make up the plan: what the walks leave is what the listing of groups needs, and what that leaves is what the
 -- definition of the plan gives. Pairs are parts without bounds.
-use Prim.Native.Nat.{ℕ, suc, _+_, _-_, _*_, _/_, _≤_, _<_}
+use Prim.Native.Nat.{ℕ, _+_, _*_, _/_, _≤_, _<_}
 use mathlib.Core.Path.{_≡_, refl, sym, ap, _∙_}
 use mathlib.Core.List.{List, [], _∷_, _++_}
 use native.Mathlib.Omega.{arith}
@@ -8,12 +8,12 @@ use native.Mathlib.Numerals.{add-one}
 use lib.ListN.{length, getD, take, drop}
 use lib.Seq.{take-at, take-append-le}
 use Rattle.lists.specs.Basics.{sumOf, maxOf, range, over}
-use Rattle.lists.proofs.Laws.{map-ext-in, range-high}
-use Rattle.lists.proofs.Ranges.{max-map}
 use Rattle.groups.specs.Groups.{planOf, pairsOf, colorsOf, groupCount, members, largestGroup, positions, flatten, offsets}
 use Rattle.groups.proofs.Colors.{colors-length}
-use Rattle.groups.proofs.Tables.{start-suc, start-mono, length-offsets, offsets-at}
+use Rattle.groups.proofs.Tables.{length-offsets}
 use Rattle.parts.specs.Parts.{partsAt}
+use Rattle.parts.specs.Steps.{widest}
+use Rattle.parts.proofs.Groups.{widest-is}
 use Rattle.parts.proofs.Parts.{parts-pairs}
 use Rattle.painting.specs.Painting.{Ready}
 use Rattle.painting.proofs.Pairs.{pairs-length, bodies-in}
@@ -21,30 +21,11 @@ use Rattle.painting.proofs.Used.{colors-low, groups-below}
 use Rattle.gathering.specs.Gathers.{Gatherable}
 use Rattle.plan_questions.specs.Plans.{Tables}
 use Rattle.constraint_coloring.specs.Calls.{carried}
-use Rattle.constraint_coloring.specs.Stages.{Rising, widest, Scheduled}
+use Rattle.constraint_coloring.specs.Stages.{Scheduled}
 use Rattle.constraint_coloring.specs.declared.ConstraintColoring.{ConstraintColoring}
 use Rattle.constraint_coloring.proofs.Accepted.{Accepted}
 
--- ---- the size of the largest group
-module _ (g : ℕ → List ℕ) (n : ℕ) where
-  pub offsets-rise : Rising (offsets g n)
-  offsets-rise k h =
-      let l = length-offsets g n in
-      omega (arith, offsets-at g k n (omega arith), offsets-at g (suc k) n (omega arith), start-mono g k (suc k) (omega arith))
-
-  widest-is : widest (offsets g n) ≡ maxOf (λ k. length (g k)) (range n)
-  unfolding widest
-  widest-is =
-      let starts = offsets g n in
-      let width : ℕ → ℕ = λ k. getD starts (suc k) 0 - getD starts k 0 in
-      let size : ℕ → ℕ = λ k. length (g k) in
-      let e : length starts - 1 ≡ n = omega (arith, length-offsets g n) in
-      ap (λ (m : ℕ). maxOf width (range m)) e
-      ∙ sym (max-map (λ x. x) width (range n))
-      ∙ ap (maxOf (λ x. x)) (map-ext-in width size (range n)
-      (λ k m. let l = range-high k 0 n m in omega (arith, offsets-at g k n (omega arith), offsets-at g (suc k) n (omega arith), start-suc g k)))
-      ∙ max-map (λ x. x) size (range n)
-
+-- the size of the largest group
 pub largest-is : (colors : List ℕ) (n : ℕ) → n ≡ groupCount colors → widest (offsets (members colors) n) ≡ largestGroup colors
 unfolding largestGroup
 largest-is colors n e = widest-is (members colors) n ∙ ap (λ (m : ℕ). maxOf (λ k. length (members colors k)) (range m)) e

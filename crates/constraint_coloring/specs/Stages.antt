@@ -1,22 +1,14 @@
--- What the private steps of an update leave: the largest group, the listing of all groups, and the whole rebuild.
-use Prim.Native.Nat.{ℕ, suc, _-_, _≤_, _<_}
+-- What the two private steps of an update leave: the bodies and positions of all groups, and the whole rebuild.
+use Prim.Native.Nat.{ℕ}
 use mathlib.Core.Path.{_≡_}
 use mathlib.Core.List.{List}
-use lib.ListN.{length, getD}
-use Rattle.lists.specs.Basics.{maxOf, range, over}
+use lib.ListN.{length}
+use Rattle.lists.specs.Basics.{over}
 use Rattle.groups.specs.Groups.{planOf, positions, flatten}
 use Rattle.gathering.specs.Gathers.{Gathered}
 use Rattle.plan_questions.specs.Plans.{Tables}
 use Rattle.constraint_coloring.specs.Calls.{carried}
 use Rattle.constraint_coloring.specs.declared.ConstraintColoring.{ConstraintColoring}
-
--- no start is above the next
-abbrev pub Rising : List ℕ → Type 0
-Rising starts = (k : ℕ) → suc k < length starts → getD starts k 0 ≤ getD starts (suc k) 0
-
--- the largest distance from one start to the next
-unfoldable pub widest : List ℕ → ℕ
-widest starts = maxOf (λ k. getD starts (suc k) 0 - getD starts k 0) (range (length starts - 1))
 
 -- colored constraints cs are listed: the bodies of all groups, where each group's start, with the end, and the positions of all constraints
 pub record Scheduled (body-count : ℕ) (cs : List (List ℕ)) (constraint-colors : List ℕ) (color-count : ℕ) (color-bodies color-body-offsets′ color-bodies′ constraint-body-positions′ : List ℕ) : Type 0 where

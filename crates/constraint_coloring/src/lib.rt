@@ -1,15 +1,16 @@
 // Conflict-free groups of constraints (constraint_coloring.rs): the plan that an update builds, and the lookups in it.
 use frame::Frame;
 ghost use mathlib.Core.Path.{_≡_};
-ghost use Prim.Native.Nat.{_≤_, max};
+ghost use Prim.Native.Nat.{_≤_};
 ghost use lib.ListN.{length};
 ghost use Rattle.lists.specs.Basics.{over};
 ghost use Rattle.groups.specs.Groups.{groupCount};
-ghost use Rattle.parts.specs.Parts.{partsAt, Bounded, Gapless};
+ghost use Rattle.parts.specs.Parts.{partsAt, Bounded};
+ghost use Rattle.parts.specs.Steps.{Gapless};
 ghost use Rattle.gathering.specs.Gathers.{Gatherable};
 ghost use Rattle.plan_questions.specs.Plans.{groupPart};
 ghost use Rattle.constraint_coloring.specs.Calls.{freshPlan, refusalWith, Updated, Located};
-ghost use Rattle.constraint_coloring.specs.Stages.{Rising, widest, Scheduled, Rebuilt};
+ghost use Rattle.constraint_coloring.specs.Stages.{Scheduled, Rebuilt};
 
 // What a plan carries by value; the rest stands in the tables that its caller lends.
 pub struct ConstraintColoring {
@@ -54,27 +55,6 @@ fn copy_pairs(from: &[u16], to: &mut [u16])
         to[entry] = from[entry];
         entry += 1;
     }
-}
-
-fn larger(a: usize, b: usize) -> usize
-    ensures { λ r. ⌜ r ≡ max a b ⌝ }
-{
-    if a < b { b } else { a }
-}
-
-// The size of the largest group, from where each starts, with the end.
-fn largest_group(color_offsets: &[u16]) -> usize
-    requires { ⌜ Rising (now «color_offsets») ⌝ }
-    ensures { λ r. ⌜ r ≡ widest (now («color_offsets» .entry)) ⌝ }
-{
-    let mut largest = 0;
-    let mut end: usize = 1;
-    while end < color_offsets.len() {
-        let size = color_offsets[end] as usize - color_offsets[end - 1] as usize;
-        largest = larger(largest, size);
-        end += 1;
-    }
-    largest
 }
 
 // The bodies of all groups and the positions of all constraints, whatever the number of their bodies.
@@ -124,8 +104,9 @@ fn list_groups(
     );
 }
 
-// Remembers the input and builds its plan: each table is cut to the places that are used. The walks of the colors need no adjacency, so
-// `body_offsets`, `body_constraints` and `color_stamps` stay as they are.
+// Remembers the input and builds its plan; each table is cut to the places that a stage may write. The walks need no adjacency, so
+// `body_offsets`, `body_constraints` and `color_stamps` stay as they are. `scratch_offsets` is the list of the uncolored, then serves the
+// sort, then is the table of places; `body_stamps` tells who is busy, is left 0 by the walks, and then takes the groups' stamps.
 fn rebuild(
     flags: &[u8],
     pairs: &[u16],
@@ -216,7 +197,7 @@ fn rebuild(
         &mut color_bodies[..2 * constraint_count],
         &mut constraint_body_positions[..2 * constraint_count],
     );
-    let largest = largest_group(&color_offsets[..color_count + 1]);
+    let largest = parts::largest_part(&color_offsets[..color_count + 1]);
     ConstraintColoring {
         body_count: body_count,
         constraint_count: constraint_count,

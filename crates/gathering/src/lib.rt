@@ -10,7 +10,7 @@ ghost use Rattle.gathering.specs.Gathers.{endsOf, stamped, Stampable, Co
 
 // The bodies of a group with a constraint for every 64 bodies or more are collected from the stamps; those of a smaller one are noted as
 // they come, and sorted.
-const MANY: usize = 64;
+const BODIES_PER_CONSTRAINT: usize = 64;
 
 // A body gets the stamp; answers 1 if it had another, else 0. There is no branch to guess wrong.
 fn stamp_body(body: u16, stamp: u16, body_stamps: &mut [u16]) -> usize
@@ -23,7 +23,7 @@ fn stamp_body(body: u16, stamp: u16, body_stamps: &mut [u16]) -> usize
     fresh
 }
 
-// The bodies of a constraint.
+// The same for the bodies of a constraint; answers how many had another stamp.
 fn stamp_part(bodies: &[u16], stamp: u16, body_stamps: &mut [u16]) -> usize
     requires { ⌜ Stampable (now bodies) (now «body_stamps») ⌝ }
     ensures { λ r. ⌜ Counted stamp (now (bodies .entry)) 0 (now («body_stamps» .entry)) (now («body_stamps» .exit)) r ⌝ }
@@ -155,7 +155,7 @@ fn note_members(
     end
 }
 
-// The same of a group with few.
+// The bodies of a group with few constraints, from place `start` on; answers where they end.
 fn list_few(
     endpoints: &[u16],
     bounds: &[u16],
@@ -184,7 +184,7 @@ fn list_few(
     end
 }
 
-// The same of any group.
+// The bodies of any group, from place `start` on; answers where they end.
 fn list_bodies(
     endpoints: &[u16],
     bounds: &[u16],
@@ -200,7 +200,7 @@ fn list_bodies(
     requires { ⌜ length (now «body_stamps») ≤ length (now «scratch_offsets») ⌝ }
     ensures { λ r. ⌜ Listed (endsOf (partAt (now (bounds .entry)) (now (endpoints .entry))) (now (members .entry))) stamp (now («body_stamps» .exit)) (now («color_bodies» .entry)) (now («color_bodies» .exit)) start r ⌝ }
 {
-    if members.len() >= body_stamps.len() / MANY {
+    if members.len() >= body_stamps.len() / BODIES_PER_CONSTRAINT {
         return list_many(
             endpoints,
             bounds,

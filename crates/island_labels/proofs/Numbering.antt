@@ -18,7 +18,7 @@ use Rattle.lists.proofs.Counts.{count-next, count-le}
 use Rattle.frame.specs.Frames.{dynamic, none}
 use Rattle.island_sets.specs.Sets.{rootOf, Falls}
 use Rattle.island_sets.proofs.Roots.{read-le, read-root, read-here, root-le, root-root}
-use Rattle.island_labels.specs.Labels.{bare, Fit, marked, leadsBy, Together, Flagged, own, Stepped, Numbered}
+use Rattle.island_labels.specs.Labels.{bare, Fit, marked, leadsBy, Together, LeadersFlagged, own, Stepped, Numbered}
 
 -- ---- the flags, at body b: l₀ at the start, l as it is
 pub record Flagging (ts p l₀ l : List ℕ) (b : ℕ) : Type 0 where
@@ -63,7 +63,7 @@ module _ (ts p l₀ l : List ℕ) (b : ℕ) (w : Flagging ts p l₀ l b) (fit : 
       at x j (yes q) = subst (λ (y : ℕ). getD (set l b f) y 0 ≡ one (leadsBy (marked ts l₀) (rootOf p) y)) (sym q) (getD-set-same l b f 0 (omega (arith, w .long)) ∙ e ∙ ap one leads-here)
       at x j (no q) = getD-set-other l b x f 0 q ∙ w .done x (omega (arith, q, j))
 
-pub flagging-ends : (ts p l₀ l : List ℕ) (b : ℕ) → Flagging ts p l₀ l b → length l₀ ≡ length ts → length l ≤ b → Flagged (marked ts l₀) (rootOf p) (length ts) l
+pub flagging-ends : (ts p l₀ l : List ℕ) (b : ℕ) → Flagging ts p l₀ l b → length l₀ ≡ length ts → length l ≤ b → LeadersFlagged (marked ts l₀) (rootOf p) (length ts) l
 flagging-ends ts p l₀ l b w el h = record { flags = λ x k. w .done x (omega (arith, w .long, k)) }
 
 -- ---- the numbers, at body b: f has the flags, l as it is, with n islands so far
@@ -141,7 +141,7 @@ module _ (p f l : List ℕ) (n b : ℕ) (w : Numbering p f l n b) (h : Falls p) 
       at x j (no q) = kept x none q ∙ w .done x (omega (arith, q, j))
 
 -- ---- flags of the marked bodies that lead: a body is marked if its root is, so its number is its island's
-module _ (ts p l₀ f : List ℕ) (fit : Fit ts p l₀) (w : Flagged (marked ts l₀) (rootOf p) (length ts) f) where
+module _ (ts p l₀ f : List ℕ) (fit : Fit ts p l₀) (w : LeadersFlagged (marked ts l₀) (rootOf p) (length ts) f) where
   bit-le : (t : Bool) → one t ≤ 1
   bit-le true = omega arith
   bit-le false = omega arith

@@ -34,7 +34,7 @@ unfoldable pub Together : (ℕ → Bool) → (ℕ → ℕ) → Type 0
 Together m low = (x y : ℕ) → low x ≡ low y → m x ≡ m y
 
 -- each body's place tells whether it leads
-pub record Flagged (m : ℕ → Bool) (low : ℕ → ℕ) (size : ℕ) (l : List ℕ) : Type 0 where
+pub record LeadersFlagged (m : ℕ → Bool) (low : ℕ → ℕ) (size : ℕ) (l : List ℕ) : Type 0 where
   pub flags : (x : ℕ) → x < size → getD l x 0 ≡ one (leadsBy m low x)
 
 -- body b with n islands before it: its own number if it is flagged, then its parent's

@@ -7,7 +7,7 @@ ghost use lib.ListN.{length, getD};
 ghost use Rattle.lists.specs.Basics.{one, all};
 ghost use Rattle.frame.specs.Frames.{constraint, constraintsOf, sound};
 ghost use Rattle.island_sets.specs.Sets.{rootOf, Falls};
-ghost use Rattle.island_labels.specs.Labels.{Fit, marked, Together, Flagged, Stepped, Numbered, labelBy};
+ghost use Rattle.island_labels.specs.Labels.{Fit, marked, Together, LeadersFlagged, Stepped, Numbered, labelBy};
 
 // The label of what has no island.
 pub const NONE: u16 = 65535;
@@ -33,7 +33,7 @@ fn bit(test: bool) -> u16
 // 1 for each body that leads an island: it is dynamic, marked and its own parent. 0 for any other.
 fn flag_leaders(body_types: &[u8], parents: &[u16], body_islands: &mut [u16])
     requires { ⌜ Fit (now «body_types») (now parents) (now «body_islands») × (length (now «body_types») ≤ 4096) ⌝ }
-    ensures { λ _. ⌜ Flagged (marked (now («body_types» .entry)) (now («body_islands» .entry))) (rootOf (now (parents .entry)))
+    ensures { λ _. ⌜ LeadersFlagged (marked (now («body_types» .entry)) (now («body_islands» .entry))) (rootOf (now (parents .entry)))
         (length (now («body_types» .entry))) (now («body_islands» .exit)) ⌝ }
 {
     let mut body = 0;

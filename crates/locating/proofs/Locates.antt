@@ -12,9 +12,10 @@ use borrow.Author.Tests.{eqb-true, eqb-false, ltb-true}
 use Rattle.lists.specs.Basics.{all, mem, place, joinMap}
 use Rattle.lists.proofs.Laws.{and-left, and-right, and-both, or-left, or-right, or-cases, clashes, by-cases, not-true-false, all-in, getD-mem}
 use Rattle.lists.proofs.Scans.{any-next}
-use Rattle.parts.specs.Parts.{startAt, partAt, Present}
+use Rattle.parts.specs.Parts.{partAt, Present}
+use Rattle.parts.specs.Steps.{startAt}
 use Rattle.parts.proofs.Gapless.{written, written-long, part-inside, part-written, part-kept}
-use Rattle.locating.specs.Locates.{Laid, Located}
+use Rattle.locating.specs.Locates.{Laid, MembersLocated}
 
 -- ---- what passes for all endpoints of the constraints ms passes for those of each
 all-parts : (p : ℕ → Bool) (xs ys : List ℕ) → all p (xs ++ ys) ≡ true → (all p xs ≡ true) × (all p ys ≡ true)
@@ -44,7 +45,7 @@ pub record Locating (bounds es ms bodies positions₀ table : List ℕ) (i : ℕ
 pub locating-none : (bounds es ms bodies positions₀ : List ℕ) → Locating bounds es ms bodies positions₀ positions₀ 0
 locating-none bounds es ms bodies positions₀ = record { inside = omega arith; size = refl; done = λ r m. clashes false m refl; kept = λ w r h m. refl }
 
-pub locating-done : {bounds es ms bodies positions₀ table : List ℕ} {i : ℕ} → Locating bounds es ms bodies positions₀ table i → length ms ≤ i → Located bounds es ms bodies positions₀ table
+pub locating-done : {bounds es ms bodies positions₀ table : List ℕ} {i : ℕ} → Locating bounds es ms bodies positions₀ table i → length ms ≤ i → MembersLocated bounds es ms bodies positions₀ table
 locating-done {ms} {i} v h =
     let e : take i ms ≡ ms = take-all i ms h in
     record { done = rw e at (v .done); kept = rw e at (v .kept) }

@@ -12,7 +12,7 @@ use borrow.Author.Tests.{eqb-true, eqb-false, ltb-true}
 use Rattle.lists.specs.Basics.{all, place, rises}
 use Rattle.lists.proofs.Laws.{by-cases, all-in, getD-mem, place-lt, place-get, get-place, rises-distinct}
 use Rattle.lists.proofs.Fills.{fill-turn, fill-end, map-next, map-end}
-use Rattle.locating.specs.Locates.{Placed, Known}
+use Rattle.locating.specs.Locates.{PlacesListed, PlacesKnown}
 
 pub entry-all : (p : ℕ → Bool) (xs : List ℕ) (i : ℕ) → all p xs ≡ true → i < length xs → p (getD xs i 0) ≡ true
 entry-all p xs i h k = all-in p (getD xs i 0) xs (getD-mem xs i k) h
@@ -61,14 +61,14 @@ module _ {bodies places₀ places : List ℕ} {i : ℕ} (v : Placing bodies plac
           let d = rises-distinct bodies r in
           sym (get-place bodies j d k) ∙ ap (λ (x : ℕ). place x bodies) e ∙ get-place bodies i d h
 
-  pub placing-done : length bodies ≤ i → Placed bodies places
+  pub placing-done : length bodies ≤ i → PlacesListed bodies places
   placing-done h =
       record { placed = λ b m. ap (λ (x : ℕ). getD places x 0) (sym (place-get b bodies m)) ∙ v .placed (place b bodies) (omega (arith, place-lt b bodies m)) }
 
 -- ---- the table keeps its length, and of more than 4 bodies it has the places: they were listed, or there are no more than 4
 module _ {bodies places : List ℕ} (places₀ : List ℕ) (p : all (λ b. ltb b (length places₀)) bodies ≡ true) where
-  pub known-listed : {listed : List ℕ} → length listed ≡ length places₀ → Placed bodies listed → places ≡ listed → (length places ≡ length places₀) × Known bodies places
+  pub known-listed : {listed : List ℕ} → length listed ≡ length places₀ → PlacesListed bodies listed → places ≡ listed → (length places ≡ length places₀) × PlacesKnown bodies places
   known-listed e l q = rw q (e, record { below = rw e p; listed = λ h. l })
 
-  pub known-few : length bodies ≤ 4 → places ≡ places₀ → (length places ≡ length places₀) × Known bodies places
+  pub known-few : length bodies ≤ 4 → places ≡ places₀ → (length places ≡ length places₀) × PlacesKnown bodies places
   known-few h q = rw q (refl, record { below = p; listed = λ k. absurd (omega arith) })

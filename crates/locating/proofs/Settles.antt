@@ -12,11 +12,12 @@ use borrow.Author.Tests.{eqb-true, eqb-false, ltb-true, lt-ltb}
 use Rattle.lists.specs.Basics.{any, all, range, mem, rises, joinMap}
 use Rattle.lists.proofs.Laws.{or-right, mem-self, by-cases, not-true-false, all-in, all-intro, all-append, all-getD, any-in, filter-mem, mem-filter, in-range, range-high, length-range, filter-length-le, max-in, getD-mem, rises-filter}
 use Rattle.groups.specs.Groups.{groupCount, members, groupBodies, positions, flatten}
-use Rattle.parts.specs.Parts.{cut, Cut, partAt, partsAt, Bounded, Gapless}
+use Rattle.parts.specs.Parts.{cut, Cut, partAt, partsAt, Bounded}
+use Rattle.parts.specs.Steps.{Gapless}
 use Rattle.parts.proofs.Parts.{parts-at}
 use Rattle.parts.proofs.Gapless.{parts-whole}
 use Rattle.parts.proofs.Groups.{group-cut, group-is}
-use Rattle.locating.specs.Locates.{Locatable, Laid, Findable, Located}
+use Rattle.locating.specs.Locates.{Locatable, Laid, Findable, MembersLocated}
 
 joined-all : (p : ℕ → Bool) (f : ℕ → List ℕ) (ms : List ℕ) → ((r : ℕ) → mem r ms ≡ true → all p (f r) ≡ true) → all p (joinMap f ms) ≡ true
 joined-all p f [] h = refl
@@ -120,7 +121,7 @@ module _ {nb n : ℕ} {bounds es colors offsets constraints starts bodies places
     pub group-low : all (λ b. ltb b (length places)) bs ≡ true
     group-low = rw (bodies-are p k h b) (bodies-exist nb (partsAt (length colors) bounds es) colors k (length places) (omega (arith, v .places-size, p .by-body)))
 
-    pub settling-more : {places′ table′ : List ℕ} → length places′ ≡ length places → length table′ ≡ length table → Located bounds es ms bs table table′ → Settling nb bounds es colors n places₀ positions₀ places′ table′ (k + 1)
+    pub settling-more : {places′ table′ : List ℕ} → length places′ ≡ length places → length table′ ≡ length table → MembersLocated bounds es ms bs table table′ → Settling nb bounds es colors n places₀ positions₀ places′ table′ (k + 1)
     unfolding positions group-laid
     settling-more lp lt u =
         record {

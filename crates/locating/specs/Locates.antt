@@ -7,7 +7,8 @@ use lib.Dec.{ltb}
 use lib.ListN.{length, getD, take}
 use Rattle.lists.specs.Basics.{all, mem, place, rises}
 use Rattle.groups.specs.Groups.{groupCount, members, groupBodies, flatten, offsets}
-use Rattle.parts.specs.Parts.{partAt, Bounded, Gapless}
+use Rattle.parts.specs.Parts.{partAt, Bounded}
+use Rattle.parts.specs.Steps.{Gapless}
 
 -- what `locate` needs: constraints cs on bodies that exist, the members and the bodies of all groups, and a table for the places of all bodies
 pub record Locatable (body-count : ℕ) (cs : List (List ℕ)) (colors : List ℕ) (color-count : ℕ) (color-offsets colored-constraints color-body-offsets color-bodies places : List ℕ) : Type 0 where
@@ -37,15 +38,15 @@ pub record Findable (bs bodies : List ℕ) : Type 0 where
   pub there : all (λ b. mem b bodies) bs ≡ true
 
 -- the table has the place of each body of the list
-pub record Placed (bodies places : List ℕ) : Type 0 where
+pub record PlacesListed (bodies places : List ℕ) : Type 0 where
   pub placed : (b : ℕ) → mem b bodies ≡ true → getD places b 0 ≡ place b bodies
 
 -- each body of the list is below the length of the table, and if they are more than 4 the table has the place of each
-pub record Known (bodies places : List ℕ) : Type 0 where
+pub record PlacesKnown (bodies places : List ℕ) : Type 0 where
   pub below : all (λ b. ltb b (length places)) bodies ≡ true
-  pub listed : 4 < length bodies → Placed bodies places
+  pub listed : 4 < length bodies → PlacesListed bodies places
 
 -- the constraints ms have the positions of their endpoints among the bodies, and the others keep theirs
-pub record Located (bounds es ms bodies positions positions′ : List ℕ) : Type 0 where
+pub record MembersLocated (bounds es ms bodies positions positions′ : List ℕ) : Type 0 where
   pub done : (r : ℕ) → mem r ms ≡ true → partAt bounds positions′ r ≡ map (λ b. place b bodies) (partAt bounds es r)
   pub kept : (w : Laid bounds es ms positions) (r : ℕ) → r < w .many → mem r ms ≡ false → partAt bounds positions′ r ≡ partAt bounds positions r

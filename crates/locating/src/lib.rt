@@ -8,8 +8,9 @@ ghost use lib.Dec.{ltb};
 ghost use lib.ListN.{length};
 ghost use Rattle.lists.specs.Basics.{all, mem, place, rises, joinMap};
 ghost use Rattle.groups.specs.Groups.{positions, flatten};
-ghost use Rattle.parts.specs.Parts.{partAt, partsAt, Bounded, Gapless};
-ghost use Rattle.locating.specs.Locates.{Locatable, Laid, Findable, Placed, Known, Located};
+ghost use Rattle.parts.specs.Parts.{partAt, partsAt, Bounded};
+ghost use Rattle.parts.specs.Steps.{Gapless};
+ghost use Rattle.locating.specs.Locates.{Locatable, Laid, Findable, PlacesListed, PlacesKnown, MembersLocated};
 
 // In a list of this many bodies or fewer a place is searched; of a longer one it is read from the table of places.
 const FEW: usize = 4;
@@ -17,7 +18,7 @@ const FEW: usize = 4;
 // The place of each body of a rising list, in a table by body; the places of other bodies stay as they are.
 fn list_places(bodies: &[u16], places: &mut [u16])
     requires { ⌜ (length (now bodies) ≤ 4096) × (rises (now bodies) ≡ true) × (all (λ b. ltb b (length (now places))) (now bodies) ≡ true) ⌝ }
-    ensures { λ _. ⌜ Placed (now (bodies .entry)) (now (places .exit)) ⌝ }
+    ensures { λ _. ⌜ PlacesListed (now (bodies .entry)) (now (places .exit)) ⌝ }
 {
     let mut i = 0;
     while i < bodies.len() {
@@ -29,7 +30,7 @@ fn list_places(bodies: &[u16], places: &mut [u16])
 
 // The place of a body among its group's: searched if they are few, else read from the table that has their places.
 fn place_of(bodies: &[u16], places: &[u16], body: u16) -> u16
-    requires { ⌜ (length (now bodies) ≤ 4096) × (rises (now bodies) ≡ true) × (mem body (now bodies) ≡ true) × Known (now bodies) (now places) ⌝ }
+    requires { ⌜ (length (now bodies) ≤ 4096) × (rises (now bodies) ≡ true) × (mem body (now bodies) ≡ true) × PlacesKnown (now bodies) (now places) ⌝ }
     ensures { λ r. ⌜ r ≡ place body (now (bodies .entry)) ⌝ }
 {
     if bodies.len() <= FEW {
@@ -40,7 +41,7 @@ fn place_of(bodies: &[u16], places: &[u16], body: u16) -> u16
 
 // The places of a constraint's bodies among its group's, in the order of its endpoints.
 fn locate_part(ends: &[u16], bodies: &[u16], places: &[u16], positions: &mut [u16])
-    requires { ⌜ (length (now positions) ≡ length (now ends)) × Findable (now ends) (now bodies) × Known (now bodies) (now places) ⌝ }
+    requires { ⌜ (length (now positions) ≡ length (now ends)) × Findable (now ends) (now bodies) × PlacesKnown (now bodies) (now places) ⌝ }
     ensures { λ _. ⌜ now (positions .exit) ≡ map (λ b. place b (now (bodies .entry))) (now (ends .entry)) ⌝ }
 {
     let mut i = 0;
@@ -61,7 +62,7 @@ fn locate_members(
 )
     requires { ⌜ Laid (now bounds) (now endpoints) (now members) (now «constraint_body_positions») ⌝ }
     requires { ⌜ Findable (joinMap (partAt (now bounds) (now endpoints)) (now members)) (now bodies) × (all (λ b. ltb b (length (now places))) (now bodies) ≡ true) ⌝ }
-    ensures { λ _. ⌜ Located (now (bounds .entry)) (now (endpoints .entry)) (now (members .entry)) (now (bodies .entry)) (now («constraint_body_positions» .entry)) (now («constraint_body_positions» .exit)) ⌝ }
+    ensures { λ _. ⌜ MembersLocated (now (bounds .entry)) (now (endpoints .entry)) (now (members .entry)) (now (bodies .entry)) (now («constraint_body_positions» .entry)) (now («constraint_body_positions» .exit)) ⌝ }
 {
     if FEW < bodies.len() {
         list_places(bodies, places);

@@ -1,6 +1,6 @@
 -- A walk for color k, constraint by constraint: what stands in the tables when i of the uncolored constraints are passed. Constraints are
 -- lists of bodies, of whatever length.
-use Prim.Native.Nat.{ℕ, zero, suc, _+_, _-_, _≤_, _<_}
+use Prim.Native.Nat.{ℕ, _+_, _-_, _≤_, _<_}
 use mathlib.Core.Path.{_≡_, refl, sym, ap, _∙_}
 use mathlib.Core.Bool.{Bool, true, false, not, _&&_, _||_, and-false, or-false, cond}
 use mathlib.Core.List.{List, [], _∷_, _++_, append-nil, append-assoc}
@@ -8,7 +8,7 @@ use native.Mathlib.Numerals.{add-one}
 use native.Mathlib.Omega.{arith}
 use lib.Dec.{leb, ltb, eqb}
 use lib.ListN.{length, getD, take, set, length-set}
-use lib.Seq.{take-suc, take-all, take-suc-set, getD-take, getD-set-other, length-take-le}
+use lib.Seq.{take-suc, take-all, take-suc-set, take-set-le, getD-take, getD-set-other, length-take-le}
 use borrow.Author.Tests.{eqb-true, eq-eqb, ne-eqb, ltb-true, ltb-false, le-leb}
 use Rattle.lists.specs.Basics.{one, any, all, filter, range, mem}
 use Rattle.lists.proofs.Laws.{by-cases, all-in, getD-mem, all-getD}
@@ -17,7 +17,8 @@ use Rattle.lists.proofs.Scans.{any-next, any-ext-in, filter-filter}
 use Rattle.groups.specs.Groups.{flagged, colorsOf, members}
 use Rattle.groups.proofs.Colors.{colors-length}
 use Rattle.groups.proofs.Tables.{flatten-suc}
-use Rattle.painting.specs.Painting.{promised, uncolored, touched, Opened, Walked, Held}
+use Rattle.painting.specs.Painting.{promised, uncolored, touched, Opened, Walked}
+use Rattle.painting.specs.Steps.{MadeBusy}
 use Rattle.painting.proofs.Bits.{one-true, or-one}
 use Rattle.painting.proofs.Promised.{busy, listed-in, busy-higher}
 
@@ -39,12 +40,7 @@ pub record Passed (flags : List ℕ) (cs : List (List ℕ)) (k start : ℕ) (rem
   pub rest : (j : ℕ) → i ≤ j → getD remaining j 0 ≡ getD remaining₀ j 0
   pub kept : take left remaining ≡ filter (λ r. ltb k (promised flags cs r)) (firstOf flags cs k i)
   pub grown : take end colored ≡ take start colored₀ ++ filter (λ r. eqb k (promised flags cs r)) (firstOf flags cs k i)
-  pub held : (b : ℕ) → b < length flags → getD busies b 0 ≡ one (busy flags cs k (firstOf flags cs k i) b)
-
-take-set : (n : ℕ) (xs : List ℕ) (v : ℕ) → take n (set xs n v) ≡ take n xs
-take-set zero xs v = refl
-take-set (suc n) [] v = refl
-take-set (suc n) (x ∷ xs) v = ap (λ (t : List ℕ). x ∷ t) (take-set n xs v)
+  pub busy-are : (b : ℕ) → b < length flags → getD busies b 0 ≡ one (busy flags cs k (firstOf flags cs k i) b)
 
 any-filter : (p q : ℕ → Bool) (xs : List ℕ) → any p (filter q xs) ≡ any (λ x. q x && p x) xs
 any-filter p q [] = refl
@@ -67,7 +63,7 @@ module _ {flags : List ℕ} {cs : List (List ℕ)} {k start count : ℕ} {remain
         rest = λ j h. refl;
         kept = refl;
         grown = sym (append-nil (take start colored₀));
-        held = λ b l. o .idle b l ∙ rw (and-false (flagged flags b));
+        busy-are = λ b l. o .idle b l ∙ rw (and-false (flagged flags b));
       }
 
   module _ {remaining colored busies : List ℕ} {left end i : ℕ} (v : Passed flags cs k start remaining₀ colored₀ remaining colored busies left end i) where
@@ -77,7 +73,7 @@ module _ {flags : List ℕ} {cs : List (List ℕ)} {k start count : ℕ} {remain
 
     -- each entry is a bit
     pub bits : (b : ℕ) → b < length flags → getD busies b 0 ≡ one (eqb (getD busies b 0) 1)
-    bits b l = rw (v .held b l) (ap one (sym (one-true (busy flags cs k (firstOf flags cs k i) b))))
+    bits b l = rw (v .busy-are b l) (ap one (sym (one-true (busy flags cs k (firstOf flags cs k i) b))))
 
     module _ (l : i < count) where
       next-is : next ≡ getD (uncolored flags cs k) i 0
@@ -103,7 +99,7 @@ module _ {flags : List ℕ} {cs : List (List ℕ)} {k start count : ℕ} {remain
       barred-higher : barred busies (getD cs next []) ≡ ltb k (promised flags cs next)
       barred-higher =
           any-ext-in (λ b. eqb (getD busies b 0) 1) (busy flags cs k (firstOf flags cs k i)) (getD cs next [])
-          (λ b m. rw (v .held b (ltb-true b (length flags) (all-in (λ b. ltb b (length flags)) b (getD cs next []) m bodies-exist))) (one-true (busy flags cs k (firstOf flags cs k i) b)))
+          (λ b m. rw (v .busy-are b (ltb-true b (length flags) (all-in (λ b. ltb b (length flags)) b (getD cs next []) m bodies-exist))) (one-true (busy flags cs k (firstOf flags cs k i) b)))
           ∙ rw next-is (busy-higher flags cs k i (omega (arith, many)))
 
       own-not : eqb k (promised flags cs next) ≡ not (ltb k (promised flags cs next))
@@ -123,7 +119,7 @@ module _ {flags : List ℕ} {cs : List (List ℕ)} {k start count : ℕ} {remain
           (λ f. rw (f, next-is) (any-next (λ s. eqb k (promised flags cs s) && mem b (getD cs s [])) (uncolored flags cs k) i (omega (arith, many))))
           (λ f. rw f)
 
-      -- it stays uncolored; its group's next place may have been written, and a body that was not held may have been looked at
+      -- it stays uncolored; the place after its group's list may have been written, and its bodies stay as they are
       pub walk-left : (bs : List ℕ) {colored′ busies′ : List ℕ} → bs ≡ getD cs next [] → barred busies bs ≡ true
           → length colored′ ≡ length colored → take end colored′ ≡ take end colored
           → length busies′ ≡ length busies → ((b : ℕ) → b < length flags → getD busies′ b 0 ≡ getD busies b 0)
@@ -138,8 +134,8 @@ module _ {flags : List ℕ} {cs : List (List ℕ)} {k start count : ℕ} {remain
             rest = λ j m. getD-set-other remaining left j next 0 (λ e. omega (arith, v .order)) ∙ v .rest j (omega arith);
             kept = appended ∙ rw (v .kept) (sym (filter-next (λ r. ltb k (promised flags cs r)) ∙ rw higher));
             grown = tc ∙ v .grown ∙ ap (λ (t : List ℕ). take start colored₀ ++ t) (sym others);
-            held = λ b m. let q : busy flags cs k (firstOf flags cs k (i + 1)) b ≡ busy flags cs k (firstOf flags cs k i) b = busy-next b ∙ rw (own-not, higher, and-false, or-false) in
-                sb b m ∙ v .held b m ∙ ap one (sym q);
+            busy-are = λ b m. let q : busy flags cs k (firstOf flags cs k (i + 1)) b ≡ busy flags cs k (firstOf flags cs k i) b = busy-next b ∙ rw (own-not, higher, and-false, or-false) in
+                sb b m ∙ v .busy-are b m ∙ ap one (sym q);
           }
         where
           higher : ltb k (promised flags cs next) ≡ true
@@ -152,7 +148,7 @@ module _ {flags : List ℕ} {cs : List (List ℕ)} {k start count : ℕ} {remain
           appended = rw add-one (take-suc-set remaining left next (omega (arith, v .order, v .remaining-length, o .counted, o .room)))
 
       -- it is listed
-      pub walk-given : (bs : List ℕ) {busies′ : List ℕ} → bs ≡ getD cs next [] → barred busies bs ≡ false → length busies′ ≡ length busies → Held flags 1 bs busies busies′
+      pub walk-given : (bs : List ℕ) {busies′ : List ℕ} → bs ≡ getD cs next [] → barred busies bs ≡ false → length busies′ ≡ length busies → MadeBusy flags 1 bs busies busies′
           → Passed flags cs k start remaining₀ colored₀ (set remaining left next) (set colored end next) busies′ left (end + 1) (i + 1)
       walk-given bs {busies′} e h same d =
           record {
@@ -162,10 +158,10 @@ module _ {flags : List ℕ} {cs : List (List ℕ)} {k start count : ℕ} {remain
             order = omega (arith, v .order);
             ended = omega (arith, v .ended);
             rest = λ j m. getD-set-other remaining left j next 0 (λ e. omega (arith, v .order)) ∙ v .rest j (omega arith);
-            kept = take-set left remaining next ∙ v .kept ∙ sym (filter-next (λ r. ltb k (promised flags cs r)) ∙ rw (lower, append-nil));
+            kept = take-set-le left remaining left next (omega arith) ∙ v .kept ∙ sym (filter-next (λ r. ltb k (promised flags cs r)) ∙ rw (lower, append-nil));
             grown = appended ∙ rw (v .grown) (append-assoc (take start colored₀) (filter (λ r. eqb k (promised flags cs r)) (firstOf flags cs k i)) (next ∷ []) ∙ ap (λ (t : List ℕ). take start colored₀ ++ t) (sym own));
-            held = λ b m. let q : busy flags cs k (firstOf flags cs k (i + 1)) b ≡ (busy flags cs k (firstOf flags cs k i) b || (flagged flags b && mem b (getD cs next []))) = busy-next b ∙ rw (own-not, lower) in
-                d b (omega (arith, v .busy-length)) ∙ rw (v .held b m, e) (or-one (busy flags cs k (firstOf flags cs k i) b) (flagged flags b && mem b (getD cs next [])) ∙ ap one (sym q));
+            busy-are = λ b m. let q : busy flags cs k (firstOf flags cs k (i + 1)) b ≡ (busy flags cs k (firstOf flags cs k i) b || (flagged flags b && mem b (getD cs next []))) = busy-next b ∙ rw (own-not, lower) in
+                d b (omega (arith, v .busy-length)) ∙ rw (v .busy-are b m, e) (or-one (busy flags cs k (firstOf flags cs k i) b) (flagged flags b && mem b (getD cs next [])) ∙ ap one (sym q));
           }
         where
           lower : ltb k (promised flags cs next) ≡ false
@@ -178,14 +174,14 @@ module _ {flags : List ℕ} {cs : List (List ℕ)} {k start count : ℕ} {remain
           appended = rw add-one (take-suc-set colored end next end-in)
 
       -- it is passed without a branch: one of both
-      pub walk-passed : (bs : List ℕ) {busies′ : List ℕ} (bit fits : ℕ) → bs ≡ getD cs next [] → bit ≡ one (barred busies bs) → fits ≡ 1 - bit → length busies′ ≡ length busies → Held flags fits bs busies busies′
+      pub walk-passed : (bs : List ℕ) {busies′ : List ℕ} (bit fits : ℕ) → bs ≡ getD cs next [] → bit ≡ one (barred busies bs) → fits ≡ 1 - bit → length busies′ ≡ length busies → MadeBusy flags fits bs busies busies′
           → Passed flags cs k start remaining₀ colored₀ (set remaining left next) (set colored end next) busies′ (left + bit) (end + fits) (i + 1)
       walk-passed bs {busies′} bit fits e q f same d = by-cases (barred busies bs)
           (λ h.
           let b1 : bit ≡ 1 = q ∙ ap one h in
           let f0 : fits ≡ 0 = omega arith in
           let e0 : end + 0 ≡ end = omega arith in
-          rw (b1, f0, e0) (walk-left bs e h (length-set colored end next) (take-set end colored next) same (λ b m. rw f0 at (d b (omega (arith, v .busy-length))))))
+          rw (b1, f0, e0) (walk-left bs e h (length-set colored end next) (take-set-le end colored end next (omega arith)) same (λ b m. rw f0 at (d b (omega (arith, v .busy-length))))))
           (λ h.
           let b0 : bit ≡ 0 = q ∙ ap one h in
           let f1 : fits ≡ 1 = omega arith in
@@ -202,7 +198,7 @@ module _ {flags : List ℕ} {cs : List (List ℕ)} {k start count : ℕ} {remain
               (filter-filter (λ r. leb k (promised flags cs r)) (λ r. ltb k (promised flags cs r)) (range (length cs))
               (λ r h. le-leb k (promised flags cs r) (omega (arith, ltb-true k (promised flags cs r) h))));
           grouped = ap (λ (n : ℕ). take n colored) end-is ∙ v .grown ∙ rw (o .grouped, all-first, own) (sym (flatten-suc (members (colorsOf flags cs)) k));
-          held = λ b h. v .held b h ∙ rw (all-first, on-group b);
+          busy-are = λ b h. v .busy-are b h ∙ rw (all-first, on-group b);
         }
       where
         all-first : firstOf flags cs k i ≡ uncolored flags cs k

@@ -8,7 +8,7 @@ use native.Mathlib.Numerals.{add-one}
 use native.Mathlib.Omega.{arith}
 use lib.Dec.{leb, ltb, eqb}
 use lib.ListN.{length, getD, set, take, drop, replicate, take-append-drop, length-set, length-replicate, getD-replicate}
-use lib.Seq.{ext-getD, take-all, take-suc-set, drop-at, drop-drop, drop-set-lt, length-take-le}
+use lib.Seq.{ext-getD, take-nil, take-all, take-suc-set, drop-at, drop-drop, drop-set-lt, length-take-le}
 use borrow.Author.Tests.{eqb-true, eqb-false, ltb-true, ltb-false, lt-ltb, le-leb}
 use Rattle.lists.specs.Basics.{range, mem, place}
 use Rattle.lists.proofs.Laws.{clashes, by-cases, bool-ext, getD-mem, max-in, all-intro, place-lt, place-get, filter-mem, mem-filter, in-range, range-high}
@@ -17,7 +17,8 @@ use Rattle.lists.proofs.Sums.{filter-all}
 use Rattle.groups.specs.Groups.{colorsOf, groupCount, members, flatten, offsets}
 use Rattle.groups.proofs.Colors.{colors-length}
 use Rattle.groups.proofs.Tables.{flatten-suc, length-offsets}
-use Rattle.painting.specs.Painting.{promised, uncolored, touched, Ready, Painted, Opened, Walked, Closable, Closed}
+use Rattle.painting.specs.Painting.{promised, uncolored, touched, Ready, Painted, Opened, Walked}
+use Rattle.painting.specs.Steps.{Closable, Closed}
 use Rattle.painting.proofs.Used.{colors-low, groups-below}
 use Rattle.painting.proofs.Promised.{listed-in, in-listed}
 use Rattle.painting.proofs.Passing.{many}
@@ -64,14 +65,10 @@ module _ (flags : List ℕ) (cs : List (List ℕ)) where
       (λ e. mem-filter (λ r. eqb k (promised flags cs r)) r (range (length (colorsOf flags cs))) (in-range r 0 (length (colorsOf flags cs)) (omega arith) (omega (arith, colors-length flags cs))) e)
 
 -- ---- tables
-take-none : (n : ℕ) → _≡_ {A = List ℕ} (take n []) []
-take-none zero = refl
-take-none (suc n) = refl
-
 drop-take : (s n : ℕ) (xs : List ℕ) → drop s (take n xs) ≡ take (n - s) (drop s xs)
 drop-take zero n xs = let e : n - 0 ≡ n = omega arith in rw e
 drop-take (suc s) zero xs = let e : 0 - suc s ≡ 0 = omega arith in rw e
-drop-take (suc s) (suc n) [] = sym (take-none (suc n - suc s))
+drop-take (suc s) (suc n) [] = sym (take-nil (suc n - suc s))
 drop-take (suc s) (suc n) (x ∷ xs) = let e : suc n - suc s ≡ n - s = omega arith in rw e (drop-take s n xs)
 
 -- the part behind what stands in front
@@ -186,8 +183,8 @@ module _ {flags : List ℕ} {cs : List (List ℕ)} {n k count : ℕ} {starts₀ 
 
         idle : (b : ℕ) → b < length flags → getD busy″ b 0 ≡ 0
         idle b l = by-cases (touched cs (g k) b)
-            (λ t. closed .freed b (omega (arith, lb, w .opened .busy-length)) ∙ rw t)
-            (λ t. closed .freed b (omega (arith, lb, w .opened .busy-length)) ∙ rw t (d .held b l ∙ rw (t, and-false)))
+            (λ t. closed .idle b (omega (arith, lb, w .opened .busy-length)) ∙ rw t)
+            (λ t. closed .idle b (omega (arith, lb, w .opened .busy-length)) ∙ rw t (d .busy-are b l ∙ rw (t, and-false)))
 
         given : (r : ℕ) → r < length cs → promised flags cs r < k + 1 → getD colors″ r 0 ≡ promised flags cs r
         given r l m = closed .given r (omega (arith, w .sized)) ∙ rw (is-member flags cs k r l) (by-cases (eqb k (promised flags cs r))

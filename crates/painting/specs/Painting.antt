@@ -2,9 +2,9 @@
 -- of whatever length.
 use Prim.Native.Nat.{ℕ, suc, _+_, _-_, _≤_, _<_}
 use mathlib.Core.Path.{_≡_}
-use mathlib.Core.Bool.{Bool, true, _&&_, cond}
+use mathlib.Core.Bool.{Bool, true, _&&_}
 use mathlib.Core.List.{List, []}
-use lib.Dec.{leb, ltb, eqb}
+use lib.Dec.{leb, ltb}
 use lib.ListN.{length, getD, take}
 use Rattle.lists.specs.Basics.{one, any, all, mem, filter, range, over}
 use Rattle.groups.specs.Groups.{flagged, colorsOf, groupCount, members, flatten, offsets}
@@ -60,24 +60,4 @@ pub record Walked (flags : List ℕ) (cs : List (List ℕ)) (k start count left 
   pub counted : left ≤ count
   pub left-are : take left remaining′ ≡ uncolored flags cs (k + 1)
   pub grouped : take (start + (count - left)) colored′ ≡ flatten (members (colorsOf flags cs)) (suc k)
-  pub held : (b : ℕ) → b < length flags → getD busy′ b 0 ≡ one (flagged flags b && touched cs (members (colorsOf flags cs) k) b)
-
--- of the bodies bs the dynamic ones are held, if the color fits; the others stay as they were
-abbrev pub Held : List ℕ → ℕ → List ℕ → List ℕ → List ℕ → Type 0
-Held flags fits bs busy busy′ = (b : ℕ) → b < length busy → getD busy′ b 0 ≡ cond (eqb fits 1 && (flagged flags b && mem b bs)) 1 (getD busy b 0)
-
--- the bodies bs are not busy; the others stay as they were
-abbrev pub Freed : List ℕ → List ℕ → List ℕ → Type 0
-Freed bs busy busy′ = (b : ℕ) → b < length busy → getD busy′ b 0 ≡ cond (mem b bs) 0 (getD busy b 0)
-
--- the members ms of color k are constraints, on bodies that exist
-pub record Closable (cs : List (List ℕ)) (k : ℕ) (ms colors busy : List ℕ) : Type 0 where
-  pub few : length colors ≤ 8192
-  pub color-few : k ≤ 8192
-  pub inside : all (λ r. ltb r (length colors)) ms ≡ true
-  pub bodies : all (λ bs. all (λ b. ltb b (length busy)) bs) cs ≡ true
-
--- color k is closed: the constraints ms have it, and their bodies are not busy; the others stay as they were
-pub record Closed (cs : List (List ℕ)) (k : ℕ) (ms colors busy colors′ busy′ : List ℕ) : Type 0 where
-  pub given : (r : ℕ) → r < length colors → getD colors′ r 0 ≡ cond (mem r ms) k (getD colors r 0)
-  pub freed : (b : ℕ) → b < length busy → getD busy′ b 0 ≡ cond (touched cs ms b) 0 (getD busy b 0)
+  pub busy-are : (b : ℕ) → b < length flags → getD busy′ b 0 ≡ one (flagged flags b && touched cs (members (colorsOf flags cs) k) b)

@@ -1,8 +1,8 @@
 // Internal: the color stage of an update (constraint_coloring.rs, the coloring loop of `rebuild`), in the order of Welsh and Powell
 // (1967): open a color, walk the list once and give it to every uncolored constraint that it fits, open the following color. The list
 // order is ours. While a color is open, a dynamic body is busy (1, else 0) if a constraint of the color is on it: the color fits a
-// constraint if no body of it is busy. A walk lists the constraints of its color, in list order. Cost: a constraint is met once for each
-// color up to its own.
+// constraint if no body of it is busy. A walk lists the constraints of its color, in list order; when the color is closed they get its
+// number. Cost: a constraint is met once for each color up to its own.
 ghost use mathlib.Core.Path.{_≡_};
 ghost use mathlib.Core.Bool.{true};
 ghost use Prim.Native.Nat.{ℕ, _<_, _≤_};
@@ -10,11 +10,12 @@ ghost use lib.Dec.{ltb};
 ghost use lib.ListN.{length, getD, take};
 ghost use Rattle.lists.specs.Basics.{all, range};
 ghost use Rattle.parts.specs.Parts.{Bounded, partsAt};
-ghost use Rattle.painting.specs.Painting.{Ready, Painted, Opened, Walked, Held, Freed, Closable, Closed};
+ghost use Rattle.painting.specs.Painting.{Ready, Painted, Opened, Walked};
+ghost use Rattle.painting.specs.Steps.{MadeBusy, MadeIdle, Closable, Closed};
 
-// Which constraints fit one of the first colors can't be guessed, so their walks don't branch on it. Later walks leave most constraints
+// Which constraints fit one of the first colors can't be predicted, so their walks don't branch on it. Later walks leave most constraints
 // uncolored, so they pass one at its first busy body.
-const UNGUESSED: usize = 8;
+const UNPREDICTED: usize = 8;
 
 // Lists all constraints, in list order.
 fn list_all(remaining: &mut [u16], constraint_count: usize)
@@ -26,11 +27,11 @@ fn list_all(remaining: &mut [u16], constraint_count: usize)
     }
 }
 
-// Holds those of the bodies that are dynamic, if the color fits (1); if not (0), none.
-fn hold_bodies(dynamic_bodies: &[u8], bodies: &[u16], fits: u16, busy_bodies: &mut [u16])
+// Makes those of the bodies busy that are dynamic, if the color fits (1); if not (0), none.
+fn make_busy(dynamic_bodies: &[u8], bodies: &[u16], fits: u16, busy_bodies: &mut [u16])
     requires { ⌜ (length (now «busy_bodies») ≡ length (now «dynamic_bodies»)) × (all (λ b. ltb b (length (now «dynamic_bodies»))) (now bodies) ≡ true) ⌝ }
     requires { ⌜ (fits ≤ 1) × ((b : ℕ) → b < length (now «busy_bodies») → getD (now «busy_bodies») b 0 ≤ 1) ⌝ }
-    ensures { λ _. ⌜ Held (now («dynamic_bodies» .entry)) fits (now (bodies .entry)) (now («busy_bodies» .entry)) (now («busy_bodies» .exit)) ⌝ }
+    ensures { λ _. ⌜ MadeBusy (now («dynamic_bodies» .entry)) fits (now (bodies .entry)) (now («busy_bodies» .entry)) (now («busy_bodies» .exit)) ⌝ }
 {
     for place in 0..bodies.len() {
         let body = bodies[place] as usize;
@@ -56,7 +57,7 @@ fn walk(
     requires { ⌜ Opened (now «dynamic_bodies») (partsAt (length (now «colored_constraints»)) (now bounds) (now endpoints)) color start count (now remaining) (now «colored_constraints») (now «busy_bodies») ⌝ }
     ensures { λ r. ⌜ Walked (now («dynamic_bodies» .entry)) (partsAt (length (now («colored_constraints» .entry))) (now (bounds .entry)) (now (endpoints .entry))) color start count r (now (remaining .exit)) (now («colored_constraints» .exit)) (now («busy_bodies» .exit)) ⌝ }
 {
-    let guessed = UNGUESSED <= color;
+    let predicted = UNPREDICTED <= color;
     // Of those passed, the first `left` of the remaining stay uncolored, and the others are listed up to place `end`.
     let mut left = 0;
     let mut end = start;
@@ -67,7 +68,7 @@ fn walk(
         'bodies: for place in 0..bodies.len() {
             let body = bodies[place] as usize;
             busy = busy | busy_bodies[body];
-            if guessed & (busy == 1) {
+            if predicted & (busy == 1) {
                 remaining[left] = constraint;
                 left += 1;
                 continue 'walk;
@@ -78,23 +79,23 @@ fn walk(
         left += busy as usize;
         colored_constraints[end] = constraint;
         end += fits as usize;
-        hold_bodies(dynamic_bodies, bodies, fits, busy_bodies);
+        make_busy(dynamic_bodies, bodies, fits, busy_bodies);
     }
     left
 }
 
-// Lets the bodies of a constraint go.
-fn free_bodies(bodies: &[u16], busy_bodies: &mut [u16])
+// Makes the bodies of a constraint idle.
+fn make_idle(bodies: &[u16], busy_bodies: &mut [u16])
     requires { ⌜ all (λ b. ltb b (length (now «busy_bodies»))) (now bodies) ≡ true ⌝ }
-    ensures { λ _. ⌜ Freed (now (bodies .entry)) (now («busy_bodies» .entry)) (now («busy_bodies» .exit)) ⌝ }
+    ensures { λ _. ⌜ MadeIdle (now (bodies .entry)) (now («busy_bodies» .entry)) (now («busy_bodies» .exit)) ⌝ }
 {
     for place in 0..bodies.len() {
         busy_bodies[bodies[place] as usize] = 0;
     }
 }
 
-// Gives the color to its members and lets their bodies go.
-fn close(
+// Gives the color to its members, and makes their bodies idle.
+fn close_color(
     endpoints: &[u16],
     bounds: &[u16],
     members: &[u16],
@@ -109,7 +110,7 @@ fn close(
     for place in 0..members.len() {
         let constraint = members[place] as usize;
         constraint_colors[constraint] = color as u16;
-        free_bodies(parts::part(endpoints, bounds, constraint), busy_bodies);
+        make_idle(parts::part(endpoints, bounds, constraint), busy_bodies);
     }
 }
 
@@ -153,7 +154,7 @@ pub fn color_constraints(
             uncolored_count,
         );
         let end = constraint_count - uncolored_count;
-        close(
+        close_color(
             endpoints,
             bounds,
             &colored_constraints[start..end],

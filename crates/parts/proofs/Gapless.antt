@@ -11,7 +11,8 @@ use borrow.Author.Tests.{eqb-true, eqb-false, ltb-true, ltb-false}
 use Rattle.lists.proofs.Laws.{by-cases}
 use Rattle.groups.specs.Groups.{flatten}
 use Rattle.groups.proofs.Tables.{flatten-zero, flatten-suc, start-suc, start-mono, flatten-twos}
-use Rattle.parts.specs.Parts.{startAt, partAt, Bounded, Gapless}
+use Rattle.parts.specs.Parts.{partAt, Bounded}
+use Rattle.parts.specs.Steps.{startAt, Gapless}
 
 -- ---- the list ps in the place of the entries of t from a up to e
 abbrev pub written : ℕ → ℕ → List ℕ → List ℕ → List ℕ
@@ -79,8 +80,8 @@ module _ {n : ℕ} {bounds es : List ℕ} (b : Bounded n bounds es) where
 
     -- a write over the part of constraint q
     module _ (t ps : List ℕ) (q : ℕ) (h : q < n) (room : length t ≡ length es) (l : length ps ≡ length (partAt bounds es q)) where
-      abbrev over : List ℕ
-      over = written (startAt bounds q) (startAt bounds q + length (partAt bounds es q)) t ps
+      abbrev overwritten : List ℕ
+      overwritten = written (startAt bounds q) (startAt bounds q + length (partAt bounds es q)) t ps
 
       inside : startAt bounds q + length (partAt bounds es q) ≤ length t
       inside = omega (arith, part-inside q h)
@@ -88,19 +89,19 @@ module _ {n : ℕ} {bounds es : List ℕ} (b : Bounded n bounds es) where
       long : length ps ≡ startAt bounds q + length (partAt bounds es q) - startAt bounds q
       long = omega (arith, l)
 
-      pub part-written : partAt bounds over q ≡ ps
+      pub part-written : partAt bounds overwritten q ≡ ps
       part-written =
           let e : length (partAt bounds es q) ≡ startAt bounds q + length (partAt bounds es q) - startAt bounds q = omega arith in
-          part-read over q h
-          ∙ ap (λ (k : ℕ). take k (drop (startAt bounds q) over)) e
+          part-read overwritten q h
+          ∙ ap (λ (k : ℕ). take k (drop (startAt bounds q) overwritten)) e
           ∙ written-own (startAt bounds q) (startAt bounds q + length (partAt bounds es q)) t ps (omega arith) inside long
 
-      pub part-kept : (r : ℕ) → r < n → (r ≡ q → ⊥) → partAt bounds over r ≡ partAt bounds t r
+      pub part-kept : (r : ℕ) → r < n → (r ≡ q → ⊥) → partAt bounds overwritten r ≡ partAt bounds t r
       part-kept r k d =
           let a = startAt bounds q in
           let e = startAt bounds q + length (partAt bounds es q) in
           let m = length (partAt bounds es r) in
-          part-read over r k
+          part-read overwritten r k
           ∙ by-cases (ltb r q)
           (λ c. written-before a e t ps (omega arith) inside long (startAt bounds r) m (part-next r q (ltb-true r q c) h))
           (λ c. let o : q < r = omega (arith, d, ltb-false r q c) in ap (take m) (written-after a e t ps (omega arith) inside long (startAt bounds r) (part-next q r o k)))

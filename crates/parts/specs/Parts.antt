@@ -5,7 +5,7 @@ use mathlib.Core.Bool.{cond}
 use mathlib.Core.List.{List, map}
 use lib.Dec.{eqb}
 use lib.ListN.{length, getD, take, drop}
-use Rattle.lists.specs.Basics.{joinMap, range}
+use Rattle.lists.specs.Basics.{range}
 
 -- the part of a table from the bound at place i up to that at place j
 abbrev pub cut : List ℕ → List ℕ → ℕ → ℕ → List ℕ
@@ -34,12 +34,3 @@ pub record Present (es bounds : List ℕ) (r : ℕ) : Type 0 where
 -- those of the first n constraints are
 abbrev pub Bounded : ℕ → List ℕ → List ℕ → Type 0
 Bounded n bounds es = (r : ℕ) → r < n → Present es bounds r
-
--- where the endpoints of constraint r start in the list
-abbrev pub startAt : List ℕ → ℕ → ℕ
-startAt bounds r = cond (eqb (length bounds) 0) (2 * r) (getD bounds (2 * r) 0)
-
--- the endpoints of n constraints fill the list, constraint after constraint, without a gap
-pub record Gapless (n : ℕ) (bounds es : List ℕ) : Type 0 where
-  pub starts : (r : ℕ) → r < n → startAt bounds r ≡ length (joinMap (partAt bounds es) (range r))
-  pub whole : length es ≡ length (joinMap (partAt bounds es) (range n))

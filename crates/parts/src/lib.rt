@@ -1,9 +1,10 @@
 // Internal: the endpoints of a constraint are a part of the endpoint list, and a group is a part of its table. The stages of an update
 // read both here, so that they need not know how many endpoints a constraint has.
-ghost use Prim.Native.Nat.{_*_, _≤_, _<_};
+ghost use Prim.Native.Nat.{_*_, _≤_, _<_, max};
 ghost use mathlib.Core.Path.{_≡_};
 ghost use lib.ListN.{length};
-ghost use Rattle.parts.specs.Parts.{cut, Cut, Present, partAt, startAt};
+ghost use Rattle.parts.specs.Parts.{cut, Cut, Present, partAt};
+ghost use Rattle.parts.specs.Steps.{startAt, Ordered, widest};
 
 // The part of a table from the bound at place `from` up to that at place `to`.
 pub fn between<'a>(table: &'a [u16], bounds: &[u16], from: usize, to: usize) -> &'a [u16]
@@ -35,4 +36,25 @@ pub fn start(bounds: &[u16], constraint: usize) -> usize
         return 2 * constraint;
     }
     bounds[2 * constraint] as usize
+}
+
+fn larger(a: usize, b: usize) -> usize
+    ensures { λ r. ⌜ r ≡ max a b ⌝ }
+{
+    if a < b { b } else { a }
+}
+
+// The size of the largest part that lies between two bounds next to each other.
+pub fn largest_part(bounds: &[u16]) -> usize
+    requires { ⌜ Ordered (now bounds) ⌝ }
+    ensures { λ r. ⌜ r ≡ widest (now (bounds .entry)) ⌝ }
+{
+    let mut largest = 0;
+    let mut end: usize = 1;
+    while end < bounds.len() {
+        let size = bounds[end] as usize - bounds[end - 1] as usize;
+        largest = larger(largest, size);
+        end += 1;
+    }
+    largest
 }

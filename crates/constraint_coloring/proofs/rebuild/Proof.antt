@@ -8,14 +8,15 @@ use denote.Ref.{now}
 use lib.ListN.{length, take, drop}
 use lib.Seq.{take-at, length-take-le, length-front}
 use Rattle.groups.specs.Groups.{planOf, pairsOf, members, flatten, offsets}
+use Rattle.parts.specs.Steps.{widest}
 use Rattle.parts.proofs.Parts.{pairs-bounded}
 use Rattle.parts.proofs.Gapless.{pairs-gapless}
+use Rattle.parts.proofs.Groups.{offsets-rise}
 use Rattle.painting.specs.Painting.{Painted}
 use Rattle.plan_questions.specs.Plans.{Tables}
-use Rattle.constraint_coloring.specs.Stages.{widest}
 use Rattle.constraint_coloring.proofs.Tables.{front-over, part-over}
 use Rattle.constraint_coloring.proofs.Accepted.{Accepted, accepted}
-use Rattle.constraint_coloring.proofs.Rebuilds.{offsets-rise, largest-is, starts-front, promised, parts-are, ready, groups-few, gatherable, plan-is, colors-planned, starts-planned, constraints-planned, body-starts-planned, bodies-planned, positions-planned}
+use Rattle.constraint_coloring.proofs.Rebuilds.{largest-is, starts-front, promised, parts-are, ready, groups-few, gatherable, plan-is, colors-planned, starts-planned, constraints-planned, body-starts-planned, bodies-planned, positions-planned}
 use Rattle.constraint_coloring.proofs.rebuild.Statement.{statement}
 use Rattle.constraint_coloring.proofs.rebuild.Tie as tie
 
@@ -51,7 +52,7 @@ before-colors c = c .before .before .before .before .before .before .before .bef
 abbrev before-list : tie.After-list-groups-arg → tie.After-color-constraints
 before-list c = c .before .before .before .before .before .before .before .before .before .before .before
 
-abbrev after-list : tie.After-largest-group-arg → tie.After-list-groups
+abbrev after-list : tie.After-largest-part-arg → tie.After-list-groups
 after-list c = c .before .before .before .before .before .before .before .before .before .before .before
 
 abbrev after-colors : tie.After-list-groups → tie.After-color-constraints
@@ -218,17 +219,17 @@ list-groups-requires c κs =
           (omega (arith, p .color-constraints .kept .1 .1 .1 .0, o p .scratch-bodies)) (length-take-le _ _ (omega (arith, few p, o p .color-body-offsets))) (length-take-le _ _ (o p .color-bodies)),
     )
 
-add-largest-group : tie.Need-add-largest-group
-add-largest-group c = let p = after-colors (c .before .before .before .before .before .before .before .before .before .before) in omega (arith, few p, o p .few-pairs)
+add-largest-part : tie.Need-add-largest-part
+add-largest-part c = let p = after-colors (c .before .before .before .before .before .before .before .before .before .before) in omega (arith, few p, o p .few-pairs)
 
-slice-reshare-prefix-largest-group : tie.Need-slice-reshare-prefix-largest-group
-slice-reshare-prefix-largest-group c = starts-room (after-colors (c .before .before .before .before .before .before .before .before .before .before))
+slice-reshare-prefix-largest-part : tie.Need-slice-reshare-prefix-largest-part
+slice-reshare-prefix-largest-part c = starts-room (after-colors (c .before .before .before .before .before .before .before .before .before .before))
 
-slice-aggregate-largest-group : tie.Need-slice-aggregate-largest-group
-slice-aggregate-largest-group c = sym (length-take-le _ _ (starts-room (after-colors (after-list c))))
+slice-aggregate-largest-part : tie.Need-slice-aggregate-largest-part
+slice-aggregate-largest-part c = sym (length-take-le _ _ (starts-room (after-colors (after-list c))))
 
-largest-group-requires : tie.Need-largest-group-requires
-largest-group-requires c κs = let p = after-colors (after-list c) in rw (starts-are p) (offsets-rise (members (promised (o p))) (p .color-constraints .result))
+largest-part-requires : tie.Need-largest-part-requires
+largest-part-requires c κs = let p = after-colors (after-list c) in rw (starts-are p) (offsets-rise (members (promised (o p))) (p .color-constraints .result))
 
 same-length : tie.Need-same-length
 same-length c = let p = after-colors (after-list (c .before)) in p .before .before .before .before .before .before .before .before .before .before .before .before .before .copy-flags .kept .1 .0
@@ -283,7 +284,7 @@ returns c =
     let k = p .color-constraints .result in
     let s = colors-are p in
     record {
-      plan = plan-is (o p) k (c .largest-group .result) (q .count-is) (c .largest-group .ensures ∙ ap widest (starts-are p) ∙ largest-is (promised (o p)) k (q .count-is));
+      plan = plan-is (o p) k (c .largest-part .result) (q .count-is) (c .largest-part .ensures ∙ ap widest (starts-are p) ∙ largest-is (promised (o p)) k (q .count-is));
       dynamic-bodies = p .before .before .before .before .before .before .before .before .before .before .before .before .before .copy-flags .ensures;
       endpoints = p .before .before .before .before .before .before .before .before .before .copy-pairs .ensures;
       body-offsets = refl;
@@ -336,10 +337,10 @@ rebuild-spec =
     slice-relend-prefix-list-groups-4
     slice-aggregate-list-groups-8
     list-groups-requires
-    add-largest-group
-    slice-reshare-prefix-largest-group
-    slice-aggregate-largest-group
-    largest-group-requires
+    add-largest-part
+    slice-reshare-prefix-largest-part
+    slice-aggregate-largest-part
+    largest-part-requires
     same-length
     same-length-2
     same-length-3

@@ -8,7 +8,7 @@ use mathlib.Core.Logic.{⊎-elim}
 use lib.ListN.{length}
 use denote.Ref.{now}
 use Rattle.lists.specs.Basics.{mem}
-use Rattle.locating.specs.Locates.{Known}
+use Rattle.locating.specs.Locates.{PlacesKnown}
 use Rattle.locating.proofs.Locates.{Locating, locating-none, locating-done, member-present, member-start, member-all, end-inside, places-many, locating-more}
 use Rattle.locating.proofs.Places.{known-listed, known-few}
 use Rattle.locating.proofs.locate_members.Statement.{statement}
@@ -32,7 +32,7 @@ list-places-requires : tie.Need-list-places-requires Inv-loop μ-loop
 list-places-requires c κs = search needs
 
 -- the table keeps its length, and of more than 4 bodies it has the places
-known : (j : tie.Joined1 Inv-loop μ-loop) → (length (j .if1 .places) ≡ length (now (start-of j .args .places))) × Known (now (start-of j .args .bodies)) (j .if1 .places)
+known : (j : tie.Joined1 Inv-loop μ-loop) → (length (j .if1 .places) ≡ length (now (start-of j .args .places))) × PlacesKnown (now (start-of j .args .bodies)) (j .if1 .places)
 known j =
     let s = start-of j in
     ⊎-elim

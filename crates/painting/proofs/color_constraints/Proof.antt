@@ -79,20 +79,20 @@ walk-requires c κs =
 sub-end : tie.Need-sub-end Inv-colors μ-colors
 sub-end c = omega (arith, few (c .before .before .before .before .before .before))
 
-mul-close : tie.Need-mul-close Inv-colors μ-colors
-mul-close c = omega (arith, few (c .before .before .before .before .before .before))
+mul-close-color : tie.Need-mul-close-color Inv-colors μ-colors
+mul-close-color c = omega (arith, few (c .before .before .before .before .before .before))
 
-sub-close : tie.Need-sub-close Inv-colors μ-colors
-sub-close c = omega (arith, few (c .before .before .before .before .before .before))
+sub-close-color : tie.Need-sub-close-color Inv-colors μ-colors
+sub-close-color c = omega (arith, few (c .before .before .before .before .before .before))
 
-part-close-start : tie.Need-part-close-start Inv-colors μ-colors
-part-close-start c = omega (arith, few (c .before .before .before .before .before .before .before))
+part-close-color-start : tie.Need-part-close-color-start Inv-colors μ-colors
+part-close-color-start c = omega (arith, few (c .before .before .before .before .before .before .before))
 
-part-close-end : tie.Need-part-close-end Inv-colors μ-colors
-part-close-end c = omega (arith, few (c .before .before .before .before .before .before .before))
+part-close-color-end : tie.Need-part-close-color-end Inv-colors μ-colors
+part-close-color-end c = omega (arith, few (c .before .before .before .before .before .before .before))
 
-close-requires : tie.Need-close-requires Inv-colors μ-colors
-close-requires c κs =
+close-color-requires : tie.Need-close-color-requires Inv-colors μ-colors
+close-color-requires c κs =
     let p = c .before .before .before .before .before .before .before .before .before .before in
     let l = at p in
     let v = l .colors .inv in
@@ -123,7 +123,7 @@ colors-again c =
     let l = at p in
     let v = l .colors .inv in
     let d = p .walk in
-    let e = c .before .before .before .before .close in (
+    let e = c .before .before .before .before .close-color in (
       d .kept .1 .1 .1 .0 ∙ v .0,
       e .kept .1 .1 .1 .1 .0 ∙ v .1,
       length-set (l .colors .color-offsets) _ _ ∙ v .2,
@@ -163,11 +163,11 @@ color-constraints-spec =
     sub-start
     walk-requires
     sub-end
-    mul-close
-    sub-close
-    part-close-start
-    part-close-end
-    close-requires
+    mul-close-color
+    sub-close-color
+    part-close-color-start
+    part-close-color-end
+    close-color-requires
     add-color
     cast-color-offsets
     mul-color-offsets

@@ -23,19 +23,19 @@ use Rattle.painting.proofs.walk.Statement.{statement}
 use Rattle.painting.proofs.walk.Tie as tie
 
 abbrev Inv-bodies : tie.InvT-bodies
-Inv-bodies dynamic-bodies endpoints bounds remaining₀ colored-constraints busy-bodies color start count guessed left₀ end passed₀ constraint bodies busy₀ place₀ place-end remaining left passed busy place =
+Inv-bodies dynamic-bodies endpoints bounds remaining₀ colored-constraints busy-bodies color start count predicted left₀ end passed₀ constraint bodies busy₀ place₀ place-end remaining left passed busy place =
     (place ≤ length bodies) × (remaining ≡ remaining₀) × (left ≡ left₀) × (passed ≡ passed₀) × (busy ≡ one (barred busy-bodies (take place bodies)))
 
 abbrev μ-bodies : tie.MeasureT-bodies
-μ-bodies dynamic-bodies endpoints bounds remaining₀ colored-constraints busy-bodies color start count guessed left₀ end passed₀ constraint bodies busy₀ place₀ place-end remaining left passed busy place =
+μ-bodies dynamic-bodies endpoints bounds remaining₀ colored-constraints busy-bodies color start count predicted left₀ end passed₀ constraint bodies busy₀ place₀ place-end remaining left passed busy place =
     length bodies - place
 
 abbrev Inv-walk : tie.InvT-walk
-Inv-walk dynamic-bodies endpoints bounds remaining₀ colored-constraints₀ busy-bodies₀ color start count guessed left₀ end₀ passed₀ remaining colored-constraints busy-bodies left end passed =
+Inv-walk dynamic-bodies endpoints bounds remaining₀ colored-constraints₀ busy-bodies₀ color start count predicted left₀ end₀ passed₀ remaining colored-constraints busy-bodies left end passed =
     (passed ≤ count) × Passed dynamic-bodies (partsAt (length colored-constraints₀) bounds endpoints) color start remaining₀ colored-constraints₀ remaining colored-constraints busy-bodies left end passed
 
 abbrev μ-walk : tie.MeasureT-walk
-μ-walk dynamic-bodies endpoints bounds remaining₀ colored-constraints₀ busy-bodies₀ color start count guessed left₀ end₀ passed₀ remaining colored-constraints busy-bodies left end passed =
+μ-walk dynamic-bodies endpoints bounds remaining₀ colored-constraints₀ busy-bodies₀ color start count predicted left₀ end₀ passed₀ remaining colored-constraints busy-bodies left end passed =
     count - passed
 
 -- one body more
@@ -205,8 +205,8 @@ cast-end c = omega (arith, bit-low c)
 add-end : tie.Need-add-end Inv-bodies μ-bodies Inv-walk μ-walk
 add-end c = omega (arith, bit-low c, few (c .before .before .before .before))
 
-hold-bodies-requires : tie.Need-hold-bodies-requires Inv-bodies μ-bodies Inv-walk μ-walk
-hold-bodies-requires c κs =
+make-busy-requires : tie.Need-make-busy-requires Inv-bodies μ-bodies Inv-walk μ-walk
+make-busy-requires c κs =
     let p = c .before .before .before in
     let l = at p in
     let v = l .walk .inv .1 in
@@ -224,7 +224,7 @@ walk-again-2 c =
     let v = b .bodies .inv in
     let l = at (b .before) in
     let w = c .before .before .before .before .before .before .before .before in
-    let d = c .before .before .hold-bodies in
+    let d = c .before .before .make-busy in
     rw (v .1, v .2, v .3) (omega (arith, few w), walk-passed (begin l .pre .1) (l .walk .inv .1) (few w .1) (now (b .before .part .result)) (b .bodies .busy) (1 - b .bodies .busy) (bodies-are (b .before)) (whole (c .before .before .before .before)) refl (d .kept .1 .1 .1 .0) (d .ensures))
 
 same-length : tie.Need-same-length Inv-bodies μ-bodies Inv-walk μ-walk
@@ -276,7 +276,7 @@ walk-spec =
     slice-write-colored-constraints
     cast-end
     add-end
-    hold-bodies-requires
+    make-busy-requires
     add-passed-2
     walk-less-2
     walk-again-2

@@ -15,14 +15,14 @@ use Rattle.lists.specs.Basics.{one, mem}
 use Rattle.lists.proofs.Laws.{by-cases, all-in, getD-mem}
 use Rattle.lists.proofs.Scans.{any-next}
 use Rattle.groups.specs.Groups.{flagged}
-use Rattle.painting.specs.Painting.{Held}
+use Rattle.painting.specs.Steps.{MadeBusy}
 use Rattle.painting.proofs.Bits.{byte-one, set-bit}
-use Rattle.painting.proofs.hold_bodies.Statement.{statement}
-use Rattle.painting.proofs.hold_bodies.Tie as tie
+use Rattle.painting.proofs.make_busy.Statement.{statement}
+use Rattle.painting.proofs.make_busy.Tie as tie
 
 abbrev Inv-loop : tie.InvT-loop
 Inv-loop dynamic-bodies bodies fits busy-bodies₀ place₀ place-end busy-bodies place =
-    (place ≤ length bodies) × (length busy-bodies ≡ length busy-bodies₀) × Held dynamic-bodies fits (take place bodies) busy-bodies₀ busy-bodies
+    (place ≤ length bodies) × (length busy-bodies ≡ length busy-bodies₀) × MadeBusy dynamic-bodies fits (take place bodies) busy-bodies₀ busy-bodies
 
 abbrev μ-loop : tie.MeasureT-loop
 μ-loop dynamic-bodies bodies fits busy-bodies₀ place₀ place-end busy-bodies place = length bodies - place
@@ -38,11 +38,11 @@ twice false f m x = refl
 
 -- one body more
 module _ (flags bodies busy₀ busy : List ℕ) (fits i : ℕ) (l : i < length bodies) (low : fits ≤ 1) (bits : (b : ℕ) → b < length busy₀ → getD busy₀ b 0 ≤ 1) (size : length busy ≡ length busy₀)
-    (v : Held flags fits (take i bodies) busy₀ busy) where
+    (v : MadeBusy flags fits (take i bodies) busy₀ busy) where
   abbrev body : ℕ
   body = getD bodies i 0
 
-  more : body < length busy → Held flags fits (take (i + 1) bodies) busy₀ (set busy body (bitOr (getD busy body 0) (bitAnd (one (flagged flags body)) fits)))
+  more : body < length busy → MadeBusy flags fits (take (i + 1) bodies) busy₀ (set busy body (bitOr (getD busy body 0) (bitAnd (one (flagged flags body)) fits)))
   more s b h = by-cases (eqb b body)
       (λ e. let q = eqb-true b body e in let o : body < length busy₀ = omega (arith, size) in
       rw (any-next (eqb b) bodies i l, e, or-true, q, and-true)
@@ -113,8 +113,8 @@ returns c =
     let bodies = now (l .before .args .bodies) in
     λ b h. rw (take-all (l .loop .place) bodies (omega arith)) at (l .loop .inv .2 b h)
 
-pub hold-bodies-spec : {M : Type 1} → statement M
-hold-bodies-spec =
+pub make-busy-spec : {M : Type 1} → statement M
+make-busy-spec =
     tie.close
     (tie.spec
     Inv-loop

@@ -15,9 +15,10 @@ use Rattle.lists.proofs.Laws.{by-cases, all-in, all-getD, getD-mem}
 use Rattle.lists.proofs.Scans.{any-next}
 use Rattle.parts.specs.Parts.{partsAt}
 use Rattle.parts.proofs.Parts.{parts-at}
-use Rattle.painting.specs.Painting.{touched, Freed, Closed}
-use Rattle.painting.proofs.close.Statement.{statement}
-use Rattle.painting.proofs.close.Tie as tie
+use Rattle.painting.specs.Painting.{touched}
+use Rattle.painting.specs.Steps.{MadeIdle, Closed}
+use Rattle.painting.proofs.close_color.Statement.{statement}
+use Rattle.painting.proofs.close_color.Tie as tie
 
 abbrev Inv-loop : tie.InvT-loop
 Inv-loop endpoints bounds members color constraint-colors₀ busy-bodies₀ place₀ place-end constraint-colors busy-bodies place =
@@ -34,14 +35,14 @@ cond-or false b x y = refl
 
 -- one member more
 more : (cs : List (List ℕ)) (k : ℕ) (ms colors₀ busy₀ colors busy : List ℕ) (i : ℕ) → i < length ms → getD ms i 0 < length colors → length busy ≡ length busy₀ → Closed cs k (take i ms) colors₀ busy₀ colors busy
-    → (bs busy′ : List ℕ) → bs ≡ getD cs (getD ms i 0) [] → Freed bs busy busy′ → Closed cs k (take (i + 1) ms) colors₀ busy₀ (set colors (getD ms i 0) k) busy′
+    → (bs busy′ : List ℕ) → bs ≡ getD cs (getD ms i 0) [] → MadeIdle bs busy busy′ → Closed cs k (take (i + 1) ms) colors₀ busy₀ (set colors (getD ms i 0) k) busy′
 more cs k ms colors₀ busy₀ colors busy i l s size v bs busy′ e w =
     let next = getD ms i 0 in
     record {
       given = λ r h. by-cases (eqb r next)
           (λ q. rw (any-next (eqb r) ms i l, q, or-true, eqb-true r next q) (getD-set-same colors next k 0 s))
           (λ q. rw (any-next (eqb r) ms i l, q, or-false) (getD-set-other colors next r k 0 (eqb-false r next q) ∙ v .given r h));
-      freed = λ b h. w b (omega (arith, size)) ∙ rw (e, v .freed b h, any-next (λ r. mem b (getD cs r [])) ms i l) (cond-or (touched cs (take i ms) b) (mem b (getD cs next [])) 0 (getD busy₀ b 0));
+      idle = λ b h. w b (omega (arith, size)) ∙ rw (e, v .idle b h, any-next (λ r. mem b (getD cs r [])) ms i l) (cond-or (touched cs (take i ms) b) (mem b (getD cs next [])) 0 (getD busy₀ b 0));
     }
 
 -- the member that is read
@@ -68,7 +69,7 @@ bodies-are : (p : tie.After-part Inv-loop μ-loop) → now (p .part .result) ≡
 bodies-are p = let s = begin (at p) in p .part .ensures ∙ sym (parts-at (length (now (s .args .constraint-colors))) (now (s .args .bounds)) (now (s .args .endpoints)) (next (at p)) (low (p .before .before)))
 
 loop-holds : tie.Need-loop-holds Inv-loop μ-loop
-loop-holds c = (omega arith, refl, refl, record { given = λ r h. refl; freed = λ b h. refl })
+loop-holds c = (omega arith, refl, refl, record { given = λ r h. refl; idle = λ b h. refl })
 
 mul-constraint : tie.Need-mul-constraint Inv-loop μ-loop
 mul-constraint c = search needs
@@ -91,8 +92,8 @@ slice-write-constraint-colors c = let l = c .before in omega (arith, low l, l .b
 part-requires : tie.Need-part-requires Inv-loop μ-loop
 part-requires c κs = let l = c .before in begin (l .before) .pre .0 (next (l .before)) (low l)
 
-free-bodies-requires : tie.Need-free-bodies-requires Inv-loop μ-loop
-free-bodies-requires c κs =
+make-idle-requires : tie.Need-make-idle-requires Inv-loop μ-loop
+make-idle-requires c κs =
     let p = c .before in
     let l = at p in
     let s = begin l in
@@ -109,7 +110,7 @@ loop-again c =
     let p = c .before .before .before .before in
     let l = at p in
     let s = begin l in
-    let d = c .before .before .free-bodies in
+    let d = c .before .before .make-idle in
     let v = l .loop .inv in (
       omega arith,
       length-set (l .loop .constraint-colors) (next l) (s .args .color) ∙ v .1,
@@ -128,8 +129,8 @@ returns c =
     let l = c .before in
     rw (take-all (l .loop .place) (now (begin l .args .members)) (omega arith)) at (l .loop .inv .3)
 
-pub close-spec : {M : Type 1} → statement M
-close-spec =
+pub close-color-spec : {M : Type 1} → statement M
+close-color-spec =
     tie.close
     (tie.spec
     Inv-loop
@@ -142,7 +143,7 @@ close-spec =
     mul-constraint-colors
     slice-write-constraint-colors
     part-requires
-    free-bodies-requires
+    make-idle-requires
     add-place
     loop-less
     loop-again

@@ -12,19 +12,19 @@ use borrow.Author.Needs.{needs}
 use borrow.Author.Tests.{eqb-true, eqb-false, ltb-true}
 use Rattle.lists.proofs.Laws.{by-cases, all-in, getD-mem}
 use Rattle.lists.proofs.Scans.{any-next}
-use Rattle.painting.specs.Painting.{Freed}
-use Rattle.painting.proofs.free_bodies.Statement.{statement}
-use Rattle.painting.proofs.free_bodies.Tie as tie
+use Rattle.painting.specs.Steps.{MadeIdle}
+use Rattle.painting.proofs.make_idle.Statement.{statement}
+use Rattle.painting.proofs.make_idle.Tie as tie
 
 abbrev Inv-loop : tie.InvT-loop
 Inv-loop bodies busy-bodies₀ place₀ place-end busy-bodies place =
-    (place ≤ length bodies) × (length busy-bodies ≡ length busy-bodies₀) × Freed (take place bodies) busy-bodies₀ busy-bodies
+    (place ≤ length bodies) × (length busy-bodies ≡ length busy-bodies₀) × MadeIdle (take place bodies) busy-bodies₀ busy-bodies
 
 abbrev μ-loop : tie.MeasureT-loop
 μ-loop bodies busy-bodies₀ place₀ place-end busy-bodies place = length bodies - place
 
 -- one body more
-more : (bodies busy₀ busy : List ℕ) (i : ℕ) → i < length bodies → getD bodies i 0 < length busy → Freed (take i bodies) busy₀ busy → Freed (take (i + 1) bodies) busy₀ (set busy (getD bodies i 0) 0)
+more : (bodies busy₀ busy : List ℕ) (i : ℕ) → i < length bodies → getD bodies i 0 < length busy → MadeIdle (take i bodies) busy₀ busy → MadeIdle (take (i + 1) bodies) busy₀ (set busy (getD bodies i 0) 0)
 more bodies busy₀ busy i l s v b h =
     let body = getD bodies i 0 in
     by-cases (eqb b body)
@@ -74,8 +74,8 @@ returns c =
     let l = c .before in
     λ b h. rw (take-all (l .loop .place) (now (l .before .args .bodies)) (omega arith)) at (l .loop .inv .2 b h)
 
-pub free-bodies-spec : {M : Type 1} → statement M
-free-bodies-spec =
+pub make-idle-spec : {M : Type 1} → statement M
+make-idle-spec =
     tie.close
     (tie.spec
     Inv-loop
