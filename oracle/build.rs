@@ -1,9 +1,19 @@
 //! Finds the Rust files, which are never copied into the repository, and hands their folder on to `include!`. With the
 //! feature `ours` it also links the static library of the proved code.
 use std::env;
+use std::fs;
 use std::path::PathBuf;
 
-const FILES: [&str; 3] = ["island.rs", "constraint_coloring.rs", "solver/colored_bodies.rs"];
+/// The files, each with the sum of (place + 1) x byte modulo 2^32: an edited one is refused.
+const FILES: [(&str, u32); 3] = [
+    ("island.rs", 3_762_479_412),
+    ("constraint_coloring.rs", 2_359_710_204),
+    ("solver/colored_bodies.rs", 406_347_930),
+];
+
+fn checksum(bytes: &[u8]) -> u32 {
+    (1u32..).zip(bytes).fold(0, |sum, (place, byte)| sum.wrapping_add(place.wrapping_mul(*byte as u32)))
+}
 
 fn main() {
     println!("cargo::rerun-if-env-changed=KAPITSA_SRC");
@@ -13,7 +23,7 @@ fn main() {
         None => repository.join("../shared/docs/src"),
     };
     let collision = sources.join("crates/kapitsa-core/src/collision");
-    for file in FILES {
+    for (file, sum) in FILES {
         let path = collision.join(file);
         if !path.is_file() {
             println!(
@@ -22,8 +32,13 @@ fn main() {
             );
             return;
         }
+        if checksum(&fs::read(&path).unwrap()) != sum {
+            println!("cargo::error={} is not the file that the project was written from", path.display());
+            return;
+        }
         println!("cargo::rerun-if-changed={}", path.display());
     }
+    println!("cargo::rustc-env=ORACLE_OPT_LEVEL={}", env::var("OPT_LEVEL").unwrap());
     let collision = collision.canonicalize().unwrap();
     println!("cargo::rustc-env=KAPITSA_COLLISION={}", collision.display());
 

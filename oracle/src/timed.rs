@@ -71,7 +71,6 @@ impl Decoded {
 
 /// The islands and groups that were found, a pair for each seed, must be the page's.
 pub fn check_found(found: &[[usize; 2]]) {
-    assert_eq!(found.len(), SEEDS as usize);
     for (seed, known, _) in SAMPLES {
         assert_eq!(found[seed], known, "the islands and groups of seed {seed}");
     }

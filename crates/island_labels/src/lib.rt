@@ -44,8 +44,8 @@ fn flag_leaders(body_types: &[u8], parents: &[u16], body_islands: &mut [u16])
     }
 }
 
-// A body that leads gets the next number, any other its parent's. Answers how many islands there are so far.
-// There is no branch to guess wrong: one that leads finds the number at its parent too, as that is itself.
+// A body that leads gets the next number, any other none, and then each what its parent has: one that leads, or is in no island, is its own
+// parent. Answers how many islands there are so far. There is no branch to guess wrong.
 fn number_one(parents: &[u16], body_islands: &mut [u16], body: usize, count: u16) -> u16
     requires { ⌜ Falls (now parents) × (length (now parents) ≡ length (now «body_islands»)) × (body < length (now parents))
         × (getD (now «body_islands») body 0 ≤ 1) × (count ≤ 4096) ⌝ }

@@ -200,9 +200,7 @@ fn generate(turns: usize) {
 }
 
 fn main() -> ExitCode {
-    if cfg!(debug_assertions) {
-        panic!("a debug build is refused: the Rust is measured with optimisation");
-    }
+    assert!(!cfg!(debug_assertions) && env!("ORACLE_OPT_LEVEL") == "3", "the Rust is measured with optimisation alone");
     let turns = std::env::args().nth(1).map_or(TURNS, |n| n.parse().expect("how often each frame is measured"));
     assert!(turns > 0, "each frame is measured at least once");
     let files = timed::files();
