@@ -13,8 +13,8 @@ ghost use Rattle.parts.specs.Parts.{Bounded, partsAt};
 ghost use Rattle.painting.specs.Painting.{Ready, Painted, Opened, Walked};
 ghost use Rattle.painting.specs.Steps.{MadeBusy, MadeIdle, Closable, Closed};
 
-// Which constraints fit one of the first colors can't be predicted, so their walks don't branch on it. Later walks leave most constraints
-// uncolored, so they pass one at its first busy body.
+// Which constraints fit one of the first colors, this many, the processor can't predict, so these walks don't branch on it. Later walks
+// leave most constraints uncolored, so they pass one at its first busy body.
 const UNPREDICTED: usize = 8;
 
 // Lists all constraints, in list order.
@@ -74,6 +74,7 @@ fn walk(
                 continue 'walk;
             }
         }
+        // It is put in both lists, and the one advances in which it stays.
         let fits = 1 - busy;
         remaining[left] = constraint;
         left += busy as usize;
