@@ -10,14 +10,14 @@ use lib.Dec.{eqb, ltb}
 use lib.ListN.{length, getD, set, take, drop, length-append, length-set, List·getD-eq-default}
 use lib.Seq.{take-at, take-all, take-length, take-suc-set, drop-append-add, drop-drop}
 use borrow.Author.Tests.{eqb-true, eqb-false, lt-ltb, le-ltb, ltb-true, ltb-false}
-use Rattle.lists.specs.Basics.{one, all, sumOf, range, mem, over}
+use Rattle.lists.specs.Basics.{one, all, sumOf, range, mem, over, joinMap}
 use Rattle.lists.proofs.Sums.{sum-le, sum-ext, sum-add, sum-filter, sum-getD}
 use Rattle.lists.proofs.Laws.{by-cases, all-getD, filter-mem, range-high}
 use Rattle.lists.proofs.Ranges.{length-joinMap, map-range-suc}
 use Rattle.parts.specs.Parts.{cut, Cut}
 use Rattle.groups.specs.Groups.{members, groupBodies, flatten, offsets}
 use Rattle.groups.proofs.Tables.{flatten-zero, flatten-suc, start-suc}
-use Rattle.gathering.specs.Gathers.{endsOf, among, Fresh, Listed, Gatherable, Gathered}
+use Rattle.gathering.specs.Gathers.{among, Fresh, Listed, Gatherable, Gathered}
 use Rattle.parts.proofs.Groups.{group-cut, group-is}
 use Rattle.gathering.proofs.Ends.{ends-all, ends-ext, group-bodies, among-few}
 
@@ -43,7 +43,7 @@ module _ (cs : List (List ℕ)) (colors : List ℕ) where
   abbrev before : ℕ → ℕ
   before k = sumOf (λ r. one (ltb (getD colors r 0) k) * length (getD cs r [])) (range (length colors))
 
-  before-suc : (k : ℕ) → before (suc k) ≡ before k + length (endsOf (λ r. getD cs r []) (members colors k))
+  before-suc : (k : ℕ) → before (suc k) ≡ before k + length (joinMap (λ r. getD cs r []) (members colors k))
   unfolding members
   before-suc k =
       let w : ℕ → ℕ = λ r. length (getD cs r []) in
@@ -66,7 +66,7 @@ module _ (cs : List (List ℕ)) (colors : List ℕ) where
         starts-few nb k,
         before-suc k,
         ap length (group-bodies nb cs colors k),
-        among-few nb (endsOf (λ r. getD cs r []) (members colors k)),
+        among-few nb (joinMap (λ r. getD cs r []) (members colors k)),
       )
 
 -- ---- the groups before `color` are listed
@@ -117,12 +117,12 @@ module _ {nb n : ℕ} {cs : List (List ℕ)} {colors color-offsets constraints s
     pub part-below : (r : ℕ) → mem r (cut constraints color-offsets color (color + 1)) ≡ true → r < length colors
     part-below r m = members-below colors color r (rw group-part at m)
 
-    part-ends : endsOf ends (cut constraints color-offsets color (color + 1)) ≡ endsOf (λ r. getD cs r []) (members colors color)
-    part-ends = ap (endsOf ends) group-part ∙ sym (ends-ext (λ r. getD cs r []) ends (members colors color) (λ r m. same r (members-below colors color r m)))
+    part-ends : joinMap ends (cut constraints color-offsets color (color + 1)) ≡ joinMap (λ r. getD cs r []) (members colors color)
+    part-ends = ap (joinMap ends) group-part ∙ sym (ends-ext (λ r. getD cs r []) ends (members colors color) (λ r m. same r (members-below colors color r m)))
 
     -- the bodies of group `color` can be listed next
     module _ {st scratch starts bodies : List ℕ} {end : ℕ} (v : Gathering nb cs colors n scratch₀ (set starts₀ 0 0) bodies₀ st scratch starts bodies end color) where
-      pub group-fresh : Fresh (endsOf ends (cut constraints color-offsets color (color + 1))) (color + 1) st bodies end
+      pub group-fresh : Fresh (joinMap ends (cut constraints color-offsets color (color + 1))) (color + 1) st bodies end
       group-fresh =
           let below : ℕ → Bool = λ b. ltb b nb in
           rw part-ends
@@ -138,8 +138,8 @@ module _ {nb n : ℕ} {cs : List (List ℕ)} {colors color-offsets constraints s
             fresh = λ b. omega (arith, v .low b);
           })
 
-      module _ {st′ bodies′ : List ℕ} {end′ : ℕ} (w : Listed (endsOf ends (cut constraints color-offsets color (color + 1))) (color + 1) st′ bodies bodies′ end end′) (ls : length st′ ≡ length st) where
-        bodies-are : among (length st′) (endsOf ends (cut constraints color-offsets color (color + 1))) ≡ groupBodies nb cs colors color
+      module _ {st′ bodies′ : List ℕ} {end′ : ℕ} (w : Listed (joinMap ends (cut constraints color-offsets color (color + 1))) (color + 1) st′ bodies bodies′ end end′) (ls : length st′ ≡ length st) where
+        bodies-are : among (length st′) (joinMap ends (cut constraints color-offsets color (color + 1))) ≡ groupBodies nb cs colors color
         bodies-are = rw (ls, v .st-size, part-ends) (sym (group-bodies nb cs colors color))
 
         end-is : end′ ≡ length (flatten (groupBodies nb cs colors) (suc color))

@@ -6,13 +6,9 @@ use mathlib.Core.List.{List, [], _∷_, _++_}
 use lib.Dec.{eqb, ltb}
 use lib.ListN.{length, getD, set, take, drop}
 use lib.Seq.{sets}
-use Rattle.lists.specs.Basics.{filter, all, sumOf, range, mem, over, joinMap}
+use Rattle.lists.specs.Basics.{filter, all, sumOf, range, mem, over}
 use Rattle.parts.specs.Parts.{Present}
 use Rattle.groups.specs.Groups.{members, groupBodies, flatten, offsets}
-
--- the endpoints of the constraints ms, one after another, where constraint r has those that `ends r` gives
-abbrev pub endsOf : (ℕ → List ℕ) → List ℕ → List ℕ
-endsOf ends ms = joinMap ends ms
 
 -- the bodies bs, once each, rising
 unfoldable pub among : ℕ → List ℕ → List ℕ

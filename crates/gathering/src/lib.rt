@@ -5,8 +5,9 @@ ghost use mathlib.Core.Path.{_≡_};
 ghost use mathlib.Core.List.{[], _∷_};
 ghost use Prim.Native.Nat.{_≤_, _<_};
 ghost use lib.ListN.{length};
+ghost use Rattle.lists.specs.Basics.{joinMap};
 ghost use Rattle.parts.specs.Parts.{partAt, partsAt, Bounded};
-ghost use Rattle.gathering.specs.Gathers.{endsOf, stamped, Stampable, Counted, Notable, Noted, AllPresent, Fresh, Listed, Gatherable, Gathered};
+ghost use Rattle.gathering.specs.Gathers.{stamped, Stampable, Counted, Notable, Noted, AllPresent, Fresh, Listed, Gatherable, Gathered};
 
 // The bodies of a group with a constraint for every 64 bodies or more are collected from the stamps; those of a smaller one are noted as
 // they come, and sorted.
@@ -46,8 +47,8 @@ fn stamp_members(
     body_stamps: &mut [u16],
 ) -> usize
     requires { ⌜ AllPresent (now endpoints) (now bounds) (now members) ⌝ }
-    requires { ⌜ Stampable (endsOf (partAt (now bounds) (now endpoints)) (now members)) (now «body_stamps») ⌝ }
-    ensures { λ r. ⌜ Counted stamp (endsOf (partAt (now (bounds .entry)) (now (endpoints .entry))) (now (members .entry))) 0 (now («body_stamps» .entry)) (now («body_stamps» .exit)) r ⌝ }
+    requires { ⌜ Stampable (joinMap (partAt (now bounds) (now endpoints)) (now members)) (now «body_stamps») ⌝ }
+    ensures { λ r. ⌜ Counted stamp (joinMap (partAt (now (bounds .entry)) (now (endpoints .entry))) (now (members .entry))) 0 (now («body_stamps» .entry)) (now («body_stamps» .exit)) r ⌝ }
 {
     let mut count = 0;
     let mut i = 0;
@@ -84,8 +85,8 @@ fn list_many(
     start: usize,
 ) -> usize
     requires { ⌜ AllPresent (now endpoints) (now bounds) (now members) ⌝ }
-    requires { ⌜ Fresh (endsOf (partAt (now bounds) (now endpoints)) (now members)) stamp (now «body_stamps») (now «color_bodies») start ⌝ }
-    ensures { λ r. ⌜ Listed (endsOf (partAt (now (bounds .entry)) (now (endpoints .entry))) (now (members .entry))) stamp (now («body_stamps» .exit)) (now («color_bodies» .entry)) (now («color_bodies» .exit)) start r ⌝ }
+    requires { ⌜ Fresh (joinMap (partAt (now bounds) (now endpoints)) (now members)) stamp (now «body_stamps») (now «color_bodies») start ⌝ }
+    ensures { λ r. ⌜ Listed (joinMap (partAt (now (bounds .entry)) (now (endpoints .entry))) (now (members .entry))) stamp (now («body_stamps» .exit)) (now («color_bodies» .entry)) (now («color_bodies» .exit)) start r ⌝ }
 {
     let count = stamp_members(endpoints, bounds, members, stamp, body_stamps);
     let end = start + count;
@@ -142,8 +143,8 @@ fn note_members(
     start: usize,
 ) -> usize
     requires { ⌜ AllPresent (now endpoints) (now bounds) (now members) ⌝ }
-    requires { ⌜ Notable (endsOf (partAt (now bounds) (now endpoints)) (now members)) (now «body_stamps») (now «color_bodies») start ⌝ }
-    ensures { λ r. ⌜ Noted stamp (endsOf (partAt (now (bounds .entry)) (now (endpoints .entry))) (now (members .entry))) start (now («body_stamps» .entry)) (now («color_bodies» .entry)) (now («body_stamps» .exit)) (now («color_bodies» .exit)) r ⌝ }
+    requires { ⌜ Notable (joinMap (partAt (now bounds) (now endpoints)) (now members)) (now «body_stamps») (now «color_bodies») start ⌝ }
+    ensures { λ r. ⌜ Noted stamp (joinMap (partAt (now (bounds .entry)) (now (endpoints .entry))) (now (members .entry))) start (now («body_stamps» .entry)) (now («color_bodies» .entry)) (now («body_stamps» .exit)) (now («color_bodies» .exit)) r ⌝ }
 {
     let mut end = start;
     let mut i = 0;
@@ -167,9 +168,9 @@ fn list_few(
     start: usize,
 ) -> usize
     requires { ⌜ AllPresent (now endpoints) (now bounds) (now members) ⌝ }
-    requires { ⌜ Fresh (endsOf (partAt (now bounds) (now endpoints)) (now members)) stamp (now «body_stamps») (now «color_bodies») start ⌝ }
+    requires { ⌜ Fresh (joinMap (partAt (now bounds) (now endpoints)) (now members)) stamp (now «body_stamps») (now «color_bodies») start ⌝ }
     requires { ⌜ length (now «body_stamps») ≤ length (now «scratch_offsets») ⌝ }
-    ensures { λ r. ⌜ Listed (endsOf (partAt (now (bounds .entry)) (now (endpoints .entry))) (now (members .entry))) stamp (now («body_stamps» .exit)) (now («color_bodies» .entry)) (now («color_bodies» .exit)) start r ⌝ }
+    ensures { λ r. ⌜ Listed (joinMap (partAt (now (bounds .entry)) (now (endpoints .entry))) (now (members .entry))) stamp (now («body_stamps» .exit)) (now («color_bodies» .entry)) (now («color_bodies» .exit)) start r ⌝ }
 {
     let end = note_members(
         endpoints,
@@ -196,9 +197,9 @@ fn list_bodies(
     start: usize,
 ) -> usize
     requires { ⌜ AllPresent (now endpoints) (now bounds) (now members) ⌝ }
-    requires { ⌜ Fresh (endsOf (partAt (now bounds) (now endpoints)) (now members)) stamp (now «body_stamps») (now «color_bodies») start ⌝ }
+    requires { ⌜ Fresh (joinMap (partAt (now bounds) (now endpoints)) (now members)) stamp (now «body_stamps») (now «color_bodies») start ⌝ }
     requires { ⌜ length (now «body_stamps») ≤ length (now «scratch_offsets») ⌝ }
-    ensures { λ r. ⌜ Listed (endsOf (partAt (now (bounds .entry)) (now (endpoints .entry))) (now (members .entry))) stamp (now («body_stamps» .exit)) (now («color_bodies» .entry)) (now («color_bodies» .exit)) start r ⌝ }
+    ensures { λ r. ⌜ Listed (joinMap (partAt (now (bounds .entry)) (now (endpoints .entry))) (now (members .entry))) stamp (now («body_stamps» .exit)) (now («color_bodies» .entry)) (now («color_bodies» .exit)) start r ⌝ }
 {
     if members.len() >= body_stamps.len() / BODIES_PER_CONSTRAINT {
         return list_many(

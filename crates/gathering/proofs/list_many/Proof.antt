@@ -3,7 +3,7 @@ use native.Mathlib.Omega.{arith}
 use borrow.Author.Needs.{needs}
 use denote.Ref.{now}
 use Rattle.parts.specs.Parts.{partAt}
-use Rattle.gathering.specs.Gathers.{endsOf}
+use Rattle.lists.specs.Basics.{joinMap}
 use Rattle.gathering.proofs.Counts.{counted-add}
 use Rattle.gathering.proofs.Arranges.{end-inside, part-size, part-listed}
 use Rattle.gathering.proofs.list_many.Statement.{statement}
@@ -53,7 +53,7 @@ returns : tie.Need-returns
 returns c =
     let n = c .before .before .before .before .before .before .before in
     let s = entry n in
-    part-listed (s .pre .1) (counted-add {bs = endsOf (partAt (now (s .args .bounds)) (now (s .args .endpoints))) (now (s .args .members))} (s .args .start) (n .stamp-members .ensures)) _ (c .before .before .collect .ensures)
+    part-listed (s .pre .1) (counted-add {bs = joinMap (partAt (now (s .args .bounds)) (now (s .args .endpoints))) (now (s .args .members))} (s .args .start) (n .stamp-members .ensures)) _ (c .before .before .collect .ensures)
 
 pub list-many-spec : {M : Type 1} → statement M
 list-many-spec =

@@ -5,9 +5,10 @@ use Prim.Native.Nat.{_-_, _≤_}
 use lib.ListN.{length, getD, take}
 use lib.Seq.{take-all}
 use denote.Ref.{now}
+use Rattle.lists.specs.Basics.{joinMap}
 use Rattle.lists.proofs.Laws.{getD-mem}
 use Rattle.parts.specs.Parts.{partAt}
-use Rattle.gathering.specs.Gathers.{endsOf, Counted}
+use Rattle.gathering.specs.Gathers.{Counted}
 use Rattle.gathering.proofs.Ends.{next-part}
 use Rattle.gathering.proofs.Counts.{counted-none, counted-add, counted-size, counted-next, counted-fits, stampable-next}
 use Rattle.gathering.proofs.stamp_members.Statement.{statement}
@@ -15,7 +16,7 @@ use Rattle.gathering.proofs.stamp_members.Tie as tie
 
 abbrev Inv-loop : tie.InvT-loop
 Inv-loop endpoints bounds members stamp body-stamps₀ count₀ i₀ body-stamps count i =
-    (i ≤ length members) × Counted stamp (endsOf (partAt bounds endpoints) (take i members)) 0 body-stamps₀ body-stamps count
+    (i ≤ length members) × Counted stamp (joinMap (partAt bounds endpoints) (take i members)) 0 body-stamps₀ body-stamps count
 
 abbrev μ-loop : tie.MeasureT-loop
 μ-loop endpoints bounds members stamp body-stamps₀ count₀ i₀ body-stamps count i = length members - i
