@@ -38,8 +38,3 @@ no-room text old at e = rw e (put-nothing old at)
 pub with-room : (text line old : List ℕ) (at : ℕ) (new : List ℕ) (r : ℕ) → leb (at + longest) (length old) ≡ true → text ≡ line → Put text old at new r → Put (ifRoom (length old) at line) old at new r
 unfolding ifRoom
 with-room text line old at new r e t p = rw e (subst (λ (l : List ℕ). Put l old at new r) t p)
-
-pub head-short : (i t k d : ℕ) → length (headOf i t k d) ≤ longest
-head-short i t k d =
-    subst (λ (l : List ℕ). length l ≤ longest) (head-fields i t k d)
-    (simp length-append (omega (arith, decimal-few i, decimal-few t, decimal-few k, decimal-few d)))
