@@ -5,7 +5,7 @@ use mathlib.Core.Bool.{Bool, true, _&&_, cond}
 use mathlib.Core.List.{List, [], _∷_, _++_, map}
 use lib.Dec.{leb, ltb, eqb}
 use lib.ListN.{length, getD, set, replicate}
-use Rattle.lists.specs.Basics.{all, one, distinct, rises, sorted}
+use Rattle.lists.specs.Basics.{all, distinct, rises, sorted}
 use Rattle.frame.specs.Frames.{flagOf}
 use Rattle.frame.specs.Questions.{question, asked, typesKnown}
 use Rattle.colored_bodies.specs.declared.BodyBinding.{BodyBinding}

@@ -11,7 +11,7 @@ use borrow.Author.Tests.{leb-true, eqb-true, eqb-false, ne-eqb}
 use Rattle.lists.specs.Basics.{all}
 use Rattle.lists.proofs.Laws.{by-cases, and-left, and-right}
 use Rattle.frame.specs.Frames.{allSound}
-use Rattle.frame.specs.Questions.{Question, question, asked}
+use Rattle.frame.specs.Questions.{Question, asked}
 use Rattle.frame.specs.Files.{countB, countM, countJ, decode, fileQuestions}
 use Rattle.frame.specs.declared.Reading.{Reading}
 use Rattle.frame.specs.Answers.{readSizes, sizesOf, Read}

@@ -14,7 +14,7 @@ use Rattle.lists.proofs.Ranges.{map-append}
 use Rattle.frame.specs.Frames.{Frame, constraints, frameOf, none, allSound, degreeMax}
 use Rattle.frame.specs.Questions.{question, asked, fewEach, typesKnown, bits}
 use Rattle.frame.specs.Files.{countB, countM, countJ, pairsAt, jointsAt, typesIn, manifoldsIn, jointsIn, enabledIn, pairsFrom, enabledFrom, decode, sizeQuestions, fileQuestions, frameRefusal}
-use Rattle.frame.proofs.Questions.{passed, asked-append}
+use Rattle.frame.proofs.Questions.{asked-append}
 use Rattle.frame.proofs.Files.{Sized}
 use Rattle.connected_sets.specs.Islands.{label}
 use Rattle.island.specs.Calls.{Rooms, islandRefusal, labelsAfter, Built}

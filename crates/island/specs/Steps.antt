@@ -6,7 +6,7 @@ use mathlib.Core.List.{List, [], _∷_, map}
 use lib.Dec.{eqb}
 use lib.ListN.{length, getD, replicate}
 use Rattle.lists.specs.Basics.{any}
-use Rattle.frame.specs.Frames.{Frame, constraints, bodies, on, sound, allSound, none}
+use Rattle.frame.specs.Frames.{Frame, constraints, bodies, on, allSound, none}
 use Rattle.frame.specs.Questions.{Question, question, fewEach, even, pairCount, typesKnown, bits}
 use Rattle.island_sets.specs.Sets.{rootOf, Falls}
 use Rattle.connected_sets.specs.Islands.{lowest, islandCount, bodyLabel, label}

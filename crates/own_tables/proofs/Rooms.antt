@@ -8,7 +8,7 @@ use lib.Dec.{eqb}
 use lib.ListN.{length}
 use borrow.Author.Tests.{le-leb, eqb-true}
 use Rattle.lists.proofs.Laws.{by-cases}
-use Rattle.frame.specs.Questions.{question, asked}
+use Rattle.frame.specs.Questions.{asked}
 use Rattle.frame.specs.Files.{countB, countM, countJ, fileQuestions}
 use Rattle.plan_questions.specs.Plans as plans
 use Rattle.plan_questions.proofs.Rooms.{roomy-fitted}

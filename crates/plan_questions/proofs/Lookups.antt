@@ -12,7 +12,7 @@ use lib.Seq.{drop-append-le, take-append-le, getD-take, getD-drop}
 use borrow.Author.Tests.{le-leb, lt-ltb}
 use Rattle.groups.specs.Groups.{flatten, offsets}
 use Rattle.groups.proofs.Tables.{flatten-part, flatten-twos, start-suc, start-mono, length-offsets, offsets-at}
-use Rattle.plan_questions.specs.Plans.{part, groupPart, positionsRefusal, positionsAt}
+use Rattle.plan_questions.specs.Plans.{groupPart, positionsRefusal, positionsAt}
 
 -- a table's used places, with whatever stands behind them
 module _ (g : ℕ → List ℕ) (n : ℕ) (x y : List ℕ) where

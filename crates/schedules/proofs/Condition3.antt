@@ -6,8 +6,8 @@ use Rattle.groups.specs.Groups.{Plan, groupCount, members}
 use Rattle.colored_bodies.specs.Bindings.{bindOf, Handed}
 use mathlib.Core.Path.{ap₂, _≡_, refl, sym, ap, _∙_}
 use mathlib.Core.List.{_++_, List, [], _∷_, map, map-append}
-use Prim.Native.Nat.{ℕ, zero, suc, _+_, _-_, _*_, _≤_, _<_}
-use mathlib.Core.Bool.{Bool, true, false, not}
+use Prim.Native.Nat.{ℕ, zero, suc, _+_, _*_, _≤_, _<_}
+use mathlib.Core.Bool.{Bool, true, false}
 use native.Mathlib.Omega.{arith}
 use lib.Dec.{leb, eqb}
 use lib.ListN.{length, getD}
@@ -15,7 +15,6 @@ use borrow.Author.Tests.{eqb-true, ne-eqb, leb-true, leb-false}
 use Rattle.lists.specs.Basics.{one, any, all, sumOf, maxOf, count, joinMap, rangeFrom, range, mem}
 use Rattle.lists.proofs.Sums.{collapse, sum-swap, sum-ext, sum-null, sum-zero, sum-map, sum-filter, sum-joinMap, sum-getD, filter-all}
 use Rattle.lists.proofs.Laws.{and-left, or-right, by-cases, clashes, mem-self, range-high, max-in, getD-mem, same-sum, sum-ext-in, eqb-sym, sum-one, sum-distinct, all-map, count-any}
-use Rattle.frame.specs.Questions.{question}
 use Rattle.frame.specs.Files.{decode, frameRefusal}
 use Rattle.connected_sets.specs.Islands.{islandCount, label, ofIsland}
 use Rattle.connected_sets.proofs.Theorem.{islands-few, label-below-at}

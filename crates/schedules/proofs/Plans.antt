@@ -13,7 +13,7 @@ use Rattle.schedules.specs.Condition.{Planned}
 use mathlib.Core.Bool.{cond, Bool, true, false, _&&_}
 use lib.Dec.{ltb, leb, eqb}
 use Rattle.colored_bodies.specs.Bindings.{takeOf}
-use Prim.Native.Nat.{ℕ, _+_, _-_, _*_, _/_, _%_, _≤_, _<_}
+use Prim.Native.Nat.{ℕ, _-_, _*_, _/_, _%_, _≤_, _<_}
 use mathlib.Core.Path.{_≡_, refl, sym, ap, _∙_}
 use native.Mathlib.Omega.{arith}
 use Rattle.lists.specs.Basics.{one, any, all, count, mem, joinMap}
