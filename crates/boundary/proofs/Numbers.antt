@@ -10,8 +10,6 @@ use lib.Seq.{length-take-le}
 use borrow.Author.Tests.{eqb-true, leb-true}
 use Rattle.lists.specs.Basics.{one}
 use Rattle.lists.proofs.Laws.{by-cases, and-left, and-right}
-use Rattle.frame.specs.Frames.{Frame}
-use Rattle.island.specs.Calls.{Built}
 use Rattle.constraint_coloring.specs.declared.ConstraintColoring.{ConstraintColoring}
 use Rattle.constraint_coloring.specs.declared.Update.{Update}
 use Rattle.constraint_coloring.specs.declared.Positions.{Positions}
@@ -19,21 +17,6 @@ use Rattle.plan_questions.specs.Plans.{Tables, part, groupPart}
 use Rattle.constraint_coloring.specs.Calls.{updateNumber, updateChanged, planAfter, Updated, positionsNumber, Located}
 use Rattle.answer_numbers.specs.Numbers.{planFrom, planNumbers, positionNumbers}
 use Rattle.boundary.specs.Exports.{Updates, Found, Locates}
-
-pub built-by : {f : Frame} {k : ℕ} {p₀ b₀ m₀ j₀ p b m j : List ℕ} {number islands r count : ℕ}
-    → Built f k p₀ b₀ m₀ j₀ p b m j number islands → r ≡ number → count ≡ islands → Built f k p₀ b₀ m₀ j₀ p b m j r count
-built-by h r c =
-    record {
-      refusal = r ∙ h .refusal;
-      count = c ∙ h .count;
-      body-labels = h .body-labels;
-      manifold-labels = h .manifold-labels;
-      joint-labels = h .joint-labels;
-      parents = h .parents;
-      beyond = h .beyond;
-      alone = h .alone;
-      kept = h .kept;
-    }
 
 pub updated-by : {plan flags pairs : List ℕ} {p q : ConstraintColoring} {t u : Tables} {answer : Update} {number changed : ℕ}
     → p ≡ planFrom plan → Updated p flags pairs t u answer → number ≡ updateNumber answer → changed ≡ one (updateChanged answer) → q ≡ planAfter p answer

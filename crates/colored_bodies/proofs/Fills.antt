@@ -11,7 +11,8 @@ use lib.ListN.{length, getD, set, take, replicate, length-append, length-map}
 use lib.Seq.{take-suc, set-at, take-all, append-snoc, length-take-le}
 use mir.Val.{boolByte}
 use borrow.Author.Tests.{leb-true, eqb-true}
-use Rattle.lists.specs.Basics.{one, rises}
+use Rattle.lists.specs.Basics.{rises}
+use Rattle.lists.proofs.Bits.{byte-one}
 use Rattle.frame.specs.Frames.{conflicts}
 use Rattle.frame.specs.Questions.{typesKnown}
 use Rattle.colored_bodies.specs.Bindings.{lastBelow, bindRefusal, markOf, padded, boundOf, bindOf}
@@ -32,10 +33,6 @@ pad-step p i v e h =
 
 taken-more : (l : List ℕ) (i : ℕ) → i < length l → take (i + 1) l ≡ take i l ++ (getD l i 0 ∷ [])
 taken-more l i h = rw (add-one, take-suc l i 0)
-
-byte-of : (t : Bool) → boolByte t ≡ one t
-byte-of true = refl
-byte-of false = refl
 
 -- what an accepted bind says of its list
 accepted-by : (a b c : Bool) (types indices : List ℕ) → leb (length types) 4096 ≡ a → (rises indices && lastBelow (length types) indices) ≡ c
@@ -92,7 +89,7 @@ pub mark-next : (types indices : List ℕ) (i : ℕ) → i < length indices → 
 mark-next types indices i h room =
     let mark : ℕ = boolByte (conflicts (getD types (getD indices i 0) 0)) in
     pad-step (map (markOf types) (take i indices)) i mark (length-map (take i indices) (markOf types) ∙ length-take-le i indices (omega arith)) room
-    ∙ ap (λ (v : ℕ). padded (map (markOf types) (take i indices) ++ (v ∷ []))) (byte-of (conflicts (getD types (getD indices i 0) 0)))
+    ∙ ap (λ (v : ℕ). padded (map (markOf types) (take i indices) ++ (v ∷ []))) (byte-one (conflicts (getD types (getD indices i 0) 0)))
     ∙ ap padded (sym (map-append (markOf types) (take i indices) (getD indices i 0 ∷ [])) ∙ ap (map (markOf types)) (sym (taken-more indices i h)))
 
 -- nothing filled yet

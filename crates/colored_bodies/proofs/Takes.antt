@@ -3,14 +3,14 @@
 use Prim.Native.Nat.{ℕ, zero, suc, _+_, _-_, _≤_, _<_}
 use mathlib.Core.Path.{_≡_, refl, sym, ap, _∙_}
 use mathlib.Core.Bool.{Bool, true, false, not, _&&_, _||_, cond}
-use mathlib.Core.List.{List, [], _∷_, _++_, map}
+use mathlib.Core.List.{List, [], _∷_, _++_, map, map-map}
 use native.Mathlib.Omega.{arith}
 use lib.Dec.{leb, ltb, eqb}
 use lib.ListN.{length, getD, replicate, length-map, length-append, length-replicate, length-set, List·getD-append, List·getD-eq-default}
 use lib.Seq.{getD-set-same, getD-set-other, ext-getD, getD-append-add}
 use borrow.Author.Tests.{eqb-true, eqb-false, ltb-true, ltb-false, lt-ltb, not-true}
 use Rattle.lists.specs.Basics.{all, count, one, mem, place, distinct, insert, sorted}
-use Rattle.lists.proofs.Laws.{and-left, and-right, and-both, or-right, clashes, by-cases, not-true-false, bool-ext, mem-self, mem-map, map-mem, map-ext-in, map-map, getD-map-lt, place-lt, place-get, get-place, distinct-map, all-intro, all-map, distinct-count, count-distinct, mem-count, count-any}
+use Rattle.lists.proofs.Laws.{and-left, and-right, and-both, or-right, clashes, by-cases, not-true-false, bool-ext, mem-self, mem-map, map-mem, map-ext-in, getD-map-lt, place-lt, place-get, get-place, distinct-map, all-intro, all-map, distinct-count, count-distinct, mem-count, count-any}
 use Rattle.frame.specs.Frames.{conflicts}
 use Rattle.colored_bodies.specs.declared.BodyBinding.{BodyBinding}
 use Rattle.colored_bodies.specs.Bindings.{padded, boundOf, placed, free, spend, refusalFrom, marksFrom, takeRefusal, takeMarks, Handed, handedAt, takeOf}

@@ -1,7 +1,7 @@
 -- Islands are the connected sets. `lowest` is the lowest body of the connected set, and two bodies have the same one exactly if they are connected:
 -- an edge is a link, so `lowest` never leaves the set, and every link is an edge or goes over two, so it is the same all over the set.
 -- An island's number counts the lowest bodies below its own, so labels are equal exactly for connected bodies, and rise with the lowest bodies.
-use Prim.Native.Nat.{ℕ, zero, suc, _≤_, _<_}
+use Prim.Native.Nat.{ℕ, _≤_, _<_}
 use native.Mathlib.Omega.{arith}
 use native.Mathlib.Decide.{decLt}
 use mathlib.Core.Path.{_≡_, refl, sym, ap, _∙_, subst}
@@ -12,9 +12,10 @@ use lib.Dec.{eqb}
 use lib.ListN.{length, getD, List·getD-eq-default}
 use borrow.Author.Tests.{eqb-true, eq-eqb}
 use Rattle.lists.specs.Basics.{any, count, range, mem, filter}
-use Rattle.lists.proofs.Laws.{and-left, and-right, and-both, or-left, or-right, or-cases, clashes, by-cases, mem-self, any-in, any-out, filter-mem, mem-filter}
+use Rattle.lists.proofs.Laws.{and-left, and-right, and-both, or-left, or-right, or-cases, clashes, by-cases, mem-self, any-in, any-out, filter-mem, mem-filter, getD-listed}
 use Rattle.lists.proofs.Counts.{count-le, count-past, count-same}
 use Rattle.frame.specs.Frames.{Constraint, Frame, constraints, constraintAt, nothing, dynamic, on, touches, none}
+use Rattle.frame.proofs.Pairs.{live-number}
 use Rattle.connected_sets.specs.Islands.{Edge, Linked, Connected, star, edgesOf, edges, join, lowest, inIsland, leads, islandCount, bodyLabel, label}
 use Rattle.connected_sets.specs.Islands.Connected.{here, step}
 use Rattle.connected_sets.proofs.Joins.{join-rel, join-le, join-edge}
@@ -218,15 +219,9 @@ module _ (f : Frame) where
       let e : on (o .0) c ≡ true = and-both (c .live) (mem (o .0) (c .ends)) live (o .1) in
       omega (arith, label-each c (o .0) m e (o .2), body-below (o .0) (on-island c (o .0) m e (o .2)))
 
-  at-listed : (cs : List Constraint) (n : ℕ) → touches f (getD cs n nothing) ≡ true → List·Memᴰ (getD cs n nothing) cs
-  unfolding touches
-  at-listed [] n t = clashes false t refl
-  at-listed (c ∷ cs) zero t = List·Memᴰ·head refl
-  at-listed (c ∷ cs) (suc n) t = List·Memᴰ·tail (at-listed cs n t)
-
   pub label-below-at : (n : ℕ) → touches f (constraintAt f n) ≡ true → label f (constraintAt f n) < islandCount f
-  unfolding constraintAt
-  label-below-at n t = label-below (getD (constraints f) n nothing) (at-listed (constraints f) n t) t
+  unfolding constraintAt touches
+  label-below-at n t = label-below (getD (constraints f) n nothing) (getD-listed (constraints f) n nothing (live-number f n (and-left (constraintAt f n .live) _ t))) t
 
   -- a constraint that has an island touches a dynamic body
   pub island-touches : (c : Constraint) → (label f c ≡ none → ⊥) → touches f c ≡ true

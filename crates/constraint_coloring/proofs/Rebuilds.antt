@@ -2,22 +2,26 @@
 -- definition of the plan gives. Pairs are parts without bounds.
 use Prim.Native.Nat.{ℕ, _+_, _*_, _/_, _≤_, _<_}
 use mathlib.Core.Path.{_≡_, refl, sym, ap, _∙_}
-use mathlib.Core.List.{List, [], _∷_, _++_}
+use mathlib.Core.Bool.{true}
+use mathlib.Core.List.{List, [], _++_}
 use native.Mathlib.Omega.{arith}
 use native.Mathlib.Numerals.{add-one}
+use lib.Dec.{ltb}
 use lib.ListN.{length, getD, take, drop}
 use lib.Seq.{take-at, take-append-le}
-use Rattle.lists.specs.Basics.{sumOf, maxOf, range, over}
+use Rattle.lists.specs.Basics.{maxOf, range, over, all}
+use Rattle.lists.proofs.Laws.{all-weaken}
+use Rattle.frame.specs.Frames.{fits}
+use Rattle.frame.proofs.Pairs.{fits-in}
 use Rattle.groups.specs.Groups.{planOf, pairsOf, colorsOf, groupCount, members, largestGroup, positions, flatten, offsets}
-use Rattle.groups.proofs.Colors.{colors-length}
+use Rattle.groups.proofs.Colors.{colors-length, groups-few as few-groups}
 use Rattle.groups.proofs.Tables.{length-offsets}
+use Rattle.groups.proofs.Pairs.{pairs-length, pairs-sum}
 use Rattle.parts.specs.Parts.{partsAt}
 use Rattle.parts.specs.Steps.{widest}
 use Rattle.parts.proofs.Groups.{widest-is}
 use Rattle.parts.proofs.Parts.{parts-pairs}
 use Rattle.painting.specs.Painting.{Ready}
-use Rattle.painting.proofs.Pairs.{pairs-length, bodies-in}
-use Rattle.painting.proofs.Used.{colors-low, groups-below}
 use Rattle.gathering.specs.Gathers.{Gatherable}
 use Rattle.plan_questions.specs.Plans.{Tables}
 use Rattle.constraint_coloring.specs.Calls.{carried}
@@ -35,11 +39,6 @@ carried-eq : (b c c′ k k′ m m′ : ℕ) → c ≡ c′ → k ≡ k′ → m 
     (record { «body_count» = b; «constraint_count» = c′; «color_count» = k′; «max_color_constraint_count» = m′ })
 carried-eq b c c′ k k′ m m′ p q r = simp (p, q, r)
 
-pairs-sum : (es : List ℕ) → sumOf length (pairsOf es) ≤ length es
-pairs-sum [] = omega arith
-pairs-sum (a ∷ []) = omega arith
-pairs-sum (a ∷ b ∷ es) = omega (arith, pairs-sum es)
-
 -- the first places of offsets that stand in a longer table
 pub starts-front : (g : ℕ → List ℕ) (k n : ℕ) (starts₀ starts rest : List ℕ) → starts ≡ over (offsets g k) starts₀ → length starts ≡ n → k + 1 ≤ n → take (k + 1) (starts ++ rest) ≡ offsets g k
 starts-front g k n starts₀ starts rest e l h =
@@ -56,6 +55,9 @@ module _ {flags pairs : List ℕ} {t : Tables} (ok : Accepted flags pairs t) whe
   abbrev half : ℕ
   half = length pairs / 2
 
+  bodies-below : all (λ bs. all (λ b. ltb b (length flags)) bs) cs ≡ true
+  bodies-below = all-weaken (fits (length flags)) (λ bs. all (λ b. ltb b (length flags)) bs) cs (fits-in (length flags)) (ok .sound)
+
   pub parts-are : (n : ℕ) → n ≡ half → partsAt n [] pairs ≡ cs
   parts-are n e = ap (λ (m : ℕ). partsAt m [] pairs) e ∙ parts-pairs half pairs (ok .even)
 
@@ -66,7 +68,7 @@ module _ {flags pairs : List ℕ} {t : Tables} (ok : Accepted flags pairs t) whe
       (record {
         sized = c ∙ sym (pairs-length half pairs (ok .even));
         few = omega (arith, c, ok .few-pairs);
-        bodies = bodies-in (length flags) cs (ok .sound);
+        bodies = bodies-below;
         room = omega (arith, c);
         starts-length = omega (arith, c);
         members-length = m ∙ sym c;
@@ -74,7 +76,7 @@ module _ {flags pairs : List ℕ} {t : Tables} (ok : Accepted flags pairs t) whe
       })
 
   pub groups-few : (k : ℕ) → k ≡ groupCount promised → k ≤ half
-  groups-few k e = omega (arith, groups-below (length cs) promised (colors-low flags cs), pairs-length half pairs (ok .even))
+  groups-few k e = omega (arith, few-groups flags cs, pairs-length half pairs (ok .even))
 
   pub colors-long : length promised ≡ half
   colors-long = colors-length flags cs ∙ pairs-length half pairs (ok .even)
@@ -90,7 +92,7 @@ module _ {flags pairs : List ℕ} {t : Tables} (ok : Accepted flags pairs t) whe
           few-bodies = ok .few-bodies;
           few = omega (arith, l, ok .few-pairs);
           low = omega (arith, l, groups-few k ek);
-          below = bodies-in (length flags) cs (ok .sound);
+          below = bodies-below;
           small = omega (arith, pairs-sum pairs, ok .even, ok .few-pairs);
           starts = rw ec es;
           constraints = rw ec em;

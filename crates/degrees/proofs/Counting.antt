@@ -3,7 +3,7 @@
 use Prim.Native.Nat.{ℕ, _+_, _≤_, _<_, max}
 use mathlib.Core.Path.{_≡_, refl, sym, ap, _∙_}
 use mathlib.Core.Bool.{Bool, true, false, not, _&&_, _||_}
-use mathlib.Core.List.{List, [], _∷_, _++_}
+use mathlib.Core.List.{List, [], _∷_}
 use native.Mathlib.Omega.{arith}
 use native.Mathlib.Numerals.{add-one}
 use lib.Dec.{ltb, eqb}
@@ -11,7 +11,7 @@ use lib.ListN.{length, getD, set, drop, replicate, length-set, length-replicate,
 use lib.Seq.{getD-set-same, getD-set-other}
 use borrow.Author.Tests.{eqb-true, eqb-false, eq-eqb, ne-eqb, ltb-true, not-true}
 use Rattle.lists.specs.Basics.{one, all, count, maxOf, range, mem}
-use Rattle.lists.proofs.Laws.{and-left, and-right, by-cases, or-right, mem-self, range-high}
+use Rattle.lists.proofs.Laws.{and-left, and-right, by-cases, or-right, mem-self, range-high, all-append, count-few}
 use Rattle.lists.proofs.Ranges.{max-range-suc}
 use Rattle.lists.proofs.Sums.{sum-append}
 use Rattle.frame.specs.Frames.{Constraint, Frame, constraint, constraintsOf, constraints, on, sound, allSound, degree, degreeMax}
@@ -124,14 +124,6 @@ largest-turn g i most more e f = f ∙ rw (e, add-one) (sym (max-range-suc g i))
 
 -- ---- a frame's constraints, counted from 0 on: manifolds, then joints
 
-count-le : (p : Constraint → Bool) (cs : List Constraint) → count p cs ≤ length cs
-count-le p [] = omega arith
-count-le p (c ∷ cs) = by-cases (p c) (λ e. rw e (omega (arith, count-le p cs))) (λ e. rw e (omega (arith, count-le p cs)))
-
-all-append : (p : Constraint → Bool) (xs ys : List Constraint) → all p (xs ++ ys) ≡ (all p xs && all p ys)
-all-append p [] ys = refl
-all-append p (x ∷ xs) ys = by-cases (p x) (λ e. rw e (all-append p xs ys)) (λ e. rw e)
-
 module _ (f : Frame) (n : ℕ) (long : n ≡ length (f .types)) (ok : allSound f ≡ true) (few : length (constraints f) ≤ 8192) where
   both-sound : (all (sound n) (f .manifolds) && all (sound n) (f .joints)) ≡ true
   unfolding allSound
@@ -141,7 +133,7 @@ module _ (f : Frame) (n : ℕ) (long : n ≡ length (f .types)) (ok : allSound f
   on-both b = sum-append (λ c. one (on b c)) (f .manifolds) (f .joints)
 
   few-on : (b : ℕ) → count (on b) (f .manifolds) + count (on b) (f .joints) ≤ 8192
-  few-on b = omega (arith, on-both b, count-le (on b) (constraints f), few)
+  few-on b = omega (arith, on-both b, count-few (on b) (constraints f), few)
 
   module _ (zeros : List ℕ) (z : zeros ≡ replicate n 0) where
     zero-at : (b : ℕ) → b < n → getD zeros b 0 ≡ 0

@@ -1,11 +1,11 @@
 -- The header, the types, the pairs and the joints, each written behind the one before, are the file; what lies past it is kept.
 use Prim.Native.Nat.{ℕ, _+_, _*_, _≤_}
-use mathlib.Core.Path.{_≡_, refl, ap, _∙_}
+use mathlib.Core.Path.{_≡_, refl, _∙_}
 use mathlib.Core.List.{List, _++_}
 use native.Mathlib.Omega.{arith}
-use lib.ListN.{length, drop, length-append}
+use lib.ListN.{length, length-append}
 use Rattle.lists.specs.Basics.{over, put}
-use Rattle.lists.proofs.Puts.{put-long, put-then}
+use Rattle.lists.proofs.Puts.{put-long, put-then, put-first}
 use Rattle.frame.specs.Questions.{pairCount}
 use Rattle.frame_file.specs.Written.{halfBytes, wordBytes, fileLength, headerBytes, pairBytes, jointBytes, fileOf, Writable}
 use Rattle.frame_file.proofs.Decoded.{pair-bytes-long, joint-bytes-long}
@@ -13,11 +13,6 @@ use Rattle.frame_file.proofs.Decoded.{pair-bytes-long, joint-bytes-long
 header-long : (b m j : ℕ) → length (headerBytes b m j) ≡ 11
 unfolding headerBytes wordBytes halfBytes
 header-long b m j = refl
-
--- put from place 0 on
-pub put-over : (new old : List ℕ) → put 0 new old ≡ over new old
-unfolding put
-put-over new old = let e : 0 + length new ≡ length new = omega arith in ap (λ (n : ℕ). new ++ drop n old) e
 
 module _ (ts ps js es : List ℕ) (w : Writable ts ps js es) (o₀ o₁ o₂ o₃ o₄ : List ℕ) (h : fileLength (length ts) (pairCount ps) (length es) ≤ length o₀)
     (e₁ : o₁ ≡ put 0 (headerBytes (length ts) (pairCount ps) (length es)) o₀) (e₂ : o₂ ≡ put 11 ts o₁) (e₃ : o₃ ≡ put (11 + length ts) (pairBytes ps) o₂) (e₄ : o₄ ≡ put (11 + length ts + 4 * pairCount ps) (jointBytes js es) o₃) where
@@ -43,4 +38,4 @@ module _ (ts ps js es : List ℕ) (w : Writable ts ps js es) (o₀ o₁ o₂ o�
       let f₃ : o₄ ≡ put (11 + length ts) rest o₂ = put-then (11 + length ts) (pairBytes ps) o₂ o₃ e₃ joints o₄ (11 + length ts + 4 * pairCount ps) (omega (arith, pairs-size)) e₄ (omega (arith, nj, long₂)) in
       let f₂ : o₄ ≡ put 11 (ts ++ rest) o₁ = put-then 11 ts o₁ o₂ e₂ rest o₄ (11 + length ts) (omega arith) f₃ (omega (arith, nr, long₁)) in
       put-then 0 header o₀ o₁ e₁ (ts ++ rest) o₄ 11 (omega (arith, header-long (length ts) (pairCount ps) (length es))) f₂ (omega (arith, length-append ts rest, nr))
-      ∙ put-over (header ++ (ts ++ rest)) o₀
+      ∙ put-first (header ++ (ts ++ rest)) o₀

@@ -1,26 +1,19 @@
 -- A file that passed questions 1 to 5 has room for all its parts; the two runs of pairs fill the front and the rest of one table.
 use Prim.Native.Nat.{ℕ, _+_, _-_, _*_, _/_, _%_, _≤_}
-use mathlib.Core.Path.{_≡_, refl, sym, ap, _∙_}
-use mathlib.Core.Bool.{Bool, true, _&&_, cond}
-use mathlib.Core.List.{List, [], _∷_, _++_, map, append-nil}
+use mathlib.Core.Path.{_≡_, ap, _∙_}
+use mathlib.Core.Bool.{true, cond}
+use mathlib.Core.List.{List, _++_, map}
 use native.Mathlib.Omega.{arith}
 use lib.Dec.{eqb}
-use lib.ListN.{length, take, drop, length-drop, length-append, drop-of-length-le}
-use lib.Seq.{take-at, drop-at, take-all, length-take-le}
-use borrow.Author.Tests.{eqb-true, eqb-false}
-use Rattle.lists.proofs.Laws.{by-cases}
-use Rattle.frame.specs.Questions.{question, asked, typesKnown, bits}
-use Rattle.frame.specs.Files.{countB, countM, countJ, typesIn, enabledIn, manifoldsIn, jointsIn, pairsFrom, enabledFrom, sizeQuestions, fileQuestions}
-use Rattle.frame.proofs.Questions.{asked-append}
-use Rattle.frame.proofs.Files.{Sized, sized}
+use lib.ListN.{length, take, drop, length-drop, length-append}
+use lib.Seq.{take-all, length-take-le}
+use Rattle.lists.proofs.Fills.{two-parts}
+use Rattle.frame.specs.Files.{countB, countM, countJ, typesIn, manifoldsIn, jointsIn, pairsFrom, enabledFrom}
+use Rattle.frame.proofs.Files.{Sized, file-sized}
 use Rattle.frame.specs.Frames.{flagOf, frameOf, constraints, allSound, degreeMax}
 use Rattle.island.specs.Calls.{Rooms, islandRefusal, Built}
 use Rattle.island_numbers.specs.Numbers.{Sortable}
 use Rattle.frame_parts.specs.Parts.{Paired, Decodable, Decoded, Countable}
-
-pub file-sized : (bs : List ℕ) → asked (fileQuestions bs) ≡ 0 → Sized bs
-file-sized bs e = sized bs (by-cases (eqb (asked (sizeQuestions bs)) 0) (eqb-true (asked (sizeQuestions bs)) 0)
-    (λ n. absurd (eqb-false (asked (sizeQuestions bs)) 0 n (sym (ap (λ (t : Bool). cond t (asked (question 5 (typesKnown (typesIn bs) && bits (enabledIn bs)) ∷ [])) (asked (sizeQuestions bs))) n) ∙ sym (asked-append (sizeQuestions bs) (question 5 (typesKnown (typesIn bs) && bits (enabledIn bs)) ∷ []) refl) ∙ e))))
 
 -- ---- a table in two parts
 
@@ -29,12 +22,6 @@ rest-part n l = take-all (length l - n) (drop n l) (omega (arith, length-drop n 
 
 pub rest-long : (n : ℕ) (l : List ℕ) → length (take (length l - n) (drop n l)) ≡ length l - n
 rest-long n l = ap length (rest-part n l) ∙ omega (arith, length-drop n l)
-
-pub two-parts : (n : ℕ) (l a b : List ℕ) → length a ≡ n → take n (a ++ drop n l) ++ (b ++ drop (length (a ++ drop n l) - n) (drop n (a ++ drop n l))) ≡ a ++ b
-two-parts n l a b e =
-    let d = drop n l in
-    let k : length d ≤ length (a ++ d) - n = omega (arith, length-append a d) in
-    rw (take-at a d n e, drop-at a d n e, drop-of-length-le d k, append-nil b)
 
 -- ---- the parts of a file
 
@@ -113,9 +100,6 @@ degree-ready k ts ps m es cs h z = (length-take-le (length ts) cs (h .counts), r
 pub degree-rest : (k : ℕ) (ts ps : List ℕ) (m : ℕ) (es : List ℕ) (r : ℕ) → k ≡ 0 → r ≡ degreeMax (frameOf ts (take (2 * m) ps) (take (length ps - 2 * m) (drop (2 * m) ps)) es)
     → r ≡ cond (eqb k 0) (degreeMax (frameOf ts (take (2 * m) ps) (drop (2 * m) ps) es)) 0
 degree-rest k ts ps m es r z e = e ∙ rw (z, rest-part (2 * m) ps)
-
-pub fronts-long : (m j : ℕ) (ms js : List ℕ) → m ≤ length ms → j ≤ length js → length (take m ms ++ take j js) ≡ m + j
-fronts-long m j ms js h l = length-append (take m ms) (take j js) ∙ omega (arith, length-take-le m ms h, length-take-le j js l)
 
 pub sortable-by : {n m : ℕ} {ks ss os ns : List ℕ} → n ≡ m → Sortable m ks ss os ns → Sortable n ks ss os ns
 sortable-by e h = rw e h

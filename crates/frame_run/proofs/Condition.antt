@@ -3,14 +3,10 @@ use Prim.Native.Nat.{ℕ}
 use mathlib.Core.Path.{_≡_, refl, sym, _∙_}
 use mathlib.Core.Bool.{true, cond}
 use mathlib.Core.List.{List, [], _∷_}
-use native.Mathlib.Omega.{arith}
-use lib.Dec.{eqb}
-use borrow.Author.Tests.{eqb-true, eqb-false}
-use Rattle.lists.proofs.Laws.{by-cases}
 use Rattle.frame.specs.Frames.{allSound}
 use Rattle.frame.specs.Questions.{question, asked}
 use Rattle.frame.specs.Files.{decode, fileQuestions, frameRefusal}
-use Rattle.frame.proofs.Questions.{asked-append}
+use Rattle.frame.proofs.Questions.{passed, asked-append, zero-cond}
 use Rattle.schedules.proofs.Condition3.{condition3}
 use Rattle.frame_tables.specs.Filled.{soundness}
 use Rattle.frame_run.specs.Calls.{Lent, roomIn, refusalIn}
@@ -19,28 +15,16 @@ use Rattle.frame_run.proofs.Runs.{all-asked}
 
 -- a frame that the run accepts is accepted, and the tables have room
 module _ (bs : List ℕ) (l : Lent) (e : refusalIn bs l ≡ 0) where
-  read : asked (fileQuestions bs) ≡ 0
-  read = by-cases (eqb (asked (fileQuestions bs)) 0)
-      (λ t. eqb-true _ 0 t)
-      (λ t.
-      let z : asked (fileQuestions bs) ≡ 0 = rw t at (sym (all-asked bs (roomIn bs l)) ∙ e) in
-      absurd (eqb-false _ 0 t z))
-
-  asked-rest : cond (roomIn bs l) (soundness bs) 6 ≡ 0
-  asked-rest = rw read at (sym (all-asked bs (roomIn bs l)) ∙ e)
+  parts : (asked (fileQuestions bs) ≡ 0) × (cond (roomIn bs l) (soundness bs) 6 ≡ 0)
+  parts = zero-cond (asked (fileQuestions bs)) (cond (roomIn bs l) (soundness bs) 6) (sym (all-asked bs (roomIn bs l)) ∙ e)
 
   pub room : roomIn bs l ≡ true
-  room = by-cases (roomIn bs l)
-      (λ t. t)
-      (λ t.
-      let z : 6 ≡ 0 = rw t at asked-rest in
-      absurd (omega (arith, z)))
+  room = passed (roomIn bs l) (soundness bs) 5 (parts .1) .0
 
   pub accepted : frameRefusal bs ≡ 0
   unfolding frameRefusal soundness
   accepted =
-      let s : soundness bs ≡ 0 = rw room at asked-rest in
-      asked-append (fileQuestions bs) (question 7 (allSound (decode bs)) ∷ []) refl ∙ rw read s
+      asked-append (fileQuestions bs) (question 7 (allSound (decode bs)) ∷ []) refl ∙ rw (parts .0) (passed (roomIn bs l) (soundness bs) 5 (parts .1) .1)
 
 pub conditioned : Claim
 conditioned bs l m r p o e h s =

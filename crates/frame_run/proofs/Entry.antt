@@ -7,7 +7,7 @@ use mathlib.Core.List.{List, [], _∷_}
 use native.Mathlib.Omega.{arith}
 use lib.Dec.{leb, eqb}
 use lib.ListN.{length}
-use borrow.Author.Tests.{leb-true, eqb-true, eqb-false, ne-eqb}
+use borrow.Author.Tests.{leb-true, eqb-true, ne-eqb}
 use Rattle.lists.specs.Basics.{all}
 use Rattle.lists.proofs.Laws.{by-cases, and-left, and-right}
 use Rattle.frame.specs.Frames.{allSound}
@@ -21,12 +21,13 @@ use Rattle.plan_questions.proofs.Rooms.{Fitted, fitted, fitted-all}
 use Rattle.schedules.specs.Runs.{refused, runOf}
 use Rattle.island_run.proofs.Rooms.{SameLengths}
 use Rattle.frame_tables.specs.Filled.{soundness}
-use Rattle.frame_parts.proofs.Decoding.{file-sized}
 use Rattle.run_answer.specs.declared.Answer.{Answer}
 use Rattle.run_answer.specs.declared.Answer.the-variants as answer
 use Rattle.frame_run.specs.Calls.{Lent, roomFor, roomIn, refusalIn, Worked, Ran}
 use Rattle.frame_run.specs.Sized.{Spacious, RanSized}
 use Rattle.frame_run.proofs.Runs.{all-asked}
+use Rattle.frame.proofs.Files.{file-sized}
+use Rattle.frame.proofs.Questions.{passed, zero-cond}
 
 -- ---- refusals 1 to 6
 
@@ -110,20 +111,10 @@ module _ (bs : List ℕ) (l : Lent) where
       (first : n ≡ cond (eqb read 0) (cond room 0 6) read) where
     -- where it is 0, questions 1 to 6 are passed
     pub file-passed : n ≡ 0 → asked (fileQuestions bs) ≡ 0
-    file-passed z = by-cases (eqb read 0)
-        (λ t. sym file ∙ eqb-true read 0 t)
-        (λ t.
-        let y : n ≡ read = first ∙ rw t in
-        absurd (eqb-false read 0 t (sym y ∙ z)))
+    file-passed z = sym file ∙ zero-cond read (cond room 0 6) (sym first ∙ z) .0
 
     pub room-passed : n ≡ 0 → roomIn bs l ≡ true
-    room-passed z =
-        let q = file-passed z in
-        let r : read ≡ 0 = file ∙ q in by-cases room
-        (λ t. sym (roomed q) ∙ t)
-        (λ t.
-        let y : n ≡ 6 = first ∙ rw (r, t) in
-        absurd (omega (arith, y, z)))
+    room-passed z = sym (roomed (file-passed z)) ∙ passed room 0 5 (zero-cond read (cond room 0 6) (sym first ∙ z) .1) .0
 
     -- otherwise it is the run's
     roomless : (n ≡ 0 → ⊥) → eqb read 0 ≡ true → n ≡ 6

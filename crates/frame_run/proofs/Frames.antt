@@ -1,6 +1,6 @@
 -- The constraints with label i in the frame's tables are those of island i, and their pairs in the pair table are its endpoint pairs. So the
 -- islands' calls made from the tables are the run's.
-use Prim.Native.Nat.{ℕ, zero, suc, _+_, _*_, _≤_, _<_}
+use Prim.Native.Nat.{ℕ, _+_, _*_, _≤_, _<_}
 use mathlib.Core.Path.{_≡_, refl, sym, ap, _∙_}
 use mathlib.Core.Bool.{true}
 use mathlib.Core.List.{List, [], _∷_, _++_, map}
@@ -9,25 +9,26 @@ use lib.Dec.{eqb}
 use lib.ListN.{length, getD, length-map, length-append, List·getD-map}
 use Rattle.lists.specs.Basics.{count, joinMap, range}
 use Rattle.lists.proofs.Laws.{by-cases, filter-mem, range-high, getD-any, length-range, filter-length-le, sum-one}
-use Rattle.lists.proofs.Ranges.{map-append, filter-ext-in}
+use Rattle.lists.proofs.Ranges.{map-append, filter-ext-in, joinMap-ext-in}
 use Rattle.lists.proofs.Sums.{length-filter, sum-le, sum-times}
 use Rattle.frame.specs.Frames.{Constraint, Frame, constraints, constraintAt, constraintsOf, nothing, numbers, bodies, conflicts, on, touches, flagOf, turnCount, degree, degreeSum}
 use Rattle.frame.specs.Questions.{asked}
 use Rattle.frame.specs.Files.{countM, countJ, pairsAt, jointsAt, typesIn, manifoldsIn, jointsIn, enabledIn, decode, fileQuestions}
 use Rattle.connected_sets.specs.Islands.{islandCount, label, ofIsland}
 use Rattle.groups.specs.Groups.{pairsOf, members}
-use Rattle.painting.proofs.Pairs.{pair-at}
+use Rattle.groups.proofs.Pairs.{pair-at, pairs-append}
 use Rattle.plan_questions.specs.Plans.{updateRefusal}
 use Rattle.schedules.specs.Runs.{Call, flags, pairsFor, planAt, groupCalls, schedule, rising, turnOf, turnsOf, runCalls}
 use Rattle.schedules.proofs.Accepted.{Accepted}
 use Rattle.schedules.proofs.Plans.{accepts}
-use Rattle.schedules.proofs.Condition3.{join-ext, run-turns, run-takes}
+use Rattle.schedules.proofs.Condition3.{run-turns, run-takes}
 use Rattle.island_numbers.specs.Numbers.{pairAt, pairsAmong}
 use Rattle.turn_table.specs.Turns.{none, Room}
 use Rattle.group_run.specs.Appends.{callsIn, planCalls, addedBy}
 use Rattle.one_island.specs.Island.{islandCalls}
 use Rattle.island_run.specs.Islands.{callsOf}
-use Rattle.frame_tables.proofs.Tables.{pairs-long, manifolds-count, joints-count}
+use Rattle.frame_tables.proofs.Tables.{pairs-long}
+use Rattle.frame.proofs.Files.{constraint-count}
 
 -- three entries a turn
 pub turns-long : (cs : List Call) → length (joinMap turnOf cs) ≡ 3 * length cs
@@ -54,12 +55,6 @@ ends-of (a ∷ []) es = refl
 ends-of (a ∷ b ∷ r) [] = ap (λ (l : List (List ℕ)). (a ∷ b ∷ []) ∷ l) (ends-of r [])
 ends-of (a ∷ b ∷ r) (e ∷ es) = ap (λ (l : List (List ℕ)). (a ∷ b ∷ []) ∷ l) (ends-of r es)
 
-pairs-append : (n : ℕ) (xs ys : List ℕ) → length xs ≡ 2 * n → pairsOf (xs ++ ys) ≡ pairsOf xs ++ pairsOf ys
-pairs-append n [] ys e = refl
-pairs-append n (a ∷ []) ys e = absurd (omega arith)
-pairs-append zero (a ∷ b ∷ xs) ys e = absurd (omega arith)
-pairs-append (suc n) (a ∷ b ∷ xs) ys e = ap (λ (l : List (List ℕ)). (a ∷ b ∷ []) ∷ l) (pairs-append n xs ys (omega arith))
-
 module _ (bs : List ℕ) where
   abbrev pairs : List ℕ
   pairs = manifoldsIn bs ++ jointsIn bs
@@ -75,22 +70,19 @@ module _ (bs : List ℕ) where
     abbrev f : Frame
     f = decode bs
 
-    pub constraints-long : length (constraints f) ≡ countM bs + countJ bs
-    constraints-long = length-append (f .manifolds) (f .joints) ∙ omega (arith, manifolds-count bs e, joints-count bs e)
-
     pub pairs-twice : length pairs ≡ 2 * (countM bs + countJ bs)
     pairs-twice = length-append (manifoldsIn bs) (jointsIn bs) ∙ omega (arith, pairs-long bs (pairsAt bs) 4 (countM bs), pairs-long bs (jointsAt bs) 5 (countJ bs))
 
     ends-at : (n : ℕ) → n < length (constraints f) → pairAt pairs n ≡ constraintAt f n .ends
     unfolding constraintAt
     ends-at n h =
-        sym (pair-at n pairs (omega (arith, pairs-twice, constraints-long)))
+        sym (pair-at n pairs (omega (arith, pairs-twice, constraint-count bs)))
         ∙ ap (λ (l : List (List ℕ)). getD l n []) (sym all-ends)
         ∙ List·getD-map (λ (c : Constraint). c .ends) (constraints f) n nothing
 
     pairs-are : (i : ℕ) → pairsAmong pairs (ofIsland f i) ≡ pairsFor f i
     unfolding pairsAmong pairsFor ofIsland
-    pairs-are i = join-ext _ _ (ofIsland f i) (λ n m. ends-at n (omega (arith, range-high n 0 (length (constraints f)) (filter-mem (λ k. eqb i (label f (constraintAt f k))) n (numbers f) m .0))))
+    pairs-are i = joinMap-ext-in _ _ (ofIsland f i) (λ n m. ends-at n (omega (arith, range-high n 0 (length (constraints f)) (filter-mem (λ k. eqb i (label f (constraintAt f k))) n (numbers f) m .0))))
 
     -- ---- the calls
 
@@ -100,7 +92,7 @@ module _ (bs : List ℕ) where
 
     pub calls-are : callsOf (typesIn bs) (map flagOf (typesIn bs)) pairs (map (label f) (constraints f)) (islandCount f) ≡ runCalls f
     unfolding callsOf schedule
-    calls-are = join-ext _ _ (range (islandCount f)) (λ i m. island-calls i)
+    calls-are = joinMap-ext-in _ _ (range (islandCount f)) (λ i m. island-calls i)
 
     module _ (ok : Accepted f) where
       pub updates-accepted : (i : ℕ) → i < islandCount f → updateRefusal (map flagOf (typesIn bs)) (pairsAmong pairs (members (map (label f) (constraints f)) i)) true ≡ 0
@@ -110,7 +102,7 @@ module _ (bs : List ℕ) where
       -- ---- their room
       turns-few : turnCount f ≤ countM bs + countJ bs
       unfolding turnCount
-      turns-few = omega (arith, length-filter (touches f) (constraints f), filter-length-le (touches f) (constraints f), constraints-long)
+      turns-few = omega (arith, length-filter (touches f) (constraints f), filter-length-le (touches f) (constraints f), constraint-count bs)
 
       degree-few : (b : ℕ) → degree f b ≤ 8192 * 1
       unfolding degree

@@ -7,14 +7,16 @@ use mathlib.Core.List.{List, [], _∷_, _++_, map}
 use native.Mathlib.Omega.{arith}
 use lib.Dec.{eqb}
 use lib.ListN.{length, take, length-map}
-use Rattle.lists.specs.Basics.{over, put, joinMap}
+use Rattle.lists.specs.Basics.{joinMap}
 use Rattle.lists.proofs.Laws.{by-cases, and-left}
+use Rattle.lists.proofs.Puts.{put-first}
+use Rattle.island.proofs.Entry.{built-by}
+use lib.Seq.{length-paste-head}
 use Rattle.frame.specs.Frames.{Frame, constraints, allSound, flagOf}
 use Rattle.frame.specs.Questions.{question, asked, typesKnown, bits}
 use Rattle.frame.specs.Files.{countB, countM, countJ, jointsAt, typesIn, enabledIn, decode, fileQuestions}
 use Rattle.frame.proofs.Questions.{asked-append}
 use Rattle.connected_sets.specs.Islands.{islandCount, label}
-use Rattle.island.specs.Calls.{Built}
 use Rattle.groups.specs.Groups.{members}
 use Rattle.plan_questions.specs.Plans.{Tables, roomy, updateRefusal}
 use Rattle.plan_questions.proofs.Rooms.{fitted-roomy}
@@ -28,20 +30,13 @@ use Rattle.island_run.specs.Islands.{callsOf, Prepared}
 use Rattle.island_run.proofs.Rooms.{SameLengths, room-kept}
 use Rattle.frame_tables.specs.declared.Filling.{Filling}
 use Rattle.frame_tables.specs.Filled.{labelsIn, soundness, Fills, Roomy}
-use Rattle.frame_parts.proofs.Decoding.{file-sized, fronts-long}
-use Rattle.frame_tables.proofs.Tables.{file-known, file-accepted, types-long, labels-are, labels-sortable, enabled-long}
+use Rattle.frame_tables.proofs.Tables.{file-accepted, types-long, labels-are, labels-sortable, enabled-long}
 use Rattle.run_answer.specs.declared.Report.{Report}
 use Rattle.run_answer.specs.declared.Answer.{Answer}
-use Rattle.run_answer.specs.Answers.{runNumber, runReport, Told}
+use Rattle.run_answer.specs.Answers.{runReport, Told}
 use Rattle.frame_run.specs.Sized.{Spacious, RanSized}
 use Rattle.frame_run.proofs.Frames.{turns-long, pairs-twice, calls-are, updates-accepted, run-room}
-
-put-first : (new old : List ℕ) → put 0 new old ≡ over new old
-unfolding put
-put-first new old = let e : 0 + length new ≡ length new = omega arith in rw e
-
-built-as : (f : Frame) (k : ℕ) (p₀ b₀ m₀ j₀ p b m j : List ℕ) (x y n i : ℕ) → x ≡ y → n ≡ i → Built f k p₀ b₀ m₀ j₀ p b m j x n → Built f k p₀ b₀ m₀ j₀ p b m j y i
-built-as f k p₀ b₀ m₀ j₀ p b m j x y n i e g h = rw (e, g) at h
+use Rattle.frame.proofs.Files.{file-sized, file-known}
 
 -- the room that filling the tables needs
 pub roomy-of : (bs pa bi mi ji ts ip ns : List ℕ) (t : Tables) → Spacious bs pa bi mi ji ts ip ns t → Roomy bs pa bi mi ji ns (t .constraint-colors) (t .scratch-offsets) (t .color-offsets) (t .body-stamps)
@@ -105,7 +100,7 @@ module _ (bs : List ℕ) (e : asked (fileQuestions bs) ≡ 0) where
         (λ t. absurd (omega (arith, no-islands t)))
 
     labels-long : countM bs ≤ length mi′ → countJ bs ≤ length ji′ → length labels ≡ countM bs + countJ bs
-    labels-long a b = fronts-long (countM bs) (countJ bs) mi′ ji′ a b
+    labels-long a b = length-paste-head mi′ (countM bs) ji′ (countJ bs) a b
 
     -- the tables of labels, cut as the code cuts them
     fronts : (m : ℕ) → m ≡ countM bs → take m mi′ ++ take (length es) ji′ ≡ labels
@@ -169,7 +164,7 @@ module _ (bs : List ℕ) (e : asked (fileQuestions bs) ≡ 0) where
             refused = told .refused ∙ rw refusal-is;
             report = rep ∙ rw (q, p, k, sound-islands t, rw t at (h .degree));
             turns = d .table ∙ put-first (joinMap turnOf (turnsOf (runCalls f))) tt ∙ rw q;
-            islands = built-as f (soundness bs) pa bi mi ji pa′ bi′ mi′ ji′ (r .refusal) (runNumber answer) (r .islands) (runReport answer .islands) (sym (told .refusal)) (sym (ap (λ (x : Report). x .islands) rep)) (h .islands);
+            islands = built-by (h .islands) (told .refusal) (ap (λ (x : Report). x .islands) rep);
           }
 
       refused-ran : allSound f ≡ false → RanSized bs pa bi mi ji tt pa′ bi′ mi′ ji′ tt′ answer
@@ -184,7 +179,7 @@ module _ (bs : List ℕ) (e : asked (fileQuestions bs) ≡ 0) where
             refused = told .refused ∙ rw refusal-is;
             report = rep ∙ rw q;
             turns = d .table ∙ put-first [] tt ∙ rw q;
-            islands = built-as f (soundness bs) pa bi mi ji pa′ bi′ mi′ ji′ (r .refusal) (runNumber answer) (r .islands) (runReport answer .islands) (sym (told .refusal)) (no-islands t ∙ sym (ap (λ (x : Report). x .islands) rep)) (h .islands);
+            islands = built-by (h .islands) (told .refusal) (ap (λ (x : Report). x .islands) rep ∙ sym (no-islands t));
           }
 
       pub ran : RanSized bs pa bi mi ji tt pa′ bi′ mi′ ji′ tt′ answer

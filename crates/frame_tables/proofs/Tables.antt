@@ -2,26 +2,25 @@
 -- none after 7, and either way they can be sorted.
 use Prim.Native.Nat.{ℕ, zero, suc, _+_, _*_, _/_, _%_, _≤_}
 use mathlib.Core.Path.{_≡_, refl, sym, ap, _∙_, subst}
-use mathlib.Core.Bool.{true, _&&_, cond}
+use mathlib.Core.Bool.{true, cond}
 use mathlib.Core.List.{List, [], _∷_, _++_, map}
 use native.Mathlib.Omega.{arith}
 use lib.Dec.{eqb}
-use lib.ListN.{length, take, drop, replicate, length-map, length-append, length-drop, length-replicate}
+use lib.ListN.{length, take, drop, replicate, length-map, length-append, length-drop, length-replicate, replicate-append-replicate}
 use lib.Seq.{take-at, drop-at, length-take-le}
 use borrow.Author.Tests.{le-leb, eq-eqb}
-use Rattle.lists.proofs.Laws.{by-cases, clashes}
+use Rattle.lists.proofs.Laws.{by-cases}
 use Rattle.lists.proofs.Ranges.{map-append}
 use Rattle.frame.specs.Frames.{Frame, constraints, frameOf, none, allSound, degreeMax}
-use Rattle.frame.specs.Questions.{question, asked, fewEach, typesKnown, bits}
-use Rattle.frame.specs.Files.{countB, countM, countJ, pairsAt, jointsAt, typesIn, manifoldsIn, jointsIn, enabledIn, pairsFrom, enabledFrom, decode, sizeQuestions, fileQuestions, frameRefusal}
+use Rattle.frame.specs.Questions.{question, asked, fewEach}
+use Rattle.frame.specs.Files.{countB, countM, countJ, pairsAt, jointsAt, typesIn, manifoldsIn, jointsIn, enabledIn, pairsFrom, enabledFrom, decode, fileQuestions, frameRefusal}
 use Rattle.frame.proofs.Questions.{asked-append}
-use Rattle.frame.proofs.Files.{Sized}
+use Rattle.frame.proofs.Files.{Sized, manifolds-count, joints-count, constraint-count, file-sized, file-known}
 use Rattle.connected_sets.specs.Islands.{label}
 use Rattle.island.specs.Calls.{Rooms, islandRefusal, labelsAfter, Built}
-use Rattle.schedules.proofs.Accepted.{Accepted, accepted, pairs-count}
+use Rattle.schedules.proofs.Accepted.{Accepted, accepted}
 use Rattle.island_numbers.specs.Numbers.{Labels, Sortable, byIsland}
 use Rattle.frame_parts.specs.Parts.{Decoded, Countable}
-use Rattle.frame_parts.proofs.Decoding.{file-sized}
 use Rattle.frame_tables.specs.Filled.{Roomy, Fills, labelsIn, soundness}
 use Rattle.frame_tables.proofs.Labels.{frame-labels, none-labels}
 
@@ -37,10 +36,6 @@ unfolding enabledFrom
 enabled-long bs s zero = refl
 enabled-long bs s (suc n) = ap suc (enabled-long bs (s + 5) n)
 
-replicate-more : (m n : ℕ) → replicate m none ++ replicate n none ≡ replicate (m + n) none
-replicate-more zero n = let e : 0 + n ≡ n = omega arith in rw e
-replicate-more (suc m) n = let e : suc m + n ≡ suc (m + n) = omega arith in rw e (ap (λ (l : List ℕ). none ∷ l) (replicate-more m n))
-
 module _ (bs : List ℕ) (e : asked (fileQuestions bs) ≡ 0) where
   abbrev s : Sized bs
   s = file-sized bs e
@@ -48,26 +43,11 @@ module _ (bs : List ℕ) (e : asked (fileQuestions bs) ≡ 0) where
   abbrev f : Frame
   f = decode bs
 
-  pub file-known : (typesKnown (typesIn bs) && bits (enabledIn bs)) ≡ true
-  file-known =
-      by-cases (typesKnown (typesIn bs) && bits (enabledIn bs)) (λ t. t)
-      (λ t. absurd (by-cases (eqb (asked (sizeQuestions bs)) 0)
-      (λ z. let y : 0 ≡ 5 = sym e ∙ asked-append (sizeQuestions bs) (question 5 (typesKnown (typesIn bs) && bits (enabledIn bs)) ∷ []) refl ∙ rw (z, t) in omega arith)
-      (λ z. clashes (eqb (asked (sizeQuestions bs)) 0) (eq-eqb (asked (sizeQuestions bs)) 0 (sym (asked-append (sizeQuestions bs) (question 5 (typesKnown (typesIn bs) && bits (enabledIn bs)) ∷ []) refl ∙ rw z) ∙ e)) z)))
-
   pub types-long : length (typesIn bs) ≡ countB bs
   types-long = length-take-le (countB bs) (drop 11 bs) (omega (arith, length-drop 11 bs, s .bytes))
 
-  pub manifolds-count : length (f .manifolds) ≡ countM bs
-  unfolding decode
-  manifolds-count = pairs-count bs (pairsAt bs) 4 (countM bs) []
-
-  pub joints-count : length (f .joints) ≡ countJ bs
-  unfolding decode
-  joints-count = pairs-count bs (jointsAt bs) 5 (countJ bs) (enabledIn bs)
-
   pub few-constraints : length (constraints f) ≤ 8192
-  few-constraints = omega (arith, length-append (f .manifolds) (f .joints), manifolds-count, joints-count, s .manifolds, s .joints)
+  few-constraints = omega (arith, constraint-count bs, s .manifolds, s .joints)
 
   pub file-accepted : allSound f ≡ true → Accepted f
   unfolding frameRefusal
@@ -84,11 +64,11 @@ module _ (bs : List ℕ) (e : asked (fileQuestions bs) ≡ 0) where
 
     pub labels-are : labelsIn bs mi′ ji′ ≡ cond (allSound f) (map (label f) (constraints f)) (replicate (countM bs + countJ bs) none)
     labels-are =
-        let a = front-labels mi mi′ (map (label f) (f .manifolds)) (countM bs) (length-map (f .manifolds) (label f) ∙ manifolds-count) (built .manifold-labels) in
-        let b = front-labels ji ji′ (map (label f) (f .joints)) (countJ bs) (length-map (f .joints) (label f) ∙ joints-count) (built .joint-labels) in
+        let a = front-labels mi mi′ (map (label f) (f .manifolds)) (countM bs) (length-map (f .manifolds) (label f) ∙ manifolds-count bs) (built .manifold-labels) in
+        let b = front-labels ji ji′ (map (label f) (f .joints)) (countJ bs) (length-map (f .joints) (label f) ∙ joints-count bs) (built .joint-labels) in
         rw (a, b) (by-cases (allSound f)
         (λ t. rw t (sym (map-append (label f) (f .manifolds) (f .joints))))
-        (λ t. rw t (replicate-more (countM bs) (countJ bs))))
+        (λ t. rw t (replicate-append-replicate (countM bs) (countJ bs) none)))
 
     pub labels-sortable : Labels n (labelsIn bs mi′ ji′)
     unfolding soundness
@@ -132,7 +112,7 @@ module _ (bs : List ℕ) (e : asked (fileQuestions bs) ≡ 0) where
             eq-eqb (length (manifoldsIn bs) % 2) 0 (omega (arith, lm)),
             eq-eqb (length (jointsIn bs) % 2) 0 (omega (arith, lj)),
             eq-eqb (length (enabledIn bs)) (length (jointsIn bs) / 2) (omega (arith, lj, enabled-long bs (jointsAt bs) (countJ bs))),
-            file-known,
+            file-known bs e,
             le-leb (length (typesIn bs)) (length pa) (omega (arith, types-long, room .parents)),
             le-leb (length (typesIn bs)) (length bi) (omega (arith, types-long, room .body-islands)),
             le-leb (length (manifoldsIn bs) / 2) (length mi) (omega (arith, lm, room .manifold-islands)),

@@ -1,9 +1,8 @@
--- The endpoints of constraints, one after another: what holds of each constraint's holds of all, and a body is among them if it is one
--- of some constraint's. There are no more bodies among endpoints than endpoints. A list is passed body by body, or constraint by
--- constraint.
+-- The endpoints of constraints, one after another: a group's bodies are those among its members' endpoints, and there are no more of
+-- them than endpoints. A list is passed body by body, or constraint by constraint.
 use Prim.Native.Nat.{ℕ, _+_, _≤_, _<_}
-use mathlib.Core.Path.{_≡_, refl, sym, ap, _∙_}
-use mathlib.Core.Bool.{Bool, true, _||_, or-assoc, or-false}
+use mathlib.Core.Path.{_≡_, sym, ap, _∙_}
+use mathlib.Core.Bool.{true, or-false}
 use mathlib.Core.List.{List, [], _∷_, _++_, append-nil}
 use native.Mathlib.Omega.{arith}
 use native.Mathlib.Numerals.{add-one}
@@ -11,32 +10,16 @@ use lib.Dec.{eqb}
 use lib.ListN.{length, getD, take, drop, length-append, take-append-drop}
 use lib.Seq.{take-suc, length-take-le}
 use borrow.Author.Tests.{eqb-true}
-use Rattle.lists.specs.Basics.{one, any, all, sumOf, count, range, mem, joinMap}
+use Rattle.lists.specs.Basics.{one, sumOf, count, range, mem, joinMap}
 use Rattle.lists.proofs.Sums.{sum-le, sum-swap, length-filter}
-use Rattle.lists.proofs.Laws.{or-right, mem-self, any-in, all-append, getD-mem, one-any, at-most-one, sum-one}
-use Rattle.lists.proofs.Ranges.{joinMap-append, filter-ext-in}
+use Rattle.lists.proofs.Laws.{any-in, getD-mem, one-any, at-most-one, sum-one}
+use Rattle.lists.proofs.Ranges.{joinMap-append, filter-ext-in, any-joinMap}
 use Rattle.groups.specs.Groups.{members, groupBodies}
 use Rattle.gathering.specs.Gathers.{among}
 
-any-append : (p : ℕ → Bool) (xs ys : List ℕ) → any p (xs ++ ys) ≡ (any p xs || any p ys)
-any-append p [] ys = refl
-any-append p (x ∷ xs) ys = rw (any-append p xs ys, or-assoc)
-
-pub ends-all : (p : ℕ → Bool) (ends : ℕ → List ℕ) (ms : List ℕ) → ((r : ℕ) → all p (ends r) ≡ true) → all p (joinMap ends ms) ≡ true
-ends-all p ends [] h = refl
-ends-all p ends (r ∷ ms) h = all-append p (ends r) (joinMap ends ms) (h r) (ends-all p ends ms h)
-
-pub ends-ext : (f g : ℕ → List ℕ) (ms : List ℕ) → ((r : ℕ) → mem r ms ≡ true → f r ≡ g r) → joinMap f ms ≡ joinMap g ms
-ends-ext f g [] h = refl
-ends-ext f g (r ∷ ms) h = rw (h r (mem-self r ms), ends-ext f g ms (λ s m. h s (or-right (eqb s r) (mem s ms) m)))
-
-mem-ends : (ends : ℕ → List ℕ) (ms : List ℕ) (b : ℕ) → mem b (joinMap ends ms) ≡ any (λ r. mem b (ends r)) ms
-mem-ends ends [] b = refl
-mem-ends ends (r ∷ ms) b = any-append (eqb b) (ends r) (joinMap ends ms) ∙ ap (λ (t : Bool). mem b (ends r) || t) (mem-ends ends ms b)
-
 pub group-bodies : (nb : ℕ) (cs : List (List ℕ)) (colors : List ℕ) (k : ℕ) → groupBodies nb cs colors k ≡ among nb (joinMap (λ r. getD cs r []) (members colors k))
 unfolding groupBodies among
-group-bodies nb cs colors k = filter-ext-in _ (λ b. mem b (joinMap (λ r. getD cs r []) (members colors k))) (range nb) (λ b m. sym (mem-ends (λ r. getD cs r []) (members colors k) b))
+group-bodies nb cs colors k = filter-ext-in _ (λ b. mem b (joinMap (λ r. getD cs r []) (members colors k))) (range nb) (λ b m. sym (any-joinMap (eqb b) (λ r. getD cs r []) (members colors k)))
 
 pub among-few : (nb : ℕ) (bs : List ℕ) → length (among nb bs) ≤ length bs
 unfolding among
@@ -72,5 +55,5 @@ next-part ends ms i h =
     record {
       joined = rw (add-one i, take-suc ms i 0 h, joinMap-append ends (take i ms) (getD ms i 0 ∷ []), append-nil);
       short = omega (arith, ap length whole, length-append (joinMap ends (take (i + 1) ms)) (joinMap ends (drop (i + 1) ms)));
-      inside = λ b m. mem-ends ends ms b ∙ any-in (λ r. mem b (ends r)) (getD ms i 0) ms (getD-mem ms i h) m;
+      inside = λ b m. any-joinMap (eqb b) ends ms ∙ any-in (λ r. mem b (ends r)) (getD ms i 0) ms (getD-mem ms i h) m;
     }

@@ -12,18 +12,15 @@ use lib.Seq.{take-at, take-all, take-length, take-suc-set, drop-append-add, drop
 use borrow.Author.Tests.{eqb-true, eqb-false, lt-ltb, le-ltb, ltb-true, ltb-false}
 use Rattle.lists.specs.Basics.{one, all, sumOf, range, mem, over, joinMap}
 use Rattle.lists.proofs.Sums.{sum-le, sum-ext, sum-add, sum-filter, sum-getD}
-use Rattle.lists.proofs.Laws.{by-cases, all-getD, filter-mem, range-high}
-use Rattle.lists.proofs.Ranges.{length-joinMap, map-range-suc}
+use Rattle.lists.proofs.Laws.{by-cases, all-intro, all-getD}
+use Rattle.lists.proofs.Ranges.{length-joinMap, map-range-suc, joinMap-ext-in, all-joinMap}
 use Rattle.parts.specs.Parts.{cut, Cut}
 use Rattle.groups.specs.Groups.{members, groupBodies, flatten, offsets}
 use Rattle.groups.proofs.Tables.{flatten-zero, flatten-suc, start-suc}
+use Rattle.groups.proofs.Members.{member-is}
 use Rattle.gathering.specs.Gathers.{among, Fresh, Listed, Gatherable, Gathered}
 use Rattle.parts.proofs.Groups.{group-cut, group-is}
-use Rattle.gathering.proofs.Ends.{ends-all, ends-ext, group-bodies, among-few}
-
-members-below : (colors : List ℕ) (k r : ℕ) → mem r (members colors k) ≡ true → r < length colors
-unfolding members
-members-below colors k r m = omega (arith, range-high r 0 (length colors) (filter-mem (λ r. eqb k (getD colors r 0)) r (range (length colors)) m .0))
+use Rattle.gathering.proofs.Ends.{group-bodies, among-few}
 
 -- ---- the endpoints of the groups before k
 split : (c k w : ℕ) → one (ltb c (suc k)) * w ≡ one (ltb c k) * w + one (eqb k c) * w
@@ -115,10 +112,10 @@ module _ {nb n : ℕ} {cs : List (List ℕ)} {colors color-offsets constraints s
     group-part = group-is (members colors) n color-offsets constraints (p .starts) constraints-listed color h
 
     pub part-below : (r : ℕ) → mem r (cut constraints color-offsets color (color + 1)) ≡ true → r < length colors
-    part-below r m = members-below colors color r (rw group-part at m)
+    part-below r m = member-is colors color r (rw group-part at m) .0
 
     part-ends : joinMap ends (cut constraints color-offsets color (color + 1)) ≡ joinMap (λ r. getD cs r []) (members colors color)
-    part-ends = ap (joinMap ends) group-part ∙ sym (ends-ext (λ r. getD cs r []) ends (members colors color) (λ r m. same r (members-below colors color r m)))
+    part-ends = ap (joinMap ends) group-part ∙ sym (joinMap-ext-in (λ r. getD cs r []) ends (members colors color) (λ r m. same r (member-is colors color r m .0)))
 
     -- the bodies of group `color` can be listed next
     module _ {st scratch starts bodies : List ℕ} {end : ℕ} (v : Gathering nb cs colors n scratch₀ (set starts₀ 0 0) bodies₀ st scratch starts bodies end color) where
@@ -129,7 +126,7 @@ module _ {nb n : ℕ} {cs : List (List ℕ)} {colors color-offsets constraints s
           (record {
             notable = record {
               stampable = record {
-                below = rw (v .st-size) (ends-all below (λ r. getD cs r []) (members colors color) (λ r. all-getD (λ bs. all below bs) [] cs r refl (p .below)));
+                below = rw (v .st-size) (all-joinMap below (λ r. getD cs r []) (members colors color) ∙ all-intro (λ r. all below (getD cs r [])) (members colors color) (λ r m. all-getD (λ bs. all below bs) [] cs r refl (p .below)));
                 small = omega (arith, before-suc cs colors color, before-few cs colors size (suc color), p .small);
               };
               room = omega (arith, v .counted, v .bodies-size, starts-few cs colors nb color, before-suc cs colors color, before-few cs colors size (suc color), p .room);

@@ -88,6 +88,7 @@ module _ (seed b m j : ℕ) (few : fewEach b m j ≡ true) (two : pairsPossible 
   frame-sound =
       rw (count-b seed b m j)
       (all-append (sound b) (constraintsOf (manifolds seed b m j) []) (constraintsOf (joints seed b m j) (enabled seed b m j))
+      ∙ and-both (all (sound b) (constraintsOf (manifolds seed b m j) [])) (all (sound b) (constraintsOf (joints seed b m j) (enabled seed b m j)))
       (pairs-sound b b 2 m seed [] (λ h. two-bodies b m j two (omega (arith, h))))
       (pairs-sound b (b + 2 * m) 3 j seed (enabled seed b m j) (λ h. two-bodies b m j two (omega (arith, h)))))
 

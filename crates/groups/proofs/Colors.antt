@@ -4,14 +4,15 @@ use mathlib.Core.Path.{_≡_, refl, sym, ap, _∙_}
 use mathlib.Core.Bool.{Bool, true, false, _&&_}
 use mathlib.Core.List.{List, [], _∷_, _++_, append-assoc, append-nil}
 use native.Mathlib.Omega.{arith}
-use native.Mathlib.Nat.{mul-le-mul-right}
+use native.Mathlib.Nat.{max-le, mul-le-mul-right}
 use lib.Dec.{leb, ltb, eqb}
 use lib.ListN.{length, getD, length-append, List·getD-append}
 use lib.Seq.{getD-at}
 use borrow.Author.Tests.{eqb-true, eqb-false, ltb-true, ltb-false, leb-true}
 use Rattle.lists.specs.Basics.{one, any, all, sumOf, maxOf, count, mem}
 use Rattle.lists.proofs.Sums.{sum-swap, sum-le, sum-append, sum-times, sum-zero}
-use Rattle.lists.proofs.Laws.{or-left, or-cases, and-left, and-right, and-both, or-right, clashes, by-cases, not-true-false, one-any, any-in, any-out, mem-self, sum-le-in, sum-one, pigeonhole}
+use Rattle.lists.proofs.Laws.{or-left, or-cases, and-left, and-right, and-both, or-right, clashes, by-cases, not-true-false, one-any, any-append, any-in, any-out, mem-self, sum-le-in, sum-one, pigeonhole, count-few}
+use Rattle.lists.proofs.Ranges.{max-append}
 use Rattle.groups.specs.Groups.{groupCount, flagged, clash, freeFrom, free, usedBy, colorFrom, colorsOf}
 
 -- ---- the least free number
@@ -82,8 +83,7 @@ conflicts-le flag bs done m h =
     each b i = by-cases (flagged flag b) (λ e. rw e (omega (arith, h b i e))) (λ e. rw e (omega (arith, sum-zero done)))
 
 max-append-le : (xs : List ℕ) (c k : ℕ) → maxOf suc xs ≤ k → c < k → maxOf suc (xs ++ c ∷ []) ≤ k
-max-append-le [] c k h l = omega arith
-max-append-le (x ∷ xs) c k h l = omega (arith, max-append-le xs c k (omega arith) l)
+max-append-le xs c k h l = omega (arith, max-append suc xs (c ∷ []))
 
 count-shift : (p : List ℕ → Bool) (done rest : List (List ℕ)) (bs : List ℕ) → count p (done ++ bs ∷ rest) ≡ count p done + one (p bs) + count p rest
 count-shift p done rest bs = omega (arith, sum-append (λ xs. one (p xs)) done (bs ∷ rest))
@@ -159,6 +159,26 @@ pub colors-length : (flag : List ℕ) (cs : List (List ℕ)) → length (colorsO
 unfolding colorsOf
 colors-length flag cs = omega (arith, colors-length-from flag [] [] cs)
 
+-- ---- where all colors are below n there are at most n groups; the colors are below the number of constraints
+pub groups-below : (n : ℕ) (colors : List ℕ) → all (λ c. ltb c n) colors ≡ true → groupCount colors ≤ n
+unfolding groupCount
+groups-below n [] h = omega arith
+groups-below n (c ∷ cs) h = max-le (ltb-true c n (and-left (ltb c n) (all (λ d. ltb d n) cs) h)) (groups-below n cs (and-right (ltb c n) (all (λ d. ltb d n) cs) h))
+
+module _ (flags : List ℕ) where
+  low-from : (n : ℕ) (done : List (List ℕ)) (colors : List ℕ) (rest : List (List ℕ)) → length done + length rest ≡ n
+      → maxOf suc colors ≤ n → maxOf suc (colorFrom flags done colors rest) ≤ n
+  unfolding colorFrom
+  low-from n done colors [] e h = h
+  low-from n done colors (bs ∷ rest) e h =
+      let used = usedBy flags done colors bs in
+      low-from n (done ++ bs ∷ []) (colors ++ free used ∷ []) rest (omega (arith, length-append done (bs ∷ [])))
+      (max-append-le colors (free used) n h (omega (arith, free-le used, used-le flags done colors bs, count-few (clash flags bs) done)))
+
+  pub groups-few : (cs : List (List ℕ)) → groupCount (colorsOf flags cs) ≤ length cs
+  unfolding groupCount colorsOf
+  groups-few cs = low-from (length cs) [] [] cs (omega arith) (omega arith)
+
 -- ---- one more constraint at the end
 colorFrom-append : (flag : List ℕ) (done : List (List ℕ)) (colors : List ℕ) (xs ys : List (List ℕ)) → colorFrom flag done colors (xs ++ ys) ≡ colorFrom flag (done ++ xs) (colorFrom flag done colors xs) ys
 unfolding colorFrom
@@ -180,22 +200,17 @@ used-in flag (xs ∷ xss) (c ∷ cs) bs x h = by-cases (clash flag bs xs)
     (λ e. or-right (eqb x c) (mem x cs) (used-in flag xss cs bs x (rw e at h)))
 
 mem-snoc : (x c : ℕ) (xs : List ℕ) → mem x xs ≡ true → mem x (xs ++ c ∷ []) ≡ true
-mem-snoc x c [] h = clashes false h refl
-mem-snoc x c (y ∷ ys) h = or-cases (eqb x y) (mem x ys) h (λ q. or-left (eqb x y) (mem x (ys ++ c ∷ [])) q) (λ k. or-right (eqb x y) (mem x (ys ++ c ∷ [])) (mem-snoc x c ys k))
+mem-snoc x c xs h = any-append (eqb x) xs (c ∷ []) ∙ or-left (mem x xs) (mem x (c ∷ [])) h
 
 mem-last : (c : ℕ) (xs : List ℕ) → mem c (xs ++ c ∷ []) ≡ true
-mem-last c [] = mem-self c []
-mem-last c (y ∷ ys) = or-right (eqb c y) (mem c (ys ++ c ∷ [])) (mem-last c ys)
+mem-last c xs = any-append (eqb c) xs (c ∷ []) ∙ or-right (mem c xs) (mem c (c ∷ [])) (mem-self c [])
 
 -- every number below the count is a color
 Whole : List ℕ → Type 0
 Whole colors = (k : ℕ) → k < maxOf suc colors → mem k colors ≡ true
 
 max-snoc-le : (xs : List ℕ) (c k : ℕ) → k < maxOf suc (xs ++ c ∷ []) → maxOf suc xs ≤ k → k ≤ c
-max-snoc-le [] c k h l = omega arith
-max-snoc-le (x ∷ xs) c k h l = by-cases (ltb k (maxOf suc (xs ++ c ∷ [])))
-    (λ e. max-snoc-le xs c k (ltb-true k (maxOf suc (xs ++ c ∷ [])) e) (omega arith))
-    (λ e. absurd (omega (arith, ltb-false k (maxOf suc (xs ++ c ∷ [])) e)))
+max-snoc-le xs c k h l = omega (arith, max-append suc xs (c ∷ []))
 
 whole-from : (flag : List ℕ) (done : List (List ℕ)) (colors : List ℕ) (rest : List (List ℕ)) → Whole colors → Whole (colorFrom flag done colors rest)
 unfolding colorFrom Whole

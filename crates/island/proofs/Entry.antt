@@ -121,3 +121,8 @@ module _ (ts ps js es p₀ b₀ m₀ j₀ : List ℕ) where
       where
         ok : Bool
         ok = allSound f
+
+-- an answer that is taken apart into the refusal and the count
+pub built-by : {f : Frame} {k : ℕ} {p₀ b₀ m₀ j₀ p b m j : List ℕ} {number islands r count : ℕ}
+    → Built f k p₀ b₀ m₀ j₀ p b m j number islands → r ≡ number → count ≡ islands → Built f k p₀ b₀ m₀ j₀ p b m j r count
+built-by h e g = rw (e, g) h

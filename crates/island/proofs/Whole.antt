@@ -7,7 +7,7 @@ use mathlib.Core.List.{List, map, Memᴰ·append-left, Memᴰ·append-right}
 use lib.Dec.{eqb}
 use lib.ListN.{length, getD, replicate}
 use Rattle.lists.specs.Basics.{any, all, count, range}
-use Rattle.lists.proofs.Laws.{and-left, and-right}
+use Rattle.lists.proofs.Laws.{and-left, and-right, all-append}
 use Rattle.frame.specs.Frames.{Frame, constraints, dynamic, on, sound, allSound, none}
 use Rattle.island_sets.specs.Sets.{rootOf, Falls}
 use Rattle.island_sets.proofs.Alone.{falls-self, root-self}
@@ -18,7 +18,6 @@ use Rattle.island_joins.specs.Joins.{Joined}
 use Rattle.island.specs.Steps.{Sized, Ready, Labelled}
 use Rattle.connected_sets.proofs.Theorem.{lowest-connected, connected-island}
 use Rattle.island.proofs.Tables.{none-at, tabled}
-use Rattle.island_joins.proofs.Joining.{all-append}
 use Rattle.island.proofs.Labelling.{labels-are}
 
 -- ---- fresh tables p₁ and b₁, all constraints joined and marked

@@ -11,7 +11,7 @@ use lib.ListN.{length, getD, set, drop, length-set}
 use lib.Seq.{getD-set-same, getD-set-other}
 use borrow.Author.Tests.{eqb-true, eq-eqb, ne-eqb}
 use Rattle.lists.specs.Basics.{any, all}
-use Rattle.lists.proofs.Laws.{and-left, and-right, and-both, clashes, not-true-false}
+use Rattle.lists.proofs.Laws.{and-left, and-right, and-both, clashes, not-true-false, any-append, all-append}
 use Rattle.lists.proofs.Ranges.{joinMap-append}
 use Rattle.frame.specs.Frames.{Constraint, Frame, constraint, constraintsOf, dynamic, on, sound, none}
 use Rattle.frame.proofs.Pairs.{pairs-step, pairs-end, scan-stop}
@@ -92,23 +92,6 @@ module _ (ts p l : List ℕ) (t : Bool) (a b : ℕ) where
   }
 
 -- ---- two lists of constraints together
-module _ {A : Type 0} (q : A → Bool) where
-  any-append : (xs ys : List A) → any q (xs ++ ys) ≡ (any q xs || any q ys)
-  any-append [] ys = refl
-  any-append (x ∷ xs) ys = go (q x) (any-append xs ys)
-    where
-      go : (t : Bool) → any q (xs ++ ys) ≡ (any q xs || any q ys) → (t || any q (xs ++ ys)) ≡ (t || any q xs || any q ys)
-      go true e = refl
-      go false e = e
-
-  pub all-append : (xs ys : List A) → all q (xs ++ ys) ≡ (all q xs && all q ys)
-  all-append [] ys = refl
-  all-append (x ∷ xs) ys = go (q x) (all-append xs ys)
-    where
-      go : (t : Bool) → all q (xs ++ ys) ≡ (all q xs && all q ys) → (t && all q (xs ++ ys)) ≡ (t && all q xs && all q ys)
-      go true e = e
-      go false e = refl
-
 edges-append : (f : Frame) (cs ds : List Constraint) → edges f (cs ++ ds) ≡ edges f cs ++ edges f ds
 unfolding edges
 edges-append f cs ds = joinMap-append (edgesOf f) cs ds

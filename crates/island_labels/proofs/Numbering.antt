@@ -6,7 +6,7 @@ use native.Mathlib.Decide.{ℕ-discrete, decLt}
 use native.Mathlib.Nat.{le-refl}
 use native.Mathlib.Numerals.{add-one}
 use mathlib.Core.Path.{_≡_, refl, sym, ap, _∙_, subst, fun-ext}
-use mathlib.Core.Bool.{Bool, true, false, not, _&&_, cond, and-false}
+use mathlib.Core.Bool.{Bool, false, not, _&&_, cond, and-false, and-true}
 use mathlib.Core.List.{List}
 use lib.Dec.{eqb}
 use lib.ListN.{length, getD, set, length-set, List·getD-eq-default}
@@ -15,6 +15,7 @@ use borrow.Author.Tests.{eq-eqb, ne-eqb}
 use Rattle.lists.specs.Basics.{one, count, range}
 use Rattle.lists.proofs.Laws.{getD-any}
 use Rattle.lists.proofs.Counts.{count-next, count-le}
+use Rattle.lists.proofs.Bits.{one-le, one-true}
 use Rattle.frame.specs.Frames.{dynamic, none}
 use Rattle.island_sets.specs.Sets.{rootOf, Falls}
 use Rattle.island_sets.proofs.Roots.{read-le, read-root, read-here, root-le, root-root}
@@ -142,12 +143,8 @@ module _ (p f l : List ℕ) (n b : ℕ) (w : Numbering p f l n b) (h : Falls p) 
 
 -- ---- flags of the marked bodies that lead: a body is marked if its root is, so its number is its island's
 module _ (ts p l₀ f : List ℕ) (fit : Fit ts p l₀) (w : LeadersFlagged (marked ts l₀) (rootOf p) (length ts) f) where
-  bit-le : (t : Bool) → one t ≤ 1
-  bit-le true = omega arith
-  bit-le false = omega arith
-
   pub flag-le : (x : ℕ) → x < length ts → getD f x 0 ≤ 1
-  flag-le x k = omega (arith, w .flags x k, bit-le (leadsBy (marked ts l₀) (rootOf p) x))
+  flag-le x k = omega (arith, w .flags x k, one-le (leadsBy (marked ts l₀) (rootOf p) x))
 
   module _ (same : Together (marked ts l₀) (rootOf p)) (size : length f ≡ length l₀) where
     unmarked : (x : ℕ) → length ts ≤ x → marked ts l₀ x ≡ false
@@ -156,12 +153,8 @@ module _ (ts p l₀ f : List ℕ) (fit : Fit ts p l₀) (w : LeadersFlagged (mar
     leaders-are : leader f ≡ leadsBy (marked ts l₀) (rootOf p)
     leaders-are = fun-ext (λ x. go x (decLt x (length ts)))
       where
-        bit-is : (t : Bool) → eqb (one t) 1 ≡ t
-        bit-is true = refl
-        bit-is false = refl
-
         go : (x : ℕ) → Dec (x < length ts) → leader f x ≡ leadsBy (marked ts l₀) (rootOf p) x
-        go x (yes k) = ap (λ (v : ℕ). eqb v 1) (w .flags x k) ∙ bit-is (leadsBy (marked ts l₀) (rootOf p) x)
+        go x (yes k) = ap (λ (v : ℕ). eqb v 1) (w .flags x k) ∙ one-true (leadsBy (marked ts l₀) (rootOf p) x)
         go x (no k) =
             ap (λ (v : ℕ). eqb v 1) (List·getD-eq-default f 0 (omega (arith, k, size, fit .long-bodies)))
             ∙ sym (ap (λ (t : Bool). t && eqb (rootOf p x) x) (unmarked x (omega (arith, k))))
@@ -170,11 +163,7 @@ module _ (ts p l₀ f : List ℕ) (fit : Fit ts p l₀) (w : LeadersFlagged (mar
     unfolding Together
     root-leads x =
         let r = root-root p (fit .falls) x in
-        ap (λ (t : Bool). marked ts l₀ (rootOf p x) && t) (eq-eqb (rootOf p (rootOf p x)) (rootOf p x) r) ∙ alone (marked ts l₀ (rootOf p x)) ∙ same (rootOf p x) x r
-      where
-        alone : (t : Bool) → (t && true) ≡ t
-        alone true = refl
-        alone false = refl
+        ap (λ (t : Bool). marked ts l₀ (rootOf p x) && t) (eq-eqb (rootOf p (rootOf p x)) (rootOf p x) r) ∙ and-true (marked ts l₀ (rootOf p x)) ∙ same (rootOf p x) x r
 
     pub numbering-ends : (l : List ℕ) (n b : ℕ) → Numbering p f l n b → length l ≤ b → Numbered (marked ts l₀) (rootOf p) (length ts) n l
     numbering-ends l n b v h = record {

@@ -2,16 +2,16 @@
 -- constraints, and running it takes the next calls of the whole.
 use Prim.Native.Nat.{ℕ, _+_, _-_, _*_, _≤_, _<_}
 use mathlib.Core.Path.{_≡_, ap, _∙_}
-use mathlib.Core.Bool.{true}
 use mathlib.Core.List.{List, _++_}
 use native.Mathlib.Omega.{arith}
-use lib.Dec.{ltb, eqb}
-use lib.ListN.{length, getD, take, drop}
+use lib.Dec.{ltb}
+use lib.ListN.{length, take, drop}
 use borrow.Author.Tests.{lt-ltb}
-use Rattle.lists.specs.Basics.{joinMap, range, rangeFrom, mem}
-use Rattle.lists.proofs.Laws.{all-intro, filter-mem, range-high, filter-length-le, length-range}
+use Rattle.lists.specs.Basics.{joinMap, rangeFrom}
+use Rattle.lists.proofs.Laws.{all-intro}
 use Rattle.lists.proofs.Fills.{whole}
 use Rattle.groups.specs.Groups.{members, flatten}
+use Rattle.groups.proofs.Members.{member-is, members-few}
 use Rattle.plan_questions.specs.Plans.{Tables}
 use Rattle.schedules.specs.Runs.{Call}
 use Rattle.island_numbers.specs.Numbers.{keysOf, leading, within}
@@ -28,14 +28,6 @@ callsAt types flags pairs labels i = islandCalls types flags pairs i (members la
 pub islands-first : (types flags pairs labels : List ℕ) (n : ℕ) → joinMap (callsAt types flags pairs labels) (rangeFrom 0 (n - 0)) ≡ callsOf types flags pairs labels n
 unfolding callsOf
 islands-first types flags pairs labels n = rw (whole n)
-
-members-below : (labels : List ℕ) (i n : ℕ) → mem n (members labels i) ≡ true → n < length labels
-unfolding members
-members-below labels i n m = omega (arith, range-high n 0 (length labels) (filter-mem (λ r. eqb i (getD labels r 0)) n (range (length labels)) m .0))
-
-members-few : (labels : List ℕ) (i : ℕ) → length (members labels i) ≤ length labels
-unfolding members
-members-few labels i = omega (arith, filter-length-le (λ r. eqb i (getD labels r 0)) (range (length labels)), length-range 0 (length labels))
 
 -- where island i's numbers start
 abbrev pub startOf : ℕ → List ℕ → ℕ → ℕ
@@ -68,7 +60,7 @@ module _ (islands : ℕ) (types flags pairs labels numbers island-pairs : List �
 
   pub ready : (ps : List ℕ) (u : Tables) → length ps ≡ 2 * (end - start) → SameLengths t u → Ready flags pairs part ps u
   ready ps u l s = rw part-is (record {
-    inside = all-intro (λ n. ltb (2 * n + 1) (length pairs)) (members labels i) (λ n m. lt-ltb (2 * n + 1) (length pairs) (omega (arith, members-below labels i n m, p .paired)));
+    inside = all-intro (λ n. ltb (2 * n + 1) (length pairs)) (members labels i) (λ n m. lt-ltb (2 * n + 1) (length pairs) (omega (arith, member-is labels i n m .0, p .paired)));
     accepted = p .accepted i inside;
     room = omega (arith, part-count);
     tables = room-kept (length flags) (length labels) (length (members labels i)) t u (members-few labels i) s (p .tables);

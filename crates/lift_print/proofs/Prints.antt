@@ -11,7 +11,7 @@ use Rattle.lists.specs.Basics.{over}
 use Rattle.schedules.specs.Print.{refusalLine}
 use Rattle.print_fields.specs.Puts.{Put, longest, ifRoom}
 use Rattle.frame_file.specs.Written.{fileLength}
-use Rattle.frame_file.proofs.Whole.{put-over}
+use Rattle.lists.proofs.Puts.{put-first}
 use Rattle.generator.specs.declared.Generated.{Generated}
 use Rattle.generator.specs.declared.Generated.the-variants.{Frame, Refused}
 use Rattle.generator.specs.Draws.{generatedBytes}
@@ -45,7 +45,7 @@ module _ (seed b m j : ℕ) (old new : List ℕ) (room : length old ≡ 40971) w
       let is : generateRefusal b m j 40971 ≡ k = ap (generateRefusal b m j) (sym room) ∙ sym (made .refusal) in
       let kept : new ≡ old = made .bytes ∙ rw (room, is, some) in
       let fits : leb (0 + longest) (length new) ≡ true = le-leb (0 + longest) (length new) (omega (arith, ap length kept, room)) in
-      let there : out ≡ over (refusalLine k) old = put′ .buffer ∙ rw (fits, kept) (put-over (refusalLine k) old) in
+      let there : out ≡ over (refusalLine k) old = put′ .buffer ∙ rw (fits, kept) (put-first (refusalLine k) old) in
       let size : r ≡ length (refusalLine k) = put′ .next ∙ rw fits (omega arith) in
       record {
         buffer = rw (is, some) there;

@@ -4,22 +4,18 @@ use Prim.Native.Nat.{ℕ, zero, suc, _+_, _≤_, _<_}
 use native.Mathlib.Omega.{arith}
 use native.Mathlib.Decide.{ℕ-discrete, decLt}
 use mathlib.Core.Path.{_≡_, ap, _∙_}
-use mathlib.Core.Bool.{Bool, true, false}
+use mathlib.Core.Bool.{Bool, true}
 use mathlib.Core.List.{[], _∷_}
 use Rattle.lists.specs.Basics.{one, count, range}
 use Rattle.lists.proofs.Sums.{sum-append}
+use Rattle.lists.proofs.Laws.{length-range, count-few}
 use Rattle.lists.proofs.Ranges.{range-snoc}
 
 pub count-next : (p : ℕ → Bool) (n : ℕ) → count p (range (suc n)) ≡ count p (range n) + one (p n)
 count-next p n = ap (count p) (range-snoc n) ∙ sum-append (λ x. one (p x)) (range n) (n ∷ []) ∙ omega arith
 
-one-le : (t : Bool) → one t ≤ 1
-one-le true = omega arith
-one-le false = omega arith
-
 pub count-le : (p : ℕ → Bool) (n : ℕ) → count p (range n) ≤ n
-count-le p zero = omega arith
-count-le p (suc n) = omega (arith, count-next p n, count-le p n, one-le (p n))
+count-le p n = omega (arith, count-few p (range n), length-range 0 n)
 
 pub count-past : (p : ℕ → Bool) (a b : ℕ) → p a ≡ true → a < b → count p (range a) < count p (range b)
 count-past p a zero e h = absurd (omega arith)

@@ -1,23 +1,22 @@
 -- Scans of a list: one element more, the same test in other words, one filter behind another; and the first places of a rising list.
 use Prim.Native.Nat.{ℕ, zero, suc, _+_, _<_}
-use mathlib.Core.Path.{_≡_, refl, ap}
-use mathlib.Core.Bool.{Bool, true, false, _||_, or-false, or-assoc}
+use mathlib.Core.Path.{_≡_, refl, sym, ap, _∙_}
+use mathlib.Core.Bool.{Bool, true, false, _||_, or-false}
 use mathlib.Core.List.{List, [], _∷_}
 use native.Mathlib.Numerals.{add-one}
 use native.Mathlib.Omega.{arith}
 use lib.Dec.{ltb, eqb}
-use lib.ListN.{length, getD, take}
+use lib.ListN.{length, getD, take, drop, take-append-drop}
+use lib.Seq.{take-suc, length-take-le, getD-take}
 use borrow.Author.Tests.{eqb-true, ltb-true}
-use Rattle.lists.specs.Basics.{any, all, filter, mem, rises}
-use Rattle.lists.proofs.Laws.{or-left, or-right, or-cases, and-left, and-right, clashes, by-cases, not-true-false, all-in, mem-self, getD-mem}
-
-any-suc : (p : ℕ → Bool) (xs : List ℕ) (i : ℕ) → i < length xs → any p (take (suc i) xs) ≡ (any p (take i xs) || p (getD xs i 0))
-any-suc p [] i l = absurd (omega arith)
-any-suc p (x ∷ xs) zero l = or-false (p x)
-any-suc p (x ∷ xs) (suc i) l = rw (any-suc p xs i (omega arith), or-assoc)
+use Rattle.lists.specs.Basics.{any, all, filter, mem, place, rises}
+use Rattle.lists.proofs.Laws.{or-left, or-right, or-cases, and-left, and-right, clashes, by-cases, not-true-false, any-append, all-in, mem-self, getD-mem, place-lt, place-get}
 
 pub any-next : (p : ℕ → Bool) (xs : List ℕ) (i : ℕ) → i < length xs → any p (take (i + 1) xs) ≡ (any p (take i xs) || p (getD xs i 0))
-any-next p xs i l = rw add-one (any-suc p xs i l)
+any-next p xs i l = rw (add-one, take-suc xs i 0 l) (any-append p (take i xs) (getD xs i 0 ∷ []) ∙ rw or-false)
+
+pub any-first : {A : Type 0} (p : A → Bool) (i : ℕ) (xs : List A) → any p (take i xs) ≡ true → any p xs ≡ true
+any-first p i xs h = ap (any p) (sym (take-append-drop i xs)) ∙ any-append p (take i xs) (drop i xs) ∙ or-left (any p (take i xs)) (any p (drop i xs)) h
 
 pub any-ext-in : (p q : ℕ → Bool) (xs : List ℕ) → ((x : ℕ) → mem x xs ≡ true → p x ≡ q x) → any p xs ≡ any q xs
 any-ext-in p q [] h = refl
@@ -31,14 +30,18 @@ filter-filter p q (x ∷ xs) h =
     (λ e. by-cases (q x) (λ f. rw (e, f) (ap (λ (ys : List ℕ). x ∷ ys) (filter-filter p q xs h))) (λ f. rw (e, f) (filter-filter p q xs h)))
     (λ e. let f : q x ≡ false = not-true-false (q x) (λ g. clashes (p x) (h x g) e) in rw (e, f) (filter-filter p q xs h))
 
--- ---- the first i of a rising list are those below the one at place i
+-- ---- a rising list
+pub rises-lt : (l : List ℕ) → rises l ≡ true → (p q : ℕ) → p < q → q < length l → getD l p 0 < getD l q 0
+rises-lt [] r p q h k = absurd (omega arith)
+rises-lt (x ∷ xs) r p zero h k = absurd (omega arith)
+rises-lt (x ∷ xs) r zero (suc q) h k = ltb-true x (getD xs q 0) (all-in (ltb x) (getD xs q 0) xs (getD-mem xs q (omega arith)) (and-left (all (ltb x) xs) (rises xs) r))
+rises-lt (x ∷ xs) r (suc p) (suc q) h k = rises-lt xs (and-right (all (ltb x) xs) (rises xs) r) p q (omega arith) (omega arith)
+
+-- the first i are those below the one at place i
 pub rises-before : (xs : List ℕ) (i s : ℕ) → rises xs ≡ true → i < length xs → mem s (take i xs) ≡ true → s < getD xs i 0
-rises-before [] i s v l h = absurd (omega arith)
-rises-before (x ∷ xs) zero s v l h = clashes false h refl
-rises-before (x ∷ xs) (suc i) s v l h =
-    or-cases (eqb s x) (mem s (take i xs)) h
-    (λ q. omega (arith, eqb-true s x q, ltb-true x (getD xs i 0) (all-in (ltb x) (getD xs i 0) xs (getD-mem xs i (omega arith)) (and-left (all (ltb x) xs) (rises xs) v))))
-    (λ m. rises-before xs i s (and-right (all (ltb x) xs) (rises xs) v) (omega arith) m)
+rises-before xs i s v l h =
+    let k : place s (take i xs) < i = omega (arith, place-lt s (take i xs) h, length-take-le i xs (omega arith)) in
+    omega (arith, place-get s (take i xs) h, getD-take i xs (place s (take i xs)) 0 k, rises-lt xs v (place s (take i xs)) i k l)
 
 pub before-rises : (xs : List ℕ) (i s : ℕ) → rises xs ≡ true → i < length xs → mem s xs ≡ true → s < getD xs i 0 → mem s (take i xs) ≡ true
 before-rises [] i s v l h p = absurd (omega arith)

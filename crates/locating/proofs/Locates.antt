@@ -1,39 +1,22 @@
 -- The positions of one group's constraints. Each member's part is written without touching another's, so the members have their
 -- positions, one after another, and the other constraints keep theirs.
-use Prim.Native.Nat.{ℕ, zero, suc, _+_, _-_, _*_, _≤_, _<_}
+use Prim.Native.Nat.{ℕ, _+_, _-_, _*_, _≤_, _<_}
 use mathlib.Core.Path.{_≡_, refl, sym, ap, _∙_}
 use mathlib.Core.Bool.{Bool, true, false, _||_}
-use mathlib.Core.List.{List, [], _∷_, _++_, map}
+use mathlib.Core.List.{List, map}
 use native.Mathlib.Omega.{arith}
 use lib.Dec.{eqb, ltb}
 use lib.ListN.{length, getD, take, drop, length-drop, length-map}
 use lib.Seq.{length-take-le, take-all}
 use borrow.Author.Tests.{eqb-true, eqb-false, ltb-true}
 use Rattle.lists.specs.Basics.{all, mem, place, joinMap}
-use Rattle.lists.proofs.Laws.{and-left, and-right, and-both, or-left, or-right, or-cases, clashes, by-cases, not-true-false, all-in, getD-mem}
-use Rattle.lists.proofs.Scans.{any-next}
+use Rattle.lists.proofs.Laws.{or-left, or-right, or-cases, clashes, by-cases, not-true-false, all-in, getD-mem}
+use Rattle.lists.proofs.Scans.{any-next, any-first}
+use Rattle.lists.proofs.Ranges.{all-joinMap}
 use Rattle.parts.specs.Parts.{partAt, Present}
 use Rattle.parts.specs.Steps.{startAt}
 use Rattle.parts.proofs.Gapless.{written, written-long, part-inside, part-written, part-kept}
 use Rattle.locating.specs.Locates.{Laid, MembersLocated}
-
--- ---- what passes for all endpoints of the constraints ms passes for those of each
-all-parts : (p : ℕ → Bool) (xs ys : List ℕ) → all p (xs ++ ys) ≡ true → (all p xs ≡ true) × (all p ys ≡ true)
-all-parts p [] ys h = (refl, h)
-all-parts p (x ∷ xs) ys h =
-    let o = all-parts p xs ys (and-right (p x) (all p (xs ++ ys)) h) in
-    (and-both (p x) (all p xs) (and-left (p x) (all p (xs ++ ys)) h) (o .0), o .1)
-
-joined-in : (p : ℕ → Bool) (f : ℕ → List ℕ) (ms : List ℕ) (r : ℕ) → all p (joinMap f ms) ≡ true → mem r ms ≡ true → all p (f r) ≡ true
-joined-in p f [] r h m = clashes false m refl
-joined-in p f (x ∷ ms) r h m =
-    let o = all-parts p (f x) (joinMap f ms) h in
-    or-cases (eqb r x) (mem r ms) m (λ e. let k : r ≡ x = eqb-true r x e in rw k (o .0)) (λ e. joined-in p f ms r (o .1) e)
-
-mem-front : (r : ℕ) (ms : List ℕ) (i : ℕ) → mem r (take i ms) ≡ true → mem r ms ≡ true
-mem-front r ms zero m = clashes false m refl
-mem-front r [] (suc i) m = m
-mem-front r (x ∷ ms) (suc i) m = or-cases (eqb r x) (mem r (take i ms)) m (λ e. or-left (eqb r x) (mem r ms) e) (λ e. or-right (eqb r x) (mem r ms) (mem-front r ms i e))
 
 -- ---- the first i members are located
 pub record Locating (bounds es ms bodies positions₀ table : List ℕ) (i : ℕ) : Type 0 where
@@ -66,7 +49,7 @@ module _ {bounds es ms positions₀ : List ℕ} (w : Laid bounds es ms positions
     member-start = (omega (arith, low, w .few), λ n. member-present .part n .low)
 
     pub member-all : (p : ℕ → Bool) (bs : List ℕ) → bs ≡ partAt bounds es (getD ms i 0) → all p (joinMap (partAt bounds es) ms) ≡ true → all p bs ≡ true
-    member-all p bs b a = rw b (joined-in p (partAt bounds es) ms (getD ms i 0) a (getD-mem ms i h))
+    member-all p bs b a = rw b (all-in (λ r. all p (partAt bounds es r)) (getD ms i 0) ms (getD-mem ms i h) (sym (all-joinMap p (partAt bounds es) ms) ∙ a))
 
     -- its endpoints bs, and their start
     module _ {bodies table bs : List ℕ} {start : ℕ} (v : Locating bounds es ms bodies positions₀ table i) (b : bs ≡ partAt bounds es (getD ms i 0)) (s : start ≡ startAt bounds (getD ms i 0)) where
@@ -93,7 +76,7 @@ module _ {bounds es ms positions₀ : List ℕ} (w : Laid bounds es ms positions
                 (λ c. let k : r ≡ q = eqb-true r q c in rw k (part-written (w .bounded) (w .gapless) table ps q low room long ∙ e ∙ ap (map g) b))
                 (λ c.
                 let before : mem r (take i ms) ≡ true = or-cases (mem r (take i ms)) (eqb r q) (sym (more r) ∙ m) (λ o. o) (λ o. clashes (eqb r q) o c) in
-                part-kept (w .bounded) (w .gapless) table ps q low room long r (member-low r (mem-front r ms i before)) (eqb-false r q c) ∙ v .done r before);
+                part-kept (w .bounded) (w .gapless) table ps q low room long r (member-low r (any-first (eqb r) i ms before)) (eqb-false r q c) ∙ v .done r before);
             kept = λ z r k m.
                 let o : (mem r (take i ms) || eqb r q) ≡ false = sym (more r) ∙ m in
                 let c : eqb r q ≡ false = not-true-false (eqb r q) (λ t. clashes (mem r (take i ms) || eqb r q) (or-right (mem r (take i ms)) (eqb r q) t) o) in

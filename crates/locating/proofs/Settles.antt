@@ -3,15 +3,17 @@
 use Prim.Native.Nat.{ℕ, suc, _+_, _≤_, _<_}
 use mathlib.Core.Path.{_≡_, refl, sym, _∙_}
 use mathlib.Core.Bool.{Bool, true}
-use mathlib.Core.List.{List, [], _∷_}
+use mathlib.Core.List.{List, []}
 use native.Mathlib.Omega.{arith}
 use lib.Dec.{eqb, ltb}
 use lib.ListN.{length, getD, take}
 use lib.Seq.{take-length}
 use borrow.Author.Tests.{eqb-true, eqb-false, ltb-true, lt-ltb}
-use Rattle.lists.specs.Basics.{any, all, range, mem, rises, joinMap}
-use Rattle.lists.proofs.Laws.{or-right, mem-self, by-cases, not-true-false, all-in, all-intro, all-append, all-getD, any-in, filter-mem, mem-filter, in-range, range-high, length-range, filter-length-le, max-in, getD-mem, rises-filter}
+use Rattle.lists.specs.Basics.{all, mem, joinMap}
+use Rattle.lists.proofs.Laws.{by-cases, all-in, all-intro, all-getD, max-in, getD-mem}
+use Rattle.lists.proofs.Ranges.{all-joinMap}
 use Rattle.groups.specs.Groups.{groupCount, members, groupBodies, positions, flatten}
+use Rattle.groups.proofs.Members.{member-is, member-at, bodies-rise, bodies-few, bodies-exist, has-body}
 use Rattle.parts.specs.Parts.{cut, Cut, partAt, partsAt, Bounded}
 use Rattle.parts.specs.Steps.{Gapless}
 use Rattle.parts.proofs.Parts.{parts-at}
@@ -19,45 +21,12 @@ use Rattle.parts.proofs.Gapless.{parts-whole}
 use Rattle.parts.proofs.Groups.{group-cut, group-is}
 use Rattle.locating.specs.Locates.{Locatable, Laid, Findable, MembersLocated}
 
-joined-all : (p : ℕ → Bool) (f : ℕ → List ℕ) (ms : List ℕ) → ((r : ℕ) → mem r ms ≡ true → all p (f r) ≡ true) → all p (joinMap f ms) ≡ true
-joined-all p f [] h = refl
-joined-all p f (r ∷ ms) h = all-append p (f r) (joinMap f ms) (h r (mem-self r ms)) (joined-all p f ms (λ s m. h s (or-right (eqb s r) (mem s ms) m)))
-
-member-is : (colors : List ℕ) (k r : ℕ) → mem r (members colors k) ≡ true → (r < length colors) × (k ≡ getD colors r 0)
-unfolding members
-member-is colors k r m =
-    let o = filter-mem (λ s. eqb k (getD colors s 0)) r (range (length colors)) m in
-    (omega (arith, range-high r 0 (length colors) (o .0)), eqb-true k (getD colors r 0) (o .1))
-
-is-member : (colors : List ℕ) (k r : ℕ) → r < length colors → eqb k (getD colors r 0) ≡ true → mem r (members colors k) ≡ true
-unfolding members
-is-member colors k r h e = mem-filter (λ s. eqb k (getD colors s 0)) r (range (length colors)) (in-range r 0 (length colors) (omega arith) (omega arith)) e
-
--- ---- the bodies of a group: a rising list of bodies that exist, with all endpoints of its constraints
-module _ (nb : ℕ) (cs : List (List ℕ)) (colors : List ℕ) (k : ℕ) where
-  abbrev on : ℕ → Bool
-  on b = any (λ r. mem b (getD cs r [])) (members colors k)
-
-  bodies-rise : rises (groupBodies nb cs colors k) ≡ true
-  unfolding groupBodies
-  bodies-rise = rises-filter on 0 nb
-
-  bodies-few : length (groupBodies nb cs colors k) ≤ nb
-  unfolding groupBodies
-  bodies-few = omega (arith, filter-length-le on (range nb), length-range 0 nb)
-
-  bodies-exist : (n : ℕ) → nb ≤ n → all (λ b. ltb b n) (groupBodies nb cs colors k) ≡ true
-  unfolding groupBodies
-  bodies-exist n h = all-intro (λ b. ltb b n) (groupBodies nb cs colors k) (λ b m. lt-ltb b n (omega (arith, range-high b 0 nb (filter-mem on b (range nb) m .0))))
-
-  bodies-all : all (λ bs. all (λ b. ltb b nb) bs) cs ≡ true → (r : ℕ) → mem r (members colors k) ≡ true → all (λ b. mem b (groupBodies nb cs colors k)) (getD cs r []) ≡ true
-  unfolding groupBodies
-  bodies-all below r m =
-      let low : ℕ → Bool = λ b. ltb b nb in
-      all-intro (λ b. mem b (groupBodies nb cs colors k)) (getD cs r [])
-      (λ b o. mem-filter on b (range nb)
-      (in-range b 0 nb (omega arith) (omega (arith, ltb-true b nb (all-in low b (getD cs r []) o (all-getD (λ bs. all low bs) [] cs r refl below)))))
-      (any-in (λ s. mem b (getD cs s [])) r (members colors k) m o))
+-- a group's bodies have all endpoints of its constraints
+bodies-all : (nb : ℕ) (cs : List (List ℕ)) (colors : List ℕ) (k : ℕ) → all (λ bs. all (λ b. ltb b nb) bs) cs ≡ true → (r : ℕ) → mem r (members colors k) ≡ true → all (λ b. mem b (groupBodies nb cs colors k)) (getD cs r []) ≡ true
+bodies-all nb cs colors k below r m =
+    let low : ℕ → Bool = λ b. ltb b nb in
+    all-intro (λ b. mem b (groupBodies nb cs colors k)) (getD cs r [])
+    (λ b o. has-body nb cs colors k r b m o (ltb-true b nb (all-in low b (getD cs r []) o (all-getD (λ bs. all low bs) [] cs r refl below))))
 
 -- ---- group k in the tables: its constraints ms and its bodies bs
 module _ {nb n : ℕ} {cs : List (List ℕ)} {colors offsets constraints starts bodies places₀ : List ℕ} (p : Locatable nb cs colors n offsets constraints starts bodies places₀) (k : ℕ) (h : k < n) where
@@ -114,7 +83,8 @@ module _ {nb n : ℕ} {bounds es colors offsets constraints starts bodies places
           few = omega (arith, bodies-few nb cs colors k, p .few-bodies);
           rising = bodies-rise nb cs colors k;
           there =
-              joined-all (λ b. mem b (groupBodies nb cs colors k)) (partAt bounds es) (members colors k)
+              all-joinMap (λ b. mem b (groupBodies nb cs colors k)) (partAt bounds es) (members colors k)
+              ∙ all-intro (λ r. all (λ b. mem b (groupBodies nb cs colors k)) (partAt bounds es r)) (members colors k)
               (λ r o. rw (parts-at (length colors) bounds es r (member-is colors k r o .0)) at (bodies-all nb cs colors k (p .below) r o));
         })
 
@@ -132,10 +102,10 @@ module _ {nb n : ℕ} {bounds es colors offsets constraints starts bodies places
               by-cases (eqb k (getD colors r 0))
               (λ e.
               let q : getD colors r 0 ≡ k = sym (eqb-true k (getD colors r 0) e) in
-              let o : mem r ms ≡ true = rw (members-are p k h m) (is-member colors k r i e) in
+              let o : mem r ms ≡ true = rw (members-are p k h m) (member-at colors k r i ∙ e) in
               u .done r o ∙ rw (bodies-are p k h b, q, parts-at (length colors) bounds es r i))
               (λ e.
               let q : k ≡ getD colors r 0 → ⊥ = eqb-false k (getD colors r 0) e in
               let l : getD colors r 0 < k = omega (arith, q) in
-              u .kept group-laid r i (rw (members-are p k h m) (not-true-false (mem r (members colors k)) (λ o. q (member-is colors k r o .1)))) ∙ v .located r i l);
+              u .kept group-laid r i (rw (members-are p k h m) (member-at colors k r i ∙ e)) ∙ v .located r i l);
         }

@@ -7,6 +7,7 @@ use native.Mathlib.Omega.{arith}
 use lib.ListN.{length}
 use Rattle.lists.specs.Basics.{joinMap, range}
 use Rattle.lists.proofs.Laws.{range-high, pigeonhole}
+use Rattle.lists.proofs.Ranges.{joinMap-ext-in}
 use Rattle.groups.specs.Groups.{Plan, pairsOf, colorsOf, groupCount, planOf}
 use Rattle.groups.proofs.Colors.{colors-length, group-not-empty}
 use Rattle.constraint_coloring.specs.declared.ConstraintColoring.{ConstraintColoring}
@@ -17,7 +18,7 @@ use Rattle.constraint_coloring.specs.Calls.{freshPlan, planAfter, refusalWith, 
 use Rattle.plan_history.proofs.Memory.{remembers}
 use Rattle.schedules.specs.Runs.{membersIn, bodiesIn, takeRank}
 use Rattle.schedules.proofs.Standing.{Lookups, plan-lookups, updated-lookups, few-pairs}
-use Rattle.schedules.proofs.Condition3.{same-calls, join-ext}
+use Rattle.schedules.proofs.Condition3.{same-calls}
 use Rattle.island_numbers.specs.Numbers.{pairsAmong}
 use Rattle.group_run.specs.Appends.{seen, callsIn, planCalls}
 use Rattle.one_island.specs.Island.{islandCalls, Ready}
@@ -28,7 +29,7 @@ unfolding planCalls callsIn
 same-plan-calls flags pairs p q lp lq types ns i =
     let g : p .groups ≡ q .groups = lp .groups ∙ sym (lq .groups) in
     ap (λ (n : ℕ). joinMap (callsIn p types ns i) (range n)) g
-    ∙ join-ext _ _ (range (q .groups))
+    ∙ joinMap-ext-in _ _ (range (q .groups))
     (λ k m.
     let h : k < q .groups = omega (arith, range-high k 0 (q .groups) m) in
     let h′ : k < p .groups = omega (arith, g) in

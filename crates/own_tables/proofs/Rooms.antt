@@ -1,7 +1,7 @@
 -- Tables of the largest sizes have room for every frame that passes questions 1 to 5, so that question 6 is left of the turn table.
 use Prim.Native.Nat.{ℕ, _+_, _*_, _≤_}
-use mathlib.Core.Path.{_≡_, refl, _∙_}
-use mathlib.Core.Bool.{Bool, true, false, _&&_}
+use mathlib.Core.Path.{_≡_, _∙_}
+use mathlib.Core.Bool.{true, and-true}
 use mathlib.Core.List.{List}
 use native.Mathlib.Omega.{arith}
 use lib.Dec.{eqb}
@@ -13,15 +13,11 @@ use Rattle.frame.specs.Files.{countB, countM, countJ, fileQuestions}
 use Rattle.plan_questions.specs.Plans as plans
 use Rattle.plan_questions.proofs.Rooms.{roomy-fitted}
 use Rattle.schedules.specs.Runs.{runRefusal, runOf}
-use Rattle.frame_parts.proofs.Decoding.{file-sized}
 use Rattle.run_answer.specs.declared.Answer.{Answer}
 use Rattle.frame_run.specs.Calls.{Lent, roomFor, roomIn, Ran}
 use Rattle.frame_run.proofs.Runs.{all-asked}
+use Rattle.frame.proofs.Files.{file-sized}
 use Rattle.own_tables.specs.Runs.{turnsFit, RanAlone}
-
-and-true : (b : Bool) → (b && true) ≡ b
-and-true true = refl
-and-true false = refl
 
 -- the largest sizes, but for the turn table
 pub record Ample (l : Lent) : Type 0 where

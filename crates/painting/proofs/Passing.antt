@@ -19,7 +19,7 @@ use Rattle.groups.proofs.Colors.{colors-length}
 use Rattle.groups.proofs.Tables.{flatten-suc}
 use Rattle.painting.specs.Painting.{promised, uncolored, touched, Opened, Walked}
 use Rattle.painting.specs.Steps.{MadeBusy}
-use Rattle.painting.proofs.Bits.{one-true, or-one}
+use Rattle.lists.proofs.Bits.{one-true, or-one}
 use Rattle.painting.proofs.Promised.{busy, listed-in, busy-higher}
 
 -- is one of the bodies busy?

@@ -2,7 +2,7 @@
 -- in their groups.
 use Prim.Native.Nat.{ℕ, zero, suc, _+_, _-_, _≤_, _<_}
 use mathlib.Core.Path.{_≡_, refl, sym, ap, _∙_}
-use mathlib.Core.Bool.{true, and-false}
+use mathlib.Core.Bool.{and-false}
 use mathlib.Core.List.{List, [], _∷_, _++_}
 use native.Mathlib.Numerals.{add-one}
 use native.Mathlib.Omega.{arith}
@@ -11,15 +11,15 @@ use lib.ListN.{length, getD, set, take, drop, replicate, take-append-drop, lengt
 use lib.Seq.{ext-getD, take-nil, take-all, take-suc-set, drop-at, drop-drop, drop-set-lt, length-take-le}
 use borrow.Author.Tests.{eqb-true, eqb-false, ltb-true, ltb-false, lt-ltb, le-leb}
 use Rattle.lists.specs.Basics.{range, mem, place}
-use Rattle.lists.proofs.Laws.{clashes, by-cases, bool-ext, getD-mem, max-in, all-intro, place-lt, place-get, filter-mem, mem-filter, in-range, range-high}
+use Rattle.lists.proofs.Laws.{clashes, by-cases, getD-mem, max-in, all-intro, place-lt, place-get}
 use Rattle.lists.proofs.Ranges.{map-range-suc}
 use Rattle.lists.proofs.Sums.{filter-all}
 use Rattle.groups.specs.Groups.{colorsOf, groupCount, members, flatten, offsets}
-use Rattle.groups.proofs.Colors.{colors-length}
+use Rattle.groups.proofs.Colors.{colors-length, groups-below, groups-few}
 use Rattle.groups.proofs.Tables.{flatten-suc, length-offsets}
+use Rattle.groups.proofs.Members.{member-is, member-at}
 use Rattle.painting.specs.Painting.{promised, uncolored, touched, Ready, Painted, Opened, Walked}
 use Rattle.painting.specs.Steps.{Closable, Closed}
-use Rattle.painting.proofs.Used.{colors-low, groups-below}
 use Rattle.painting.proofs.Promised.{listed-in, in-listed}
 use Rattle.painting.proofs.Passing.{many}
 
@@ -47,22 +47,6 @@ module _ (flags : List ℕ) (cs : List (List ℕ)) where
       let colors = colorsOf flags cs in
       groups-below k colors (all-intro (λ c. ltb c k) colors
       (λ c m. lt-ltb c k (omega (arith, place-get c colors m, h (place c colors) (omega (arith, place-lt c colors m, colors-length flags cs))))))
-
-  count-few : groupCount (colorsOf flags cs) ≤ length cs
-  count-few = groups-below (length cs) (colorsOf flags cs) (colors-low flags cs)
-
-  -- a member of group k is a constraint that is promised color k, and the other way round
-  member-is : (k r : ℕ) → mem r (members (colorsOf flags cs) k) ≡ true → (r < length cs) × (eqb k (promised flags cs r) ≡ true)
-  unfolding members
-  member-is k r m =
-      let o = filter-mem (λ r. eqb k (promised flags cs r)) r (range (length (colorsOf flags cs))) m in
-      (omega (arith, range-high r 0 (length (colorsOf flags cs)) (o .0), colors-length flags cs), o .1)
-
-  is-member : (k r : ℕ) → r < length cs → mem r (members (colorsOf flags cs) k) ≡ eqb k (promised flags cs r)
-  unfolding members
-  is-member k r l = bool-ext (mem r (members (colorsOf flags cs) k)) (eqb k (promised flags cs r))
-      (λ m. member-is k r m .1)
-      (λ e. mem-filter (λ r. eqb k (promised flags cs r)) r (range (length (colorsOf flags cs))) (in-range r 0 (length (colorsOf flags cs)) (omega arith) (omega (arith, colors-length flags cs))) e)
 
 -- ---- tables
 drop-take : (s n : ℕ) (xs : List ℕ) → drop s (take n xs) ≡ take (n - s) (drop s xs)
@@ -121,7 +105,7 @@ module _ {flags : List ℕ} {cs : List (List ℕ)} {n k count : ℕ} {starts₀ 
 
   -- a color that is opened is below the number of constraints
   pub color-small : (count ≡ 0 → ⊥) → k < length cs
-  color-small h = omega (arith, walks-few h, count-few flags cs)
+  color-small h = omega (arith, walks-few h, groups-few flags cs)
 
   module _ {remaining′ colored′ busy′ : List ℕ} {left : ℕ} (d : Walked flags cs k (n - count) count left remaining′ colored′ busy′) (lc : length colored′ ≡ length colored) (lb : length busy′ ≡ length busy) where
     abbrev start : ℕ
@@ -149,7 +133,7 @@ module _ {flags : List ℕ} {cs : List (List ℕ)} {n k count : ℕ} {starts₀ 
         (record {
           few = omega (arith, w .sized, w .opened .few);
           color-few = omega (arith, color-small h, w .opened .few);
-          inside = all-intro (λ r. ltb r (length colors)) (g k) (λ r m. lt-ltb r (length colors) (omega (arith, w .sized, member-is flags cs k r m .0)));
+          inside = all-intro (λ r. ltb r (length colors)) (g k) (λ r m. lt-ltb r (length colors) (omega (arith, w .sized, colors-length flags cs, member-is (colorsOf flags cs) k r m .0)));
           bodies = rw (lb, w .opened .busy-length) (w .opened .bodies);
         })
 
@@ -187,7 +171,7 @@ module _ {flags : List ℕ} {cs : List (List ℕ)} {n k count : ℕ} {starts₀ 
             (λ t. closed .idle b (omega (arith, lb, w .opened .busy-length)) ∙ rw t (d .busy-are b l ∙ rw (t, and-false)))
 
         given : (r : ℕ) → r < length cs → promised flags cs r < k + 1 → getD colors″ r 0 ≡ promised flags cs r
-        given r l m = closed .given r (omega (arith, w .sized)) ∙ rw (is-member flags cs k r l) (by-cases (eqb k (promised flags cs r))
+        given r l m = closed .given r (omega (arith, w .sized)) ∙ rw (member-at (colorsOf flags cs) k r (omega (arith, colors-length flags cs))) (by-cases (eqb k (promised flags cs r))
             (λ e. rw e (eqb-true k (promised flags cs r) e))
             (λ e. rw e (w .given r l (omega (arith, eqb-false k (promised flags cs r) e)))))
 

@@ -2,7 +2,7 @@
 -- an update answers as the definition does, and leaves the plan and the tables holding what is remembered then.
 use Prim.Native.Nat.{ℕ, _*_, _/_}
 use mathlib.Core.Path.{_≡_, refl, sym, ap, ap₂, _∙_}
-use mathlib.Core.Bool.{Bool, true, false, not, _&&_, _||_}
+use mathlib.Core.Bool.{Bool, true, false, not, _&&_, _||_, or-false, or-true, or-assoc}
 use mathlib.Core.List.{List, [], _∷_}
 use native.Mathlib.Omega.{arith}
 use lib.Dec.{eqb}
@@ -12,7 +12,7 @@ use borrow.Author.Tests.{eqb-true, eq-eqb}
 use Rattle.lists.specs.Basics.{any, same}
 use Rattle.lists.proofs.Laws.{and-left, and-right, and-both, by-cases, bool-ext, clashes}
 use Rattle.groups.specs.Groups.{planOf, pairsOf, colorsOf, groupCount, largestGroup, flatten, colorFrom}
-use Rattle.painting.proofs.Pairs.{pairs-length}
+use Rattle.groups.proofs.Pairs.{pairs-length}
 use Rattle.plan_questions.specs.Plans.{Tables, roomy}
 use Rattle.constraint_coloring.specs.declared.ConstraintColoring.{ConstraintColoring}
 use Rattle.constraint_coloring.specs.declared.Update.{Update}
@@ -81,18 +81,6 @@ stand-new ch new old table e y = ap (take (length new)) (e ∙ sym (written-new 
 
 stand-old : (ch : Bool) (s new old table : List ℕ) → table ≡ written ch new old → ch ≡ false → Stands s old → Stands s table
 stand-old ch s new old table e n h = ap (take (length s)) (e ∙ sym (written-not ch new old n)) ∙ h
-
-or-false : (b : Bool) → (b || false) ≡ b
-or-false true = refl
-or-false false = refl
-
-or-true : (b : Bool) → (b || true) ≡ true
-or-true true = refl
-or-true false = refl
-
-or-assoc : (a b c : Bool) → ((a || b) || c) ≡ (a || (b || c))
-or-assoc true b c = refl
-or-assoc false b c = refl
 
 module _ (begun : Bool) (m : Memory) (p : ConstraintColoring) (t u : Tables) (flags pairs : List ℕ) (r : Update) (h : Remembers begun m p t) (w : Updated p flags pairs t u r) where
   abbrev room : Bool

@@ -3,24 +3,25 @@
 use Prim.Native.Nat.{ℕ, _+_, _*_, _≤_, _<_}
 use mathlib.Core.Path.{_≡_, refl, sym, ap, _∙_}
 use mathlib.Core.Bool.{Bool, true, not}
-use mathlib.Core.List.{List, [], _∷_}
+use mathlib.Core.List.{List}
 use native.Mathlib.Omega.{arith}
 use lib.Dec.{eqb, ltb}
 use lib.ListN.{length}
 use borrow.Author.Tests.{le-leb, lt-ltb, le-ltb, eqb-true, eq-eqb}
-use Rattle.lists.specs.Basics.{over, joinMap}
+use Rattle.lists.specs.Basics.{over}
 use Rattle.lists.proofs.Laws.{by-cases, clashes}
 use Rattle.frame.specs.Questions.{asked}
 use Rattle.frame.specs.Files.{countM, countJ, decode, fileQuestions}
 use Rattle.schedules.specs.Runs as runs
-use Rattle.schedules.specs.Runs.{Call, turnOf, turnsOf, runCalls, refused, runRefusal, runOf}
+use Rattle.schedules.specs.Runs.{turnsOf, runCalls, refused, runRefusal, runOf}
 use Rattle.schedules.specs.Print.{headOf, refusalLine, firstLine, answerTo}
-use Rattle.frame_parts.proofs.Decoding.{file-sized}
 use Rattle.run_answer.specs.declared.Report.{Report}
 use Rattle.run_answer.specs.declared.Answer.{Answer}
 use Rattle.run_answer.specs.declared.Answer.the-variants as answer
 use Rattle.run_answer.specs.Answers.{runNumber, runRefused, runReport}
 use Rattle.frame_run.proofs.Runs.{all-asked}
+use Rattle.frame_run.proofs.Frames.{turns-long}
+use Rattle.frame.proofs.Files.{file-sized}
 use Rattle.own_tables.specs.Runs.{turnsFit, RanAlone}
 use Rattle.print_pieces.specs.Pieces.{answerLine, InputAnswered}
 
@@ -82,13 +83,9 @@ long-answered bs ts many =
     }
 
 -- ---- three entries a turn
-joined-long : (cs : List Call) → length (joinMap turnOf cs) ≡ 3 * length cs
-joined-long [] = refl
-joined-long (c ∷ cs) = omega (arith, joined-long cs)
-
 pub table-long : (bs : List ℕ) → length (answerTo bs .table) ≡ 3 * answerTo bs .turns
 unfolding answerTo runOf
 table-long bs =
     by-cases (ltb 40971 (length bs))
     (λ e. rw e)
-    (λ e. rw e (by-cases (eqb (runRefusal bs true) 0) (λ t. rw t (joined-long (turnsOf (runCalls (decode bs))))) (λ t. rw t)))
+    (λ e. rw e (by-cases (eqb (runRefusal bs true) 0) (λ t. rw t (turns-long (turnsOf (runCalls (decode bs))))) (λ t. rw t)))

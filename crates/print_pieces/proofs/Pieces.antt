@@ -9,7 +9,7 @@ use lib.Seq.{drop-drop, take-at}
 use borrow.Author.Tests.{le-leb, lt-ltb, ltb-true, eqb-true, eqb-false}
 use Rattle.lists.specs.Basics.{one, over, put}
 use Rattle.lists.proofs.Laws.{by-cases}
-use Rattle.lists.proofs.Puts.{put-put}
+use Rattle.lists.proofs.Puts.{put-put, put-first}
 use Rattle.run_answer.specs.declared.Answer.{Answer}
 use Rattle.run_answer.specs.Answers.{runReport}
 use Rattle.schedules.specs.Print.{turnLines, answerTo}
@@ -20,10 +20,6 @@ use Rattle.printing.proofs.Turns.{gathered-few}
 use Rattle.print_pieces.specs.declared.Piece.{Piece}
 use Rattle.print_pieces.specs.Pieces.{answerLine, InputAnswered, bufferSize, pieceText, PieceStands, turnsLeft, FirstPiece, NextPiece}
 use Rattle.print_pieces.proofs.Answers.{table-long}
-
-put-first : (new old : List ℕ) → put 0 new old ≡ over new old
-unfolding put
-put-first new old = let e : 0 + length new ≡ length new = omega arith in rw e
 
 -- a line that has room is put
 pub put-line : (line text old new : List ℕ) (r : ℕ) → text ≡ line → longest ≤ length old → Put (ifRoom (length old) 0 text) old 0 new r → Put line old 0 new r

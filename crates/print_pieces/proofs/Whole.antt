@@ -13,11 +13,13 @@ use borrow.Author.Tests.{lt-ltb, le-leb, eq-eqb, eqb-true}
 use Rattle.lists.specs.Basics.{one, joinMap}
 use Rattle.lists.proofs.Laws.{by-cases, clashes, and-left, and-right, and-both}
 use Rattle.frame.specs.Frames.{Frame, constraints, constraintAt, touches}
-use Rattle.frame.specs.Files.{countM, countJ, pairsAt, jointsAt, enabledIn, decode, frameRefusal}
+use Rattle.frame.specs.Files.{countM, countJ, decode, frameRefusal}
+use Rattle.frame.proofs.Files.{constraint-count}
+use Rattle.frame.proofs.Pairs.{live-number}
 use Rattle.schedules.specs.Runs.{Call, Report, turnOf, runCalls, runRefusal, runOf}
 use Rattle.schedules.specs.Print.{decimal, spaced, islandsWord, turnsWord, takesWord, degreeWord, refusedWord, headOf, refusalLine, turnLines, firstLine, answerTo, printOf}
 use Rattle.schedules.specs.Condition.{takesOn}
-use Rattle.schedules.proofs.Accepted.{accepted, pairs-count, live-number}
+use Rattle.schedules.proofs.Accepted.{accepted}
 use Rattle.schedules.proofs.Condition3.{run-once, run-report}
 use Rattle.print_fields.specs.Puts.{longest}
 use Rattle.printing.specs.Turns.{lineOf, ready, gathered, turnsFrom, linesOf}
@@ -73,10 +75,6 @@ known-calls bs (c ∷ cs) h =
     and-both (ltb (c .constraint) (countM bs + countJ bs)) (known bs (joinMap turnOf cs))
     (lt-ltb (c .constraint) (countM bs + countJ bs) (h (c .constraint) (omega (arith, ap one (eq-eqb (c .constraint) (c .constraint) refl)))))
     (known-calls bs cs (λ n t. h n (omega arith)))
-
-constraint-count : (bs : List ℕ) → length (constraints (decode bs)) ≡ countM bs + countJ bs
-unfolding decode
-constraint-count bs = omega (arith, length-append (decode bs .manifolds) (decode bs .joints), pairs-count bs (pairsAt bs) 4 (countM bs) [], pairs-count bs (jointsAt bs) 5 (countJ bs) (enabledIn bs))
 
 touches-live : (f : Frame) (n : ℕ) → touches f (constraintAt f n) ≡ true → n < length (constraints f)
 unfolding touches

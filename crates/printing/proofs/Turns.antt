@@ -14,8 +14,8 @@ use Rattle.lists.proofs.Laws.{by-cases, and-left, and-right}
 use Rattle.lists.proofs.Puts.{put-none}
 use Rattle.frame.specs.Frames.{Constraint, Frame, nothing, constraintsOf, constraintAt}
 use Rattle.frame.specs.Files.{half, countB, countM, countJ, pairsAt, jointsAt, pairsFrom, manifoldsIn, jointsIn, enabledIn, decode}
+use Rattle.frame.proofs.Files.{manifolds-count}
 use Rattle.schedules.specs.Print.{decimal, spaced, turnLine, turnLines}
-use Rattle.schedules.proofs.Accepted.{pairs-count}
 use Rattle.print_fields.specs.Puts.{Put, longest, ifRoom}
 use Rattle.printing.specs.Turns.{endsAt, lineOf, ready, ifReady, gathered, turnsFrom, linesOf, Lines}
 use Rattle.print_fields.proofs.Puts.{put-nothing, wrote-then}
@@ -57,7 +57,7 @@ unfolding constraintAt decode
 ends-at bs n h =
     let ms = constraintsOf (manifoldsIn bs) [] in
     let js = constraintsOf (jointsIn bs) (enabledIn bs) in
-    let l : length ms ≡ countM bs = pairs-count bs (pairsAt bs) 4 (countM bs) [] in
+    let l : length ms ≡ countM bs = manifolds-count bs in
     by-cases (ltb n (countM bs))
     (λ t.
     let k : n < length ms = omega (arith, ltb-true n (countM bs) t) in

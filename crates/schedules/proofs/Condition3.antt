@@ -15,12 +15,14 @@ use borrow.Author.Tests.{eqb-true, ne-eqb, leb-true, leb-false}
 use Rattle.lists.specs.Basics.{one, any, all, sumOf, maxOf, count, joinMap, rangeFrom, range, mem}
 use Rattle.lists.proofs.Sums.{collapse, sum-swap, sum-ext, sum-null, sum-zero, sum-map, sum-filter, sum-joinMap, sum-getD, filter-all}
 use Rattle.lists.proofs.Laws.{and-left, or-right, by-cases, clashes, mem-self, range-high, max-in, getD-mem, same-sum, sum-ext-in, eqb-sym, sum-one, sum-distinct, all-map, count-any}
+use Rattle.lists.proofs.Ranges.{joinMap-ext-in}
 use Rattle.frame.specs.Files.{decode, frameRefusal}
+use Rattle.frame.proofs.Pairs.{live-number}
 use Rattle.connected_sets.specs.Islands.{islandCount, label, ofIsland}
 use Rattle.connected_sets.proofs.Theorem.{islands-few, label-below-at}
 use Rattle.colored_bodies.specs.declared.BodyBinding.{BodyBinding}
 use Rattle.schedules.specs.Condition.{SameNumbers, due, takesOn, Claim}
-use Rattle.schedules.proofs.Accepted.{Accepted, accepted, live, live-number}
+use Rattle.schedules.proofs.Accepted.{Accepted, accepted, live}
 use Rattle.schedules.proofs.Plans.{endsAt, colorsAt, Stands, plan-stands, planned-stands, groups-few, length-colors}
 use Rattle.schedules.proofs.Groups.{group-right}
 
@@ -194,21 +196,17 @@ same-calls p q ns i k e b (r ∷ rs) =
     let c : Call = record { island = i; group = k; constraint = getD ns r 0; refusal = t .refusal; handed = t .handed } in
     rw (e b r) (ap (λ (cs : List Call). c ∷ cs) (same-calls p q ns i k e (t .after) rs))
 
-pub join-ext : {A : Type 0} (g h : ℕ → List A) (xs : List ℕ) → ((x : ℕ) → mem x xs ≡ true → g x ≡ h x) → joinMap g xs ≡ joinMap h xs
-join-ext g h [] e = refl
-join-ext g h (x ∷ xs) e = ap₂ _++_ (e x (mem-self x xs)) (join-ext g h xs (λ y m. e y (or-right (eqb y x) (mem y xs) m)))
-
 pub same-schedule : (f : Frame) (ok : Accepted f) (p q : Plans) → ((i : ℕ) (l : i < islandCount f) → Stands f ok i l (p i)) → ((i : ℕ) (l : i < islandCount f) → Stands f ok i l (q i))
     → schedule f p (rising p) ≡ schedule f q (rising q)
 unfolding schedule groupCalls rising
-same-schedule f ok p q sp sq = join-ext _ _ (range (islandCount f))
+same-schedule f ok p q sp sq = joinMap-ext-in _ _ (range (islandCount f))
     (λ i m.
     let l : i < islandCount f = omega (arith, range-high i 0 (islandCount f) m) in
     let s = sp i l in
     let t = sq i l in
     let g : p i .groups ≡ q i .groups = s .groups ∙ sym (t .groups) in
     ap (λ (n : ℕ). joinMap (groupCalls f p (rising p) i) (range n)) g
-    ∙ join-ext _ _ (range (q i .groups))
+    ∙ joinMap-ext-in _ _ (range (q i .groups))
     (λ k n.
     let h : k < q i .groups = omega (arith, range-high k 0 (q i .groups) n) in
     let h′ : k < p i .groups = omega (arith, g) in

@@ -8,26 +8,18 @@ use native.Mathlib.Omega.{arith}
 use lib.Dec.{ltb, eqb}
 use lib.ListN.{length, getD}
 use borrow.Author.Tests.{eqb-true, eqb-false, ltb-true, ltb-false, lt-ltb, le-leb, not-true}
-use Rattle.lists.specs.Basics.{any, all, range, mem, place, distinct, rises}
-use Rattle.lists.proofs.Laws.{and-left, and-right, or-right, clashes, by-cases, not-true-false, any-in, mem-self, in-range, range-high, length-range, all-intro, all-in, filter-mem, mem-filter, getD-mem, rises-filter, rises-distinct, filter-length-le, distinct-count, count-distinct, mem-count, count-any}
+use Rattle.lists.specs.Basics.{all, mem, place, distinct, rises}
+use Rattle.lists.proofs.Laws.{and-left, and-right, or-right, clashes, by-cases, not-true-false, mem-self, all-in, getD-mem, rises-distinct, distinct-count, count-distinct, mem-count, count-any}
 use Rattle.frame.specs.Frames.{Frame, dynamic}
 use Rattle.connected_sets.specs.Islands.{islandCount, ofIsland}
 use Rattle.groups.specs.Groups.{Plan, members, groupBodies, positions}
 use Rattle.groups.proofs.Colors.{proper}
+use Rattle.groups.proofs.Members.{member-is, members-rise, bodies-rise, bodies-few, bodies-exist, has-body}
 use Rattle.colored_bodies.specs.Bindings.{lastBelow, bindRefusal, bindOf, Handed, takeOf}
 use Rattle.colored_bodies.proofs.Takes.{typed, leftOf, left-first, take-left}
 use Rattle.schedules.specs.Condition.{SameNumbers, due}
 use Rattle.schedules.proofs.Accepted.{Accepted, Live, flag-dynamic}
 use Rattle.schedules.proofs.Plans.{endsAt, pairsAt, colorsAt, of-island, touch-live, length-pairs, length-colors, ends-are, Stands}
-
--- a member of a group is a rank of its color
-pub member : (cs : List ℕ) (k r : ℕ) → mem r (members cs k) ≡ true → (r < length cs) × (k ≡ getD cs r 0)
-unfolding members
-member cs k r h = let o = filter-mem (λ x. eqb k (getD cs x 0)) r (range (length cs)) h in (omega (arith, range-high r 0 (length cs) (o .0)), eqb-true k (getD cs r 0) (o .1))
-
-members-distinct : (cs : List ℕ) (k : ℕ) → distinct (members cs k) ≡ true
-unfolding members
-members-distinct cs k = rises-distinct (members cs k) (rises-filter (λ r. eqb k (getD cs r 0)) 0 (length cs))
 
 last-inside : (n : ℕ) (xs : List ℕ) → all (λ b. ltb b n) xs ≡ true → lastBelow n xs ≡ true
 last-inside n [] h = refl
@@ -48,22 +40,22 @@ module _ (f : Frame) (ok : Accepted f) (i : ℕ) (l : i < islandCount f) (p : Pl
   bs : List ℕ
   bs = groupBodies nb (pairsAt f i) colors k
 
-  bodies-rise : rises bs ≡ true
-  unfolding bs groupBodies
-  bodies-rise = rises-filter (λ b. any (λ r. mem b (getD (pairsAt f i) r [])) (members colors k)) 0 nb
+  rising : rises bs ≡ true
+  unfolding bs
+  rising = bodies-rise nb (pairsAt f i) colors k
 
-  bodies-few : length bs ≤ 4096
-  unfolding bs groupBodies
-  bodies-few = omega (arith, filter-length-le (λ b. any (λ r. mem b (getD (pairsAt f i) r [])) (members colors k)) (range nb), length-range 0 nb, ok .few-bodies)
+  few : length bs ≤ 4096
+  unfolding bs
+  few = omega (arith, bodies-few nb (pairsAt f i) colors k, ok .few-bodies)
 
-  bodies-inside : all (λ b. ltb b nb) bs ≡ true
-  unfolding bs groupBodies
-  bodies-inside = all-intro (λ b. ltb b nb) bs (λ b m. lt-ltb b nb (omega (arith, range-high b 0 nb (filter-mem (λ x. any (λ r. mem x (getD (pairsAt f i) r [])) (members colors k)) b (range nb) m .0))))
+  inside : all (λ b. ltb b nb) bs ≡ true
+  unfolding bs
+  inside = bodies-exist nb (pairsAt f i) colors k nb (omega arith)
 
   -- the bind is accepted, and nothing is gone at first
   bound-first : bindOf (f .types) (bodiesIn p k) ≡ leftOf (f .types) (λ b. false) bs
   unfolding bindOf bindRefusal bs
-  bound-first = rw (st .bodies k inside-k, le-leb nb 4096 (ok .few-bodies), ok .types-known, bodies-rise, last-inside nb bs bodies-inside) (left-first (f .types) bs)
+  bound-first = rw (st .bodies k inside-k, le-leb nb 4096 (ok .few-bodies), ok .types-known, rising, last-inside nb bs inside) (left-first (f .types) bs)
 
   -- what is known of a member of the group
   record Member (r : ℕ) : Type 0 where
@@ -74,17 +66,15 @@ module _ (f : Frame) (ok : Accepted f) (i : ℕ) (l : i < islandCount f) (p : Pl
 
   know : (r : ℕ) → mem r (members colors k) ≡ true → Member r
   know r m =
-      let o = member colors k r m in
+      let o = member-is colors k r m in
       let h : r < length (ofIsland f i) = omega (arith, length-colors f ok i l) in
       record { color = sym (o .1); ranked = h; ends-of = ends-are f ok i l r h; is-live = touch-live f ok (at r) (of-island f ok i (at r) l (getD-mem (ofIsland f i) r h) .2) }
 
   within : (r : ℕ) → mem r (members colors k) ≡ true → (b : ℕ) → mem b (endsAt f (at r)) ≡ true → mem b bs ≡ true
-  unfolding bs groupBodies
+  unfolding bs
   within r m b h =
       let q = know r m in
-      mem-filter (λ x. any (λ s. mem x (getD (pairsAt f i) s [])) (members colors k)) b (range nb)
-      (in-range b 0 nb (omega arith) (omega (arith, ltb-true b nb (all-in (λ x. ltb x nb) b (endsAt f (at r)) h (q .is-live .inside)))))
-      (any-in (λ s. mem b (getD (pairsAt f i) s [])) r (members colors k) m (rw (q .ends-of) h))
+      has-body nb (pairsAt f i) colors k r b m (rw (q .ends-of) h) (ltb-true b nb (all-in (λ x. ltb x nb) b (endsAt f (at r)) h (q .is-live .inside)))
 
   -- two members share no dynamic body
   pub disjoint : (r s b : ℕ) → mem r (members colors k) ≡ true → mem s (members colors k) ≡ true → eqb r s ≡ false → typed (f .types) b ≡ true
@@ -118,7 +108,7 @@ module _ (f : Frame) (ok : Accepted f) (i : ℕ) (l : i < islandCount f) (p : Pl
       let b₀ = leftOf (f .types) gone bs in
       let asked : takeRank p b₀ r ≡ takeOf b₀ (positions nb (pairsAt f i) colors r) = st .takes b₀ r ∙ ap (λ (t : Bool). cond t (takeOf b₀ (positions nb (pairsAt f i) colors r)) (record { refusal = 12; handed = []; after = b₀ })) (lt-ltb r (length (ofIsland f i)) (q .ranked)) in
       let taken = asked ∙ ap (takeOf (leftOf (f .types) gone bs)) (positions-are r m)
-      ∙ take-left (f .types) gone bs (endsAt f n) (within r m) (rises-distinct bs bodies-rise) (q .is-live .apart) bodies-few (λ b h t. fresh r b (mem-self r rs) h t) in
+      ∙ take-left (f .types) gone bs (endsAt f n) (within r m) (rises-distinct bs rising) (q .is-live .apart) few (λ b h t. fresh r b (mem-self r rs) h t) in
       let rest = calls-right rs (λ b. mem b (endsAt f n) || gone b)
       (λ s h. all-members s (or-right (eqb s r) (mem s rs) h))
       (and-right (not (mem r rs)) (distinct rs) d)
@@ -134,5 +124,5 @@ module _ (f : Frame) (ok : Accepted f) (i : ℕ) (l : i < islandCount f) (p : Pl
       let same′ : SameNumbers rs (members colors k) = subst (SameNumbers rs) (st .members k inside-k) same in
       rw bound-first (calls-right rs (λ b. false)
       (λ r m. count-any (eqb r) (members colors k) (omega (arith, mem-count r rs m, same′ r)))
-      (count-distinct rs (λ n. omega (arith, same′ n, distinct-count n (members colors k) (members-distinct colors k))))
+      (count-distinct rs (λ n. omega (arith, same′ n, distinct-count n (members colors k) (rises-distinct (members colors k) (members-rise colors k)))))
       (λ r b h j t. refl))

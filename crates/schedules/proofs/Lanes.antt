@@ -1,27 +1,29 @@
 -- Two lanes never hold one body. Two turns of one group have different constraints of one color, and the coloring is proper, so no body that
 -- makes conflicts is on both. Turns of two islands have constraints of different labels, and a constraint has the label of each of its dynamic bodies.
-use Prim.Native.Nat.{ℕ, zero, suc, _≤_, _<_}
-use mathlib.Core.Path.{_≡_, refl, sym, ap, _∙_}
-use mathlib.Core.Bool.{Bool, true, false, _&&_, _||_}
-use mathlib.Core.List.{List, [], _∷_, _++_, map, List·Memᴰ, List·Memᴰ·head, List·Memᴰ·tail}
+use Prim.Native.Nat.{ℕ, _<_}
+use mathlib.Core.Path.{_≡_, sym, ap, _∙_}
+use mathlib.Core.Bool.{Bool, true, _&&_}
+use mathlib.Core.List.{List, _∷_, _++_, List·Memᴰ}
 use native.Mathlib.Omega.{arith}
 use lib.Dec.{eqb}
 use lib.ListN.{length, getD}
 use borrow.Author.Tests.{eqb-true, ne-eqb}
-use Rattle.lists.specs.Basics.{one, any, mem}
-use Rattle.lists.proofs.Laws.{and-left, and-right, and-both, not-true-false, any-out, getD-mem, range-high}
+use Rattle.lists.specs.Basics.{any, mem}
+use Rattle.lists.proofs.Laws.{and-left, and-right, and-both, not-true-false, any-out, getD-mem, range-high, any-map, getD-listed}
+use Rattle.lists.proofs.Bits.{one-le}
 use Rattle.frame.specs.Frames.{Constraint, Frame, constraints, constraintAt, nothing, conflicts, dynamic, on, touches}
 use Rattle.frame.specs.Files.{decode, frameRefusal}
 use Rattle.connected_sets.specs.Islands.{islandCount, bodyLabel, ofIsland}
 use Rattle.connected_sets.proofs.Theorem.{label-each}
 use Rattle.groups.specs.Groups.{members}
+use Rattle.groups.proofs.Members.{member-is}
 use Rattle.colored_bodies.specs.Bindings.{Handed}
 use Rattle.schedules.specs.Runs.{Call, Plans, Orders, schedule}
 use Rattle.schedules.specs.Condition.{Schedule, due}
 use Rattle.schedules.specs.Lanes.{holdsBody, Turns, conflicting, Apart, LanesApart, IslandsApart}
 use Rattle.schedules.proofs.Accepted.{Accepted, accepted}
 use Rattle.schedules.proofs.Plans.{endsAt, colorsAt, Stands, of-island, length-colors, planned-stands}
-use Rattle.schedules.proofs.Groups.{member, disjoint}
+use Rattle.schedules.proofs.Groups.{disjoint}
 use Rattle.schedules.proofs.Condition3.{all-turns, condition3}
 use Rattle.schedules.proofs.Calls.{map-each, Member, call-member, numbers-differ, first-listed, second-listed}
 
@@ -31,10 +33,6 @@ unfolding on
 on-end c b h = and-right (c .live) (mem b (c .ends)) h
 
 -- ---- what a turn holds
-
-any-map : {A B : Type 0} (q : B → Bool) (g : A → B) (xs : List A) → any q (map g xs) ≡ any (λ x. q (g x)) xs
-any-map q g [] = refl
-any-map q g (x ∷ xs) = ap (λ (t : Bool). q (g x) || t) (any-map q g xs)
 
 -- a body that a turn holds makes conflicts, and is an endpoint of its constraint
 held-by : (f : Frame) (b n : ℕ) (hs : List Handed) → hs ≡ due f n → any (λ h. h .dynamic && eqb b (h .body)) hs ≡ true → (conflicting f b ≡ true) × (mem b (endsAt f n) ≡ true)
@@ -46,21 +44,16 @@ held-by f b n hs e h =
 
 -- ---- two members
 
-at-listed : (cs : List Constraint) (n : ℕ) → n < length cs → List·Memᴰ (getD cs n nothing) cs
-at-listed [] n h = absurd (omega arith)
-at-listed (c ∷ cs) zero h = List·Memᴰ·head refl
-at-listed (c ∷ cs) (suc n) h = List·Memᴰ·tail (at-listed cs n (omega arith))
-
 module _ (f : Frame) (ok : Accepted f) where
   -- a dynamic body of a member's constraint has the label of its island
   body-island : (i k r n b : ℕ) → i < islandCount f → mem r (members (colorsAt f i) k) ≡ true → n ≡ getD (ofIsland f i) r 0 → dynamic f b ≡ true → mem b (endsAt f n) ≡ true → i ≡ bodyLabel f b
   unfolding constraintAt on touches
   body-island i k r n b l m e d h =
-      let short : r < length (ofIsland f i) = omega (arith, member (colorsAt f i) k r m .0, length-colors f ok i l) in
+      let short : r < length (ofIsland f i) = omega (arith, member-is (colorsAt f i) k r m .0, length-colors f ok i l) in
       let known = of-island f ok i n l (rw e (getD-mem (ofIsland f i) r short)) in
       let inside : n < length (constraints f) = omega (arith, range-high n 0 (length (constraints f)) (known .0)) in
       let live = and-left (constraintAt f n .live) (any (dynamic f) (endsAt f n)) (known .2) in
-      sym (known .1) ∙ label-each f (constraintAt f n) b (at-listed (constraints f) n inside) (and-both (constraintAt f n .live) (mem b (endsAt f n)) live h) d
+      sym (known .1) ∙ label-each f (constraintAt f n) b (getD-listed (constraints f) n nothing inside) (and-both (constraintAt f n .live) (mem b (endsAt f n)) live h) d
 
   module _ (p : Plans) (st : (i : ℕ) (l : i < islandCount f) → Stands f ok i l (p i)) where
     -- two constraints of one group share no body that makes conflicts
@@ -99,10 +92,6 @@ module _ (bs : List ℕ) (p : Plans) (o : Orders) (c d : Call) (e : frameRefusal
 
   differ : c .constraint ≡ d .constraint → ⊥
   differ = numbers-differ (schedule f p o) (two .earlier) (two .between) (two .later) c d listed (λ n. omega (arith, condition3 bs p o e sch .once n, one-le (touches f (constraintAt f n))))
-    where
-      one-le : (t : Bool) → one t ≤ 1
-      one-le true = omega arith
-      one-le false = omega arith
 
   -- no body that makes conflicts on both constraints: that is what being apart comes to
   apart : ((b : ℕ) → conflicting f b ≡ true → mem b (endsAt f (c .constraint)) ≡ true → mem b (endsAt f (d .constraint)) ≡ true → ⊥) → Apart f c d

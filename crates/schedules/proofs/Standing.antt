@@ -1,16 +1,16 @@
 -- An accepted update of a fresh plan leaves the definition's tables in the used places, or, where it answers "unchanged", a plan with no
 -- groups. Either way the lookups hand back the definition's members, bodies and positions, whatever stands behind.
-use Prim.Native.Nat.{ℕ, zero, suc, _/_, _≤_, _<_}
+use Prim.Native.Nat.{ℕ, _/_, _≤_, _<_}
 use mathlib.Core.Path.{_≡_, refl, sym, _∙_, subst}
 use mathlib.Core.Bool.{true, _&&_, cond}
-use mathlib.Core.List.{List, [], _∷_, _++_, append-nil}
+use mathlib.Core.List.{List, [], _++_, append-nil}
 use native.Mathlib.Omega.{arith}
 use lib.Dec.{ltb, eqb}
 use lib.ListN.{length, getD, drop, length-map}
 use borrow.Author.Tests.{le-ltb, eqb-true, ltb-true, le-leb}
-use Rattle.lists.proofs.Laws.{and-left, and-right, by-cases}
+use Rattle.lists.proofs.Laws.{and-left, and-right, by-cases, no-length}
 use Rattle.groups.specs.Groups.{Plan, pairsOf, colorsOf, colorFrom, groupCount, members, groupBodies, positions, flatten, planOf}
-use Rattle.painting.proofs.Pairs.{pairs-length}
+use Rattle.groups.proofs.Pairs.{pairs-length, two-ends}
 use Rattle.constraint_coloring.specs.declared.Update.{Update}
 use Rattle.plan_questions.specs.Plans.{Tables, positionsRefusal, positionsAt}
 use Rattle.constraint_coloring.specs.Calls.{freshPlan, planAfter, carried, holds, refusalWith, changesWith, written, Updated}
@@ -20,16 +20,6 @@ use Rattle.colored_bodies.specs.declared.BodyBinding.{BodyBinding}
 use Rattle.colored_bodies.specs.Bindings.{takeOf}
 use Rattle.schedules.specs.Runs.{membersIn, bodiesIn, takeRank}
 use Rattle.schedules.specs.Condition.{standing}
-
-two-ends : (ps : List ℕ) (r : ℕ) → r < length (pairsOf ps) → length (getD (pairsOf ps) r []) ≡ 2
-two-ends [] r h = absurd (omega arith)
-two-ends (a ∷ []) r h = absurd (omega arith)
-two-ends (a ∷ b ∷ ps) zero h = refl
-two-ends (a ∷ b ∷ ps) (suc r) h = two-ends ps r (omega arith)
-
-no-length : (xs : List ℕ) → length xs ≡ 0 → xs ≡ []
-no-length [] e = refl
-no-length (x ∷ xs) e = absurd (omega arith)
 
 module _ (flags pairs : List ℕ) where
   abbrev cs : List (List ℕ)

@@ -2,11 +2,11 @@
 use native.Mathlib.Omega.{arith}
 use Prim.Native.Nat.{ℕ}
 use mathlib.Core.Path.{_≡_, refl}
-use mathlib.Core.Bool.{Bool, true, false}
+use mathlib.Core.Bool.{Bool}
 use mathlib.Core.List.{List, [], _∷_}
 use mir.Val.{boolByte}
 use lib.ListN.{getD}
-use Rattle.lists.specs.Basics.{one}
+use Rattle.lists.proofs.Bits.{byte-one}
 use Rattle.colored_bodies.specs.declared.Marked.{Marked}
 use Rattle.colored_bodies.specs.declared.Marked.the-variants as marked
 use borrow.Author.Needs.{needs}
@@ -15,16 +15,12 @@ use Rattle.answer_numbers.specs.Numbers.{handedNumbers}
 use Rattle.answer_numbers.proofs.hand.Statement.{statement}
 use Rattle.answer_numbers.proofs.hand.Tie as tie
 
-byte-of : (t : Bool) → boolByte t ≡ one t
-byte-of true = refl
-byte-of false = refl
-
 number : (bodies : List ℕ) (a b : ℕ) (m : Marked) (p q : Bool) → m ≡ marked.Taken p q → 0 ≡ takeNumber (withBodies bodies a b m)
 number bodies a b m p q e = rw e refl
 
 -- the four numbers that are written where the marks are taken
 taken : (bodies : List ℕ) (a b : ℕ) (m : Marked) (p q : Bool) → m ≡ marked.Taken p q → (getD bodies a 0 ∷ boolByte p ∷ getD bodies b 0 ∷ boolByte q ∷ []) ≡ handedNumbers (withBodies bodies a b m)
-taken bodies a b m p q e = rw e (rw (byte-of p) (rw (byte-of q) refl))
+taken bodies a b m p q e = rw e (rw (byte-one p) (rw (byte-one q) refl))
 
 enum-known-marked : tie.Need-enum-known-marked
 enum-known-marked c = search needs

@@ -1,6 +1,6 @@
 -- The tables are as the call leaves them; its answer is taken apart into the refusal and the count.
 use borrow.Author.Needs.{needs}
-use Rattle.boundary.proofs.Numbers.{built-by}
+use Rattle.island.proofs.Entry.{built-by}
 use Rattle.boundary.proofs.engkarupi_islands.Statement.{statement}
 use Rattle.boundary.proofs.engkarupi_islands.Tie as tie
 

@@ -1,9 +1,8 @@
 -- `degree_of`: a frame that is not refused passed question 7, so its constraints can be counted.
 use mathlib.Core.Path.{sym}
 use lib.ListN.{length}
-use lib.Seq.{length-take-le}
+use lib.Seq.{length-take-le, length-front}
 use borrow.Author.Tests.{ne-eqb}
-use Rattle.island_numbers.proofs.Scans.{front-back}
 use Rattle.frame_parts.proofs.Decoding.{degree-ready, degree-rest}
 use borrow.Author.Needs.{needs}
 use Rattle.frame_parts.proofs.degree_of.Statement.{statement}
@@ -40,7 +39,7 @@ degree-requires : tie.Need-degree-requires
 degree-requires c κs = degree-ready _ _ _ _ _ _ (c .before .before .before .before .before .before .before .before .pre) (c .before .before .before .if1 .left)
 
 same-length : tie.Need-same-length
-same-length c = front-back (length (c .before .before .before .before .before .before .before .before .before .before .before .args .types .now)) (c .before .before .degree .last .1 .1 .1 .1 .0) (c .before .before .before .before .before .before .before .before .before .before .before .args .counts .now) (c .before .before .degree .kept .1 .1 .1 .1 .0)
+same-length c = length-front (c .before .before .before .before .before .before .before .before .before .before .before .args .counts .now) (c .before .before .degree .last .1 .1 .1 .1 .0) (length (c .before .before .before .before .before .before .before .before .before .before .before .args .types .now)) (c .before .before .degree .kept .1 .1 .1 .1 .0)
 
 returns-2 : tie.Need-returns-2
 returns-2 c = degree-rest _ (c .before .before .before .before .before .before .before .before .before .before .before .args .types .now) (c .before .before .before .before .before .before .before .before .before .before .before .args .pairs .now) (c .before .before .before .before .before .before .before .before .before .before .before .args .manifolds) (c .before .before .before .before .before .before .before .before .before .before .before .args .enabled .now) _ (c .before .before .before .before .before .before .if1 .left) (c .before .before .degree .ensures)

@@ -1,7 +1,7 @@
 -- `sort`: the fronts of the label tables are as many labels as there are constraints.
 use mathlib.Core.Path.{sym}
-use lib.Seq.{length-take-le}
-use Rattle.frame_parts.proofs.Decoding.{fronts-long, sortable-by}
+use lib.Seq.{length-take-le, length-paste-head}
+use Rattle.frame_parts.proofs.Decoding.{sortable-by}
 use borrow.Author.Needs.{needs}
 use Rattle.frame_parts.proofs.sort.Statement.{statement}
 use Rattle.frame_parts.proofs.sort.Tie as tie
@@ -22,7 +22,7 @@ slice-aggregate-sort-3 : tie.Need-slice-aggregate-sort-3
 slice-aggregate-sort-3 c = sym (length-take-le _ (c .before .before .before .before .before .before .before .before .before .args .keys .now) (c .before .before .before .before .before .before .before .before .before .pre .0 .2))
 
 sort-requires : tie.Need-sort-requires
-sort-requires c κs = (c .before .before .before .before .before .before .before .before .before .before .before .before .pre .1 .0, sortable-by (fronts-long _ _ (c .before .before .before .before .before .before .before .before .before .before .before .before .args .manifold-islands .now) (c .before .before .before .before .before .before .before .before .before .before .before .before .args .joint-islands .now) (c .before .before .before .before .before .before .before .before .before .before .before .before .pre .0 .0) (c .before .before .before .before .before .before .before .before .before .before .before .before .pre .0 .1)) (c .before .before .before .before .before .before .before .before .before .before .before .before .pre .1 .1))
+sort-requires c κs = (c .before .before .before .before .before .before .before .before .before .before .before .before .pre .1 .0, sortable-by (length-paste-head (c .before .before .before .before .before .before .before .before .before .before .before .before .args .manifold-islands .now) _ (c .before .before .before .before .before .before .before .before .before .before .before .before .args .joint-islands .now) _ (c .before .before .before .before .before .before .before .before .before .before .before .before .pre .0 .0) (c .before .before .before .before .before .before .before .before .before .before .before .before .pre .0 .1)) (c .before .before .before .before .before .before .before .before .before .before .before .before .pre .1 .1))
 
 same-length : tie.Need-same-length
 same-length c = search needs

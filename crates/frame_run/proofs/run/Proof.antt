@@ -6,14 +6,13 @@ use mathlib.Core.List.{List}
 use native.Mathlib.Omega.{arith}
 use borrow.Author.Needs.{needs}
 use lib.ListN.{length, take}
-use lib.Seq.{length-take-le}
+use lib.Seq.{length-take-le, length-front}
 use Rattle.frame.specs.declared.Frame.{Frame}
 use Rattle.frame.specs.Questions.{asked}
 use Rattle.frame.specs.Files.{countB, countM, countJ, fileQuestions}
 use Rattle.frame.specs.Answers.{readSizes, sizesOf, Read}
 use Rattle.plan_questions.specs.Plans.{roomy}
 use Rattle.plan_questions.proofs.Rooms.{Fitted}
-use Rattle.island_numbers.proofs.Scans.{front-back}
 use Rattle.frame_run.specs.Calls.{Lent, roomIn}
 use Rattle.frame_run.proofs.Entry.{few-constraints, sizes-read, room-read, file-passed, room-passed, stopped, wanted, wanted-fit, spacious, sized-ran}
 use Rattle.frame_run.proofs.run.Statement.{statement}
@@ -229,22 +228,22 @@ same-length-5 : tie.Need-same-length-5
 same-length-5 c = ended c .run-sized .kept .1 .1 .1 .1 .1 .1 .0
 
 same-length-6 : tie.Need-same-length-6
-same-length-6 c = let w = answered c .before in front-back (sized w .bodies) (ended c .run-sized .last .1 .1 .1 .1 .1 .1 .1 .0) (start w .args .types .now) (ended c .run-sized .kept .1 .1 .1 .1 .1 .1 .1 .0)
+same-length-6 c = let w = answered c .before in length-front (start w .args .types .now) (ended c .run-sized .last .1 .1 .1 .1 .1 .1 .1 .0) (sized w .bodies) (ended c .run-sized .kept .1 .1 .1 .1 .1 .1 .1 .0)
 
 same-length-7 : tie.Need-same-length-7
-same-length-7 c = let w = answered c .before in front-back (sized w .bodies) (ended c .run-sized .last .1 .1 .1 .1 .1 .1 .1 .1 .0) (start w .args .flags .now) (ended c .run-sized .kept .1 .1 .1 .1 .1 .1 .1 .1 .0)
+same-length-7 c = let w = answered c .before in length-front (start w .args .flags .now) (ended c .run-sized .last .1 .1 .1 .1 .1 .1 .1 .1 .0) (sized w .bodies) (ended c .run-sized .kept .1 .1 .1 .1 .1 .1 .1 .1 .0)
 
 same-length-8 : tie.Need-same-length-8
-same-length-8 c = let w = answered c .before in front-back (2 * (sized w .manifolds + sized w .joints)) (ended c .run-sized .last .1 .1 .1 .1 .1 .1 .1 .1 .1 .0) (start w .args .pairs .now) (ended c .run-sized .kept .1 .1 .1 .1 .1 .1 .1 .1 .1 .0)
+same-length-8 c = let w = answered c .before in length-front (start w .args .pairs .now) (ended c .run-sized .last .1 .1 .1 .1 .1 .1 .1 .1 .1 .0) (2 * (sized w .manifolds + sized w .joints)) (ended c .run-sized .kept .1 .1 .1 .1 .1 .1 .1 .1 .1 .0)
 
 same-length-9 : tie.Need-same-length-9
 same-length-9 c = ended c .run-sized .kept .1 .1 .1 .1 .1 .1 .1 .1 .1 .1 .0
 
 same-length-10 : tie.Need-same-length-10
-same-length-10 c = let w = answered c .before in front-back (sized w .joints) (ended c .run-sized .last .1 .1 .1 .1 .1 .1 .1 .1 .1 .1 .1 .0) (start w .args .enabled .now) (ended c .run-sized .kept .1 .1 .1 .1 .1 .1 .1 .1 .1 .1 .1 .0)
+same-length-10 c = let w = answered c .before in length-front (start w .args .enabled .now) (ended c .run-sized .last .1 .1 .1 .1 .1 .1 .1 .1 .1 .1 .1 .0) (sized w .joints) (ended c .run-sized .kept .1 .1 .1 .1 .1 .1 .1 .1 .1 .1 .1 .0)
 
 same-length-11 : tie.Need-same-length-11
-same-length-11 c = let w = answered c .before in front-back (sized w .manifolds + sized w .joints) (ended c .run-sized .last .1 .1 .1 .1 .1 .1 .1 .1 .1 .1 .1 .1 .0) (start w .args .numbers .now) (ended c .run-sized .kept .1 .1 .1 .1 .1 .1 .1 .1 .1 .1 .1 .1 .0)
+same-length-11 c = let w = answered c .before in length-front (start w .args .numbers .now) (ended c .run-sized .last .1 .1 .1 .1 .1 .1 .1 .1 .1 .1 .1 .1 .0) (sized w .manifolds + sized w .joints) (ended c .run-sized .kept .1 .1 .1 .1 .1 .1 .1 .1 .1 .1 .1 .1 .0)
 
 same-length-12 : tie.Need-same-length-12
 same-length-12 c = ended c .run-sized .kept .1 .1 .1 .1 .1 .1 .1 .1 .1 .1 .1 .1 .1 .0

@@ -1,16 +1,9 @@
 -- `island::build` meets its contract: it is `build_with_joints` with no joint, whose empty joint table stays empty.
 use borrow.Author.Needs.{needs}
-use Prim.Native.Nat.{ℕ}
-use native.Mathlib.Omega.{arith}
-use mathlib.Core.Path.{_≡_, refl, sym, _∙_}
-use mathlib.Core.List.{List, [], _∷_}
-use lib.ListN.{length}
+use mathlib.Core.Path.{sym, _∙_}
 use Rattle.island.proofs.build.Statement.{statement}
 use Rattle.island.proofs.build.Tie as tie
-
-empty : (l : List ℕ) → length l ≡ 0 → l ≡ []
-empty [] e = refl
-empty (x ∷ l) e = absurd (omega arith)
+use Rattle.lists.proofs.Laws.{no-length}
 
 slice-aggregate-build-with-joints : tie.Need-slice-aggregate-build-with-joints
 slice-aggregate-build-with-joints c = search needs
@@ -45,7 +38,7 @@ returns c =
         count = w .count;
         body-labels = w .body-labels;
         manifold-labels = w .manifold-labels;
-        joint-labels = sym (empty (f .last .1 .1 .1 .1 .1 .1 .1 .0) (f .kept .1 .1 .1 .1 .1 .1 .1 .0)) ∙ w .joint-labels;
+        joint-labels = sym (no-length (f .last .1 .1 .1 .1 .1 .1 .1 .0) (f .kept .1 .1 .1 .1 .1 .1 .1 .0)) ∙ w .joint-labels;
         parents = w .parents;
         beyond = w .beyond;
         alone = w .alone;

@@ -4,10 +4,9 @@ use Prim.Native.Nat.{ℕ, _+_, _*_, _-_, _≤_}
 use mathlib.Core.Path.{_≡_, refl, sym, ap, _∙_}
 use mathlib.Core.List.{List, _++_}
 use lib.ListN.{length}
-use lib.Seq.{length-take-le}
+use lib.Seq.{length-take-le, length-front}
 use Rattle.lists.specs.Basics.{joinMap, rangeFrom}
 use Rattle.plan_questions.specs.Plans.{Tables}
-use Rattle.island_numbers.proofs.Scans.{front-back}
 use Rattle.turn_table.specs.Turns.{none}
 use Rattle.group_run.proofs.Appends.{Going, going-first, going-length, going-room, going-more, going-last, parts-end}
 use Rattle.island_run.specs.Islands.{callsOf}
@@ -106,7 +105,7 @@ loop-again c =
     let k = r .run-island .kept in (
       omega (arith, e .before .loop-test .taken),
       next e,
-      front-back (2 * (e .part-end .result - head e .loop .start)) (r .run-island .last .1 .1 .1 .1 .1 .0) (head e .loop .island-pairs) (k .1 .1 .1 .1 .1 .0) ∙ head e .loop .inv .2,
+      length-front (head e .loop .island-pairs) (r .run-island .last .1 .1 .1 .1 .1 .0) (2 * (e .part-end .result - head e .loop .start)) (k .1 .1 .1 .1 .1 .0) ∙ head e .loop .inv .2,
       record { dynamic-bodies = k .1 .1 .1 .1 .1 .1 .0 ∙ head e .loop .inv .3 .dynamic-bodies; endpoints = k .1 .1 .1 .1 .1 .1 .1 .0 ∙ head e .loop .inv .3 .endpoints; body-offsets = k .1 .1 .1 .1 .1 .1 .1 .1 .0 ∙ head e .loop .inv .3 .body-offsets; body-constraints = k .1 .1 .1 .1 .1 .1 .1 .1 .1 .0 ∙ head e .loop .inv .3 .body-constraints; scratch-offsets = k .1 .1 .1 .1 .1 .1 .1 .1 .1 .1 .0 ∙ head e .loop .inv .3 .scratch-offsets; constraint-colors = k .1 .1 .1 .1 .1 .1 .1 .1 .1 .1 .1 .0 ∙ head e .loop .inv .3 .constraint-colors; color-stamps = k .1 .1 .1 .1 .1 .1 .1 .1 .1 .1 .1 .1 .0 ∙ head e .loop .inv .3 .color-stamps; body-stamps = k .1 .1 .1 .1 .1 .1 .1 .1 .1 .1 .1 .1 .1 .0 ∙ head e .loop .inv .3 .body-stamps; color-offsets = k .1 .1 .1 .1 .1 .1 .1 .1 .1 .1 .1 .1 .1 .1 .0 ∙ head e .loop .inv .3 .color-offsets; colored-constraints = k .1 .1 .1 .1 .1 .1 .1 .1 .1 .1 .1 .1 .1 .1 .1 .0 ∙ head e .loop .inv .3 .colored-constraints; color-body-offsets = k .1 .1 .1 .1 .1 .1 .1 .1 .1 .1 .1 .1 .1 .1 .1 .1 .0 ∙ head e .loop .inv .3 .color-body-offsets; color-bodies = k .1 .1 .1 .1 .1 .1 .1 .1 .1 .1 .1 .1 .1 .1 .1 .1 .1 .0 ∙ head e .loop .inv .3 .color-bodies; constraint-body-positions = k .1 .1 .1 .1 .1 .1 .1 .1 .1 .1 .1 .1 .1 .1 .1 .1 .1 .1 .0 ∙ head e .loop .inv .3 .constraint-body-positions },
       going-more (start e .pre .1 .0) (head e .loop .inv .4) _ _ _ _ (island-next (start e .args .islands) (start e .args .types .now) (start e .args .flags .now) (start e .args .pairs .now) (labels (start e)) (start e .args .numbers .now) (start e .args .island-pairs .now) (entry (start e)) (start e .pre .0) (head e .loop .island) (head e .loop .start) (e .part-end .result) (e .before .loop-test .taken) (head e .loop .inv .1) (e .part-end .ensures)) (r .run-island .ensures),
     )

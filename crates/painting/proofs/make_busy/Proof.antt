@@ -16,7 +16,7 @@ use Rattle.lists.proofs.Laws.{by-cases, all-in, getD-mem}
 use Rattle.lists.proofs.Scans.{any-next}
 use Rattle.groups.specs.Groups.{flagged}
 use Rattle.painting.specs.Steps.{MadeBusy}
-use Rattle.painting.proofs.Bits.{byte-one, set-bit}
+use Rattle.lists.proofs.Bits.{byte-one, set-bit}
 use Rattle.painting.proofs.make_busy.Statement.{statement}
 use Rattle.painting.proofs.make_busy.Tie as tie
 

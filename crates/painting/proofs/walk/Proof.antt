@@ -1,9 +1,9 @@
 -- Both loops keep what `Passed` (proofs/Passing) says of the constraints passed; in the inner one `busy` is 1 if a body looked at is busy.
 -- A late walk passes a constraint at its first busy body; any other is passed without a branch, by the bit of all its bodies.
-use Prim.Native.Nat.{ℕ, zero, suc, _+_, _-_, _≤_, _<_}
+use Prim.Native.Nat.{ℕ, _+_, _-_, _≤_, _<_}
 use mathlib.Core.Path.{_≡_, refl, sym, ap, _∙_}
-use mathlib.Core.Bool.{Bool, true, false}
-use mathlib.Core.List.{List, [], _∷_}
+use mathlib.Core.Bool.{true}
+use mathlib.Core.List.{List, []}
 use native.Mathlib.Omega.{arith}
 use lib.Bits.{bitOr}
 use lib.Dec.{leb, ltb, eqb}
@@ -12,12 +12,12 @@ use lib.Seq.{take-all}
 use denote.Ref.{now}
 use borrow.Author.Needs.{needs}
 use borrow.Author.Tests.{ltb-true}
-use Rattle.lists.specs.Basics.{one, any, all}
-use Rattle.lists.proofs.Laws.{and-right, or-left, or-right, or-cases, clashes, all-in, getD-mem}
-use Rattle.lists.proofs.Scans.{any-next}
+use Rattle.lists.specs.Basics.{one, all}
+use Rattle.lists.proofs.Laws.{and-right, all-in, getD-mem}
+use Rattle.lists.proofs.Scans.{any-next, any-first}
+use Rattle.lists.proofs.Bits.{or-bits, one-true, one-le}
 use Rattle.parts.specs.Parts.{partsAt}
 use Rattle.parts.proofs.Parts.{parts-at}
-use Rattle.painting.proofs.Bits.{or-bits, one-true, one-low}
 use Rattle.painting.proofs.Passing.{barred, Passed, walk-starts, bits, next-in, end-in, next-bodies, walk-left, walk-passed, walk-ends}
 use Rattle.painting.proofs.walk.Statement.{statement}
 use Rattle.painting.proofs.walk.Tie as tie
@@ -45,11 +45,6 @@ bit-next busies bs i bit l e g =
     let b = getD busies (getD bs i 0) 0 in
     let p = barred busies (take i bs) in
     ap (λ (x : ℕ). bitOr x b) e ∙ ap (bitOr (one p)) g ∙ or-bits p (eqb b 1) ∙ ap one (sym (any-next (λ b. eqb (getD busies b 0) 1) bs i l))
-
-any-first : (p : ℕ → Bool) (i : ℕ) (xs : List ℕ) → any p (take i xs) ≡ true → any p xs ≡ true
-any-first p zero xs h = clashes false h refl
-any-first p (suc i) [] h = h
-any-first p (suc i) (x ∷ xs) h = or-cases (p x) (any p (take i xs)) h (λ e. or-left (p x) (any p xs) e) (λ e. or-right (p x) (any p xs) (any-first p i xs e))
 
 -- the walk's place, what it requires, and the constraint that is read
 abbrev begin : tie.At-walk Inv-bodies μ-bodies Inv-walk μ-walk → tie.Start Inv-bodies μ-bodies Inv-walk μ-walk
@@ -108,7 +103,7 @@ whole : (c : tie.After-bodies Inv-bodies μ-bodies Inv-walk μ-walk) → (let b 
 whole c = let b = c .before in rw (take-all (b .bodies .place) (now (b .before .part .result)) (omega arith)) at (b .bodies .inv .4)
 
 bit-low : (c : tie.After-bodies Inv-bodies μ-bodies Inv-walk μ-walk) → c .before .bodies .busy ≤ 1
-bit-low c = let b = c .before in rw (whole c) (one-low (barred (at (b .before) .walk .busy-bodies) (now (b .before .part .result))))
+bit-low c = let b = c .before in rw (whole c) (one-le (barred (at (b .before) .walk .busy-bodies) (now (b .before .part .result))))
 
 walk-holds : tie.Need-walk-holds Inv-bodies μ-bodies Inv-walk μ-walk
 walk-holds c = (omega arith, walk-starts (c .before .before .before .before .before .before .pre .1))
@@ -210,7 +205,7 @@ make-busy-requires c κs =
     let p = c .before .before .before in
     let l = at p in
     let v = l .walk .inv .1 in
-    ((v .busy-length, bodies-in p), (omega (arith, bit-low (c .before)), λ b h. rw (bits (begin l .pre .1) v b (omega (arith, v .busy-length))) (one-low (eqb (getD (l .walk .busy-bodies) b 0) 1))))
+    ((v .busy-length, bodies-in p), (omega (arith, bit-low (c .before)), λ b h. rw (bits (begin l .pre .1) v b (omega (arith, v .busy-length))) (one-le (eqb (getD (l .walk .busy-bodies) b 0) 1))))
 
 add-passed-2 : tie.Need-add-passed-2 Inv-bodies μ-bodies Inv-walk μ-walk
 add-passed-2 c = omega (arith, c .before .before .before .before .before .bodies .inv .3, few (c .before .before .before .before .before .before .before .before))

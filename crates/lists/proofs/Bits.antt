@@ -1,4 +1,4 @@
--- The bits of a walk: 0 and 1.
+-- The bit of a test: 1 or 0, as a byte and as a number.
 use Prim.Native.Nat.{ℕ, zero, suc, _≤_}
 use mathlib.Core.Path.{_≡_, refl}
 use mathlib.Core.Bool.{Bool, true, false, _&&_, _||_, cond}
@@ -42,6 +42,6 @@ or-one true false = refl
 or-one false true = refl
 or-one false false = refl
 
-pub one-low : (b : Bool) → one b ≤ 1
-one-low true = omega arith
-one-low false = omega arith
+pub one-le : (b : Bool) → one b ≤ 1
+one-le true = omega arith
+one-le false = omega arith
