@@ -1,39 +1,38 @@
 // Frames at the limits: prints for each its refusal, or how many islands it has, the last body's label and the sum of the
 // bodies' labels (none is 65535).
-ghost use Prim.Native.Nat.{_≤_};
+ghost use Prim.Native.Nat.{_≤_, _<_};
 ghost use lib.ListN.{length};
 
-// The chain 0-1, 1-2, 2-3, ..
-fn rising(pairs: &mut [u16])
+// The chain 0-1, 1-2, 2-3, ..; the same chain from its other end, .., 3-2, 2-1, 1-0; every body on a hub, 0-hub, 1-hub, 2-hub, ..
+enum Shape {
+    Rising,
+    Falling,
+    Spokes(u16),
+}
+
+// The entry k of a shape's pairs.
+fn entry(shape: Shape, k: usize, count: usize) -> u16
+    requires { ⌜ (k < count) × (count ≤ 8192) ⌝ }
+{
+    match shape {
+        Shape::Rising => ((k + 1) / 2) as u16,
+        Shape::Falling => ((count - k) / 2) as u16,
+        Shape::Spokes(hub) => {
+            if k % 2 == 1 {
+                return hub;
+            }
+            (k / 2) as u16
+        }
+    }
+}
+
+fn fill(pairs: &mut [u16], shape: Shape)
     requires { ⌜ length (now pairs) ≤ 8192 ⌝ }
 {
     let mut k = 0;
     while k < pairs.len() {
-        pairs[k] = ((k + 1) / 2) as u16;
+        pairs[k] = entry(shape, k, pairs.len());
         k += 1;
-    }
-}
-
-// The same chain from its other end: .., 3-2, 2-1, 1-0
-fn falling(pairs: &mut [u16])
-    requires { ⌜ length (now pairs) ≤ 8192 ⌝ }
-{
-    let mut k = 0;
-    while k < pairs.len() {
-        pairs[k] = ((pairs.len() - k) / 2) as u16;
-        k += 1;
-    }
-}
-
-// Every body on the hub: 0-hub, 1-hub, 2-hub, ..
-fn spokes(pairs: &mut [u16], hub: u16)
-    requires { ⌜ length (now pairs) ≤ 8192 ⌝ }
-{
-    let mut k = 0;
-    while k + 1 < pairs.len() {
-        pairs[k] = (k / 2) as u16;
-        pairs[k + 1] = hub;
-        k += 2;
     }
 }
 
@@ -130,7 +129,7 @@ fn most_bodies() {
     let mut parents = [0; 4096];
     let mut body_islands = [0; 4096];
     let mut manifold_islands = [0; 4095];
-    rising(&mut pairs);
+    fill(&mut pairs, Shape::Rising);
     show(
         b"chain rising",
         &body_types,
@@ -139,7 +138,7 @@ fn most_bodies() {
         &mut body_islands,
         &mut manifold_islands,
     );
-    falling(&mut pairs);
+    fill(&mut pairs, Shape::Falling);
     show(
         b"chain falling",
         &body_types,
@@ -148,7 +147,7 @@ fn most_bodies() {
         &mut body_islands,
         &mut manifold_islands,
     );
-    spokes(&mut pairs, 4095);
+    fill(&mut pairs, Shape::Spokes(4095));
     body_types[4095] = 0;
     show(
         b"static hub",
@@ -196,7 +195,7 @@ fn short_tables() {
     let mut labels = [0; 4095];
     let mut short = [0; 4095];
     let mut shorter = [0; 4094];
-    rising(&mut pairs);
+    fill(&mut pairs, Shape::Rising);
     show(
         b"parents short",
         &body_types,
@@ -232,7 +231,7 @@ fn joint_tables() {
     let mut body_islands = [0; 4096];
     let mut labels = [0; 4095];
     let mut shorter = [0; 4094];
-    rising(&mut pairs);
+    fill(&mut pairs, Shape::Rising);
     show_joints(
         b"joint labels exact",
         &body_types,

@@ -1,25 +1,22 @@
--- `island_limits::rising` is safe: its index stays inside, and the bodies of 8,192 entries fit 16 bits.
+-- `fill` is safe and ends: its index stays inside, and the length is kept.
 use borrow.Author.Needs.{needs}
 use Prim.Native.Nat.{_-_, _≤_}
 use mathlib.Core.Path.{_≡_}
 use lib.ListN.{length}
-use Rattle.island_limits.proofs.rising.Statement.{statement}
-use Rattle.island_limits.proofs.rising.Tie as tie
+use Rattle.island_limits.proofs.fill.Statement.{statement}
+use Rattle.island_limits.proofs.fill.Tie as tie
 
 abbrev Inv-loop : tie.InvT-loop
-Inv-loop pairs₀ k₀ pairs k = (k ≤ length pairs₀) × (length pairs ≡ length pairs₀)
+Inv-loop pairs₀ shape k₀ pairs k = (k ≤ length pairs₀) × (length pairs ≡ length pairs₀)
 
 abbrev μ-loop : tie.MeasureT-loop
-μ-loop pairs₀ k₀ pairs k = length pairs₀ - k
+μ-loop pairs₀ shape k₀ pairs k = length pairs₀ - k
 
 loop-holds : tie.Need-loop-holds Inv-loop μ-loop
 loop-holds c = search needs
 
-add-pairs : tie.Need-add-pairs Inv-loop μ-loop
-add-pairs c = search needs
-
-cast-pairs : tie.Need-cast-pairs Inv-loop μ-loop
-cast-pairs c = search needs
+entry-requires : tie.Need-entry-requires Inv-loop μ-loop
+entry-requires c κs = search needs
 
 mul-pairs : tie.Need-mul-pairs Inv-loop μ-loop
 mul-pairs c = search needs
@@ -42,15 +39,14 @@ same-length c = search needs
 returns : tie.Need-returns Inv-loop μ-loop
 returns c = search needs
 
-pub rising-spec : {M : Type 1} → statement M
-rising-spec =
+pub fill-spec : {M : Type 1} → statement M
+fill-spec =
     tie.close
     (tie.spec
     Inv-loop
     μ-loop
     loop-holds
-    add-pairs
-    cast-pairs
+    entry-requires
     mul-pairs
     slice-write-pairs
     add-k
