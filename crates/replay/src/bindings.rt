@@ -1,5 +1,5 @@
 // A binding with takes: types, a list, then pairs of positions, one byte each.
-use crate::questions::copy_bytes;
+use crate::questions::bytes_at;
 use crate::questions::copy_numbers;
 use colored_bodies::BodyBinding;
 use colored_bodies::Take;
@@ -83,8 +83,8 @@ fn take_all(
     next
 }
 
-fn bind_and_take(question: &[u8], types: &mut [u8], list: &mut [u16], out: &mut [u8]) -> usize {
-    copy_bytes(question, 3, types);
+fn bind_and_take(question: &[u8], list: &mut [u16], out: &mut [u8]) -> usize {
+    let types = bytes_at(question, 3, number_at(question, 0));
     let listed = after(question, 3, types.len());
     copy_numbers(question, listed, list);
     let bound = BodyBinding::bind(types, list);
@@ -102,9 +102,7 @@ fn bind_and_take(question: &[u8], types: &mut [u8], list: &mut [u16], out: &mut 
 }
 
 pub fn answer_takes(question: &[u8], out: &mut [u8]) -> usize {
-    let mut types = [0u8; 40];
     let mut list = [0u16; 40];
-    let b = least(number_at(question, 0), 40);
     let n = least(number_at(question, 1), 40);
-    bind_and_take(question, &mut types[..b], &mut list[..n], out)
+    bind_and_take(question, &mut list[0..n], out)
 }

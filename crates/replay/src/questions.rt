@@ -1,18 +1,14 @@
-// Reading lists out of a question.
+// Reading lists out of a question: numbers of one byte each.
 use records::after;
 use records::byte_at;
+use records::least;
 
-pub fn copy_bytes(s: &[u8], from: usize, to: &mut [u8]) {
-    let mut at = from;
-    let mut i = 0;
-    while i < to.len() {
-        to[i] = byte_at(s, at);
-        at = after(s, at, 1);
-        i += 1;
-    }
+pub fn bytes_at(s: &[u8], at: usize, n: usize) -> &[u8] {
+    let start = least(at, s.len());
+    let size = least(n, s.len() - start);
+    &s[start..start + size]
 }
 
-// Numbers of one byte each.
 pub fn copy_numbers(s: &[u8], from: usize, to: &mut [u16]) {
     let mut at = from;
     let mut i = 0;

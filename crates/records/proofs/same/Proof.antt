@@ -1,15 +1,14 @@
--- `same` is safe and ends: the index stays inside.
-use Prim.Native.Nat.{_-_, _≤_}
-use lib.ListN.{length}
+-- `same` ends: one byte less is left.
+use Prim.Native.Nat.{_-_}
 use borrow.Author.Needs.{needs}
 use Rattle.records.proofs.same.Statement.{statement}
 use Rattle.records.proofs.same.Tie as tie
 
 abbrev Inv-loop : tie.InvT-loop
-Inv-loop out n stored i₀ i = i ≤ length stored
+Inv-loop out n stored m i₀ i = Unit {0}
 
 abbrev μ-loop : tie.MeasureT-loop
-μ-loop out n stored i₀ i = length stored - i
+μ-loop out n stored m i₀ i = n - i
 
 returns : tie.Need-returns Inv-loop μ-loop
 returns c = search needs
@@ -20,8 +19,8 @@ loop-holds c = search needs
 byte-at-requires : tie.Need-byte-at-requires Inv-loop μ-loop
 byte-at-requires c κs = search needs
 
-shared-slice-read-if2 : tie.Need-shared-slice-read-if2 Inv-loop μ-loop
-shared-slice-read-if2 c = search needs
+byte-at-requires-2 : tie.Need-byte-at-requires-2 Inv-loop μ-loop
+byte-at-requires-2 c κs = search needs
 
 returns-2 : tie.Need-returns-2 Inv-loop μ-loop
 returns-2 c = search needs
@@ -47,7 +46,7 @@ same-spec =
     returns
     loop-holds
     byte-at-requires
-    shared-slice-read-if2
+    byte-at-requires-2
     returns-2
     add-i
     loop-less
