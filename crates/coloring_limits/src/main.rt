@@ -188,26 +188,28 @@ fn pairs_of(case: Case) -> [u16; 16386]
 fn step(
     number: usize,
     plan: ConstraintColoring,
-    dynamic_bodies: &mut [u8],
-    endpoints: &mut [u16],
-    body_offsets: &mut [u16],
-    body_constraints: &mut [u16],
-    scratch_offsets: &mut [u16],
-    constraint_colors: &mut [u16],
-    color_stamps: &mut [u16],
-    body_stamps: &mut [u16],
-    color_offsets: &mut [u16],
-    colored_constraints: &mut [u16],
-    color_body_offsets: &mut [u16],
-    color_bodies: &mut [u16],
-    constraint_body_positions: &mut [u16],
+    dynamic_bodies: &mut [u8; 4096],
+    endpoints: &mut [u16; 16384],
+    body_offsets: &mut [u16; 4097],
+    body_constraints: &mut [u16; 16384],
+    scratch_offsets: &mut [u16; 8192],
+    constraint_colors: &mut [u16; 8192],
+    color_stamps: &mut [u16; 8192],
+    body_stamps: &mut [u16; 4096],
+    color_offsets: &mut [u16; 8193],
+    colored_constraints: &mut [u16; 8192],
+    color_body_offsets: &mut [u16; 8193],
+    color_bodies: &mut [u16; 16384],
+    constraint_body_positions: &mut [u16; 16384],
 ) -> ConstraintColoring {
     let case = case_at(number);
+    let bodies = case.bodies;
+    let entries = case.entries;
     let flags = flags_of(case);
     let pairs = pairs_of(case);
     let answer = plan.update(
-        &flags[..case.bodies],
-        &pairs[..case.entries],
+        &flags[0..bodies],
+        &pairs[0..entries],
         dynamic_bodies,
         endpoints,
         body_offsets,
@@ -225,61 +227,42 @@ fn step(
     show(number, plan, answer, constraint_body_positions)
 }
 
-fn history(
-    dynamic_bodies: &mut [u8],
-    endpoints: &mut [u16],
-    body_offsets: &mut [u16],
-    body_constraints: &mut [u16],
-    scratch_offsets: &mut [u16],
-    constraint_colors: &mut [u16],
-    color_stamps: &mut [u16],
-    body_stamps: &mut [u16],
-    color_offsets: &mut [u16],
-    colored_constraints: &mut [u16],
-    color_body_offsets: &mut [u16],
-    color_bodies: &mut [u16],
-    constraint_body_positions: &mut [u16],
-) {
-    let mut plan = ConstraintColoring::new();
-    let mut case = 0;
-    while case < 19 {
-        plan = step(
-            case,
-            plan,
-            dynamic_bodies,
-            endpoints,
-            body_offsets,
-            body_constraints,
-            scratch_offsets,
-            constraint_colors,
-            color_stamps,
-            body_stamps,
-            color_offsets,
-            colored_constraints,
-            color_body_offsets,
-            color_bodies,
-            constraint_body_positions,
-        );
-        case += 1;
-    }
+// A plan and its tables.
+struct Stage {
+    plan: ConstraintColoring,
+    dynamic_bodies: [u8; 4096],
+    endpoints: [u16; 16384],
+    body_offsets: [u16; 4097],
+    body_constraints: [u16; 16384],
+    scratch_offsets: [u16; 8192],
+    constraint_colors: [u16; 8192],
+    color_stamps: [u16; 8192],
+    body_stamps: [u16; 4096],
+    color_offsets: [u16; 8193],
+    colored_constraints: [u16; 8192],
+    color_body_offsets: [u16; 8193],
+    color_bodies: [u16; 16384],
+    constraint_body_positions: [u16; 16384],
 }
 
-// On tables that hold `mark` everywhere.
-fn on_tables(mark: u16, flag: u8) {
-    let mut dynamic_bodies = [flag; 4096];
-    let mut endpoints = [mark; 16384];
-    let mut body_offsets = [mark; 4097];
-    let mut body_constraints = [mark; 16384];
-    let mut scratch_offsets = [mark; 8192];
-    let mut constraint_colors = [mark; 8192];
-    let mut color_stamps = [mark; 8192];
-    let mut body_stamps = [mark; 4096];
-    let mut color_offsets = [mark; 8193];
-    let mut colored_constraints = [mark; 8192];
-    let mut color_body_offsets = [mark; 8193];
-    let mut color_bodies = [mark; 16384];
-    let mut constraint_body_positions = [mark; 16384];
-    history(
+fn next_stage(number: usize, stage: Stage) -> Stage {
+    let plan = stage.plan;
+    let mut dynamic_bodies = stage.dynamic_bodies;
+    let mut endpoints = stage.endpoints;
+    let mut body_offsets = stage.body_offsets;
+    let mut body_constraints = stage.body_constraints;
+    let mut scratch_offsets = stage.scratch_offsets;
+    let mut constraint_colors = stage.constraint_colors;
+    let mut color_stamps = stage.color_stamps;
+    let mut body_stamps = stage.body_stamps;
+    let mut color_offsets = stage.color_offsets;
+    let mut colored_constraints = stage.colored_constraints;
+    let mut color_body_offsets = stage.color_body_offsets;
+    let mut color_bodies = stage.color_bodies;
+    let mut constraint_body_positions = stage.constraint_body_positions;
+    let next = step(
+        number,
+        plan,
         &mut dynamic_bodies,
         &mut endpoints,
         &mut body_offsets,
@@ -294,6 +277,47 @@ fn on_tables(mark: u16, flag: u8) {
         &mut color_bodies,
         &mut constraint_body_positions,
     );
+    Stage {
+        plan: next,
+        dynamic_bodies: dynamic_bodies,
+        endpoints: endpoints,
+        body_offsets: body_offsets,
+        body_constraints: body_constraints,
+        scratch_offsets: scratch_offsets,
+        constraint_colors: constraint_colors,
+        color_stamps: color_stamps,
+        body_stamps: body_stamps,
+        color_offsets: color_offsets,
+        colored_constraints: colored_constraints,
+        color_body_offsets: color_body_offsets,
+        color_bodies: color_bodies,
+        constraint_body_positions: constraint_body_positions,
+    }
+}
+
+// On tables that hold `mark` everywhere.
+fn on_tables(mark: u16, flag: u8) {
+    let mut stage = Stage {
+        plan: ConstraintColoring::new(),
+        dynamic_bodies: [flag; 4096],
+        endpoints: [mark; 16384],
+        body_offsets: [mark; 4097],
+        body_constraints: [mark; 16384],
+        scratch_offsets: [mark; 8192],
+        constraint_colors: [mark; 8192],
+        color_stamps: [mark; 8192],
+        body_stamps: [mark; 4096],
+        color_offsets: [mark; 8193],
+        colored_constraints: [mark; 8192],
+        color_body_offsets: [mark; 8193],
+        color_bodies: [mark; 16384],
+        constraint_body_positions: [mark; 16384],
+    };
+    let mut case = 0;
+    while case < 19 {
+        stage = next_stage(case, stage);
+        case += 1;
+    }
 }
 
 // One place less for the table that is to be short.
@@ -302,6 +326,10 @@ fn cut(length: usize, short: usize, table: usize) -> usize
     ensures { λ r. ⌜ r ≤ length ⌝ }
 {
     if short == table { length - 1 } else { length }
+}
+
+fn show_pair(short: usize, before: ConstraintColoring, answer: Update, positions: &[u16; 2]) {
+    show(short, before, answer, positions);
 }
 
 // One pair on tables of just the lengths asked for, but one of them a place short.
@@ -323,21 +351,21 @@ fn exact(short: usize) {
     let answer = plan.update(
         &[1, 1],
         &[0, 1],
-        &mut dynamic_bodies[..cut(2, short, 0)],
-        &mut endpoints[..cut(2, short, 1)],
-        &mut body_offsets[..cut(3, short, 2)],
-        &mut body_constraints[..cut(2, short, 3)],
-        &mut scratch_offsets[..cut(2, short, 4)],
-        &mut constraint_colors[..cut(1, short, 5)],
-        &mut color_stamps[..cut(1, short, 6)],
-        &mut body_stamps[..cut(2, short, 7)],
-        &mut color_offsets[..cut(2, short, 8)],
-        &mut colored_constraints[..cut(1, short, 9)],
-        &mut color_body_offsets[..cut(2, short, 10)],
-        &mut color_bodies[..cut(2, short, 11)],
-        &mut constraint_body_positions[..cut(2, short, 12)],
+        &mut dynamic_bodies[0..cut(2, short, 0)],
+        &mut endpoints[0..cut(2, short, 1)],
+        &mut body_offsets[0..cut(3, short, 2)],
+        &mut body_constraints[0..cut(2, short, 3)],
+        &mut scratch_offsets[0..cut(2, short, 4)],
+        &mut constraint_colors[0..cut(1, short, 5)],
+        &mut color_stamps[0..cut(1, short, 6)],
+        &mut body_stamps[0..cut(2, short, 7)],
+        &mut color_offsets[0..cut(2, short, 8)],
+        &mut colored_constraints[0..cut(1, short, 9)],
+        &mut color_body_offsets[0..cut(2, short, 10)],
+        &mut color_bodies[0..cut(2, short, 11)],
+        &mut constraint_body_positions[0..cut(2, short, 12)],
     );
-    show(short, plan, answer, &constraint_body_positions);
+    show_pair(short, plan, answer, &constraint_body_positions);
 }
 
 fn main() {
