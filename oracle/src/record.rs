@@ -1,6 +1,6 @@
-//! The lists that `crates/replay` and `crates/replay_frames` replay: questions with the Rust's answers, in bytes. The forms stand
-//! in those programs' heads; what a question of each kind holds, and what its answer shows, stands at the functions that answer
-//! it there. Also what `crates/generator_samples` prints.
+//! The lists that `crates/replay` and `crates/replay_frames` replay: questions with the Rust's answers, in bytes. A list's form
+//! stands in `crates/records`, the kinds in those programs' heads; what a question of each kind holds, and what its answer shows,
+//! stands at the functions that answer it there. Also what `crates/generator_samples` prints.
 use crate::calls::*;
 use crate::frames::{self, Random};
 use crate::kapitsa::Rust;
