@@ -1,9 +1,14 @@
 /* Engkarupi: islands, conflict-free groups, bindings and turns of a frame of bodies and constraints, and test lifts from a
  * number, proved.
  *
- * Link libboundary.a (`rt staticlib boundary`). No call allocates, keeps a pointer or has state of its own: all memory is
- * lent by the caller for the length of the call. No two tables of one call may overlap, and none may overlap what is read.
- * A length is in elements. A table may be longer than asked for; the length asked for is in its comment.
+ * A port of parts of nepridumalnik/Kapitsa-Physics, commit 2c13ed98e8, MIT licence: see NOTICE.
+ *
+ * Link libboundary.a (`rt staticlib boundary`). docs/LANES.md says what the lanes do with the turns, what to do on a refusal,
+ * and what the archive asks of the machine and the stack.
+ *
+ * No call allocates, keeps a pointer or has state of its own: all memory is lent by the caller for the length of the call.
+ * No two tables of one call may overlap, and none may overlap what is read. A pointer is to memory of its own, aligned as
+ * its C type wants. A length is in elements. A table may be longer than asked for; the length asked for is in its comment.
  *
  * B bodies, M manifolds (touching pairs), J joints; C is a number of constraints. Body types: 0 static, 1 kinematic,
  * 2 dynamic. A pair list holds a, b, a, b, ..; a disabled joint (enabled byte 0) may carry any endpoints.
@@ -124,7 +129,8 @@ uint8_t engkarupi_positions(
 
 /* ---- bindings: which bodies a group may take
  *
- * A binding is bodies, marks and a count. A mark is 0 (read-only), 1 (held) or another number (taken).
+ * A binding is bodies, marks and a count. A mark is 0 (read-only), 1 (held) or another number (taken). It is plain memory:
+ * one caller at a time takes from it.
  */
 
 /* Binds a rising list of bodies: dynamic ones are held, others read-only. All 4,096 places are written; those past the
@@ -163,41 +169,172 @@ enum {
     ENGKARUPI_REPORT_NUMBERS
 };
 
+/* What a run is lent besides the frame: each table with its length. */
+struct engkarupi_run_tables {
+    uint16_t *parents; size_t parents_len;                      /* B */
+    uint16_t *body_islands; size_t body_islands_len;            /* B */
+    uint16_t *manifold_islands; size_t manifold_islands_len;    /* M */
+    uint16_t *joint_islands; size_t joint_islands_len;          /* J */
+    uint16_t *turns; size_t turns_len;                          /* 3 * C */
+    uint8_t *types; size_t types_len;                           /* B, free */
+    uint8_t *flags; size_t flags_len;                           /* B, free */
+    uint16_t *pairs; size_t pairs_len;                          /* 2 * C, free */
+    uint16_t *island_pairs; size_t island_pairs_len;            /* 2 * C, free */
+    uint8_t *enabled; size_t enabled_len;                       /* J, free */
+    uint16_t *numbers; size_t numbers_len;                      /* C, free */
+    uint8_t *dynamic_bodies; size_t dynamic_bodies_len;         /* B, free */
+    uint16_t *endpoints; size_t endpoints_len;                  /* 2 * C, free */
+    uint16_t *body_offsets; size_t body_offsets_len;            /* B + 1, free */
+    uint16_t *body_constraints; size_t body_constraints_len;    /* 2 * C, free */
+    uint16_t *scratch_offsets; size_t scratch_offsets_len;      /* the larger of B and C, free */
+    uint16_t *constraint_colors; size_t constraint_colors_len;  /* C, free */
+    uint16_t *color_stamps; size_t color_stamps_len;            /* C, free */
+    uint16_t *body_stamps; size_t body_stamps_len;              /* B, free */
+    uint16_t *color_offsets; size_t color_offsets_len;          /* C + 1, free */
+    uint16_t *colored_constraints; size_t colored_constraints_len;              /* C, free */
+    uint16_t *color_body_offsets; size_t color_body_offsets_len;                /* C + 1, free */
+    uint16_t *color_bodies; size_t color_bodies_len;                            /* 2 * C, free */
+    uint16_t *constraint_body_positions; size_t constraint_body_positions_len;  /* 2 * C, free */
+};
+
 /* Each island in number order is colored on a fresh plan, each of its groups bound, and the group's members taken, rising.
  * A take is a turn: island, group, constraint number. Answers 0 or 1 to 7; after any refusal the report is all 0.
  *
- * After 0 the turns stand in the turn table from place 0, three places each; past them it keeps its content. The island
- * tables stand as engkarupi_islands leaves them. After 7 the turn table is kept, all labels are ENGKARUPI_NONE and each
- * parent is itself. Refusals 1 to 6 change no table. The tables marked free hold nothing after 0 or 7, and what stands in
- * them before does not matter.
+ * After 0 the turns stand in the turn table from place 0, three places each, by rising island, then group, then constraint;
+ * past them it keeps its content. Turns of one island and one group may be solved at once: no dynamic body is on two of
+ * them. So may turns of different islands, but not turns of different groups of one island. The island tables stand as
+ * engkarupi_islands leaves them. After 7 the turn table is kept, all labels are ENGKARUPI_NONE and each parent is itself.
+ * Refusals 1 to 6 change no table. The tables marked free hold nothing after 0 or 7, and what stands in them before does
+ * not matter.
+ *
+ * This is the call as it is linked, with the tables of struct engkarupi_run_tables in their order; engkarupi_run_on takes
+ * the struct.
  */
 uint8_t engkarupi_run(
     const uint8_t *frame, size_t frame_len,                     /* the file */
-    uint16_t *parents, size_t parents_len,                      /* B */
-    uint16_t *body_islands, size_t body_islands_len,            /* B */
-    uint16_t *manifold_islands, size_t manifold_islands_len,    /* M */
-    uint16_t *joint_islands, size_t joint_islands_len,          /* J */
-    uint16_t *turns, size_t turns_len,                          /* 3 * C */
-    uint8_t *types, size_t types_len,                           /* B, free */
-    uint8_t *flags, size_t flags_len,                           /* B, free */
-    uint16_t *pairs, size_t pairs_len,                          /* 2 * C, free */
-    uint16_t *island_pairs, size_t island_pairs_len,            /* 2 * C, free */
-    uint8_t *enabled, size_t enabled_len,                       /* J, free */
-    uint16_t *numbers, size_t numbers_len,                      /* C, free */
-    uint8_t *dynamic_bodies, size_t dynamic_bodies_len,         /* B, free */
-    uint16_t *endpoints, size_t endpoints_len,                  /* 2 * C, free */
-    uint16_t *body_offsets, size_t body_offsets_len,            /* B + 1, free */
-    uint16_t *body_constraints, size_t body_constraints_len,    /* 2 * C, free */
-    uint16_t *scratch_offsets, size_t scratch_offsets_len,      /* the larger of B and C, free */
-    uint16_t *constraint_colors, size_t constraint_colors_len,  /* C, free */
-    uint16_t *color_stamps, size_t color_stamps_len,            /* C, free */
-    uint16_t *body_stamps, size_t body_stamps_len,              /* B, free */
-    uint16_t *color_offsets, size_t color_offsets_len,          /* C + 1, free */
-    uint16_t *colored_constraints, size_t colored_constraints_len,              /* C, free */
-    uint16_t *color_body_offsets, size_t color_body_offsets_len,                /* C + 1, free */
-    uint16_t *color_bodies, size_t color_bodies_len,                            /* 2 * C, free */
-    uint16_t *constraint_body_positions, size_t constraint_body_positions_len,  /* 2 * C, free */
+    uint16_t *parents, size_t parents_len,
+    uint16_t *body_islands, size_t body_islands_len,
+    uint16_t *manifold_islands, size_t manifold_islands_len,
+    uint16_t *joint_islands, size_t joint_islands_len,
+    uint16_t *turns, size_t turns_len,
+    uint8_t *types, size_t types_len,
+    uint8_t *flags, size_t flags_len,
+    uint16_t *pairs, size_t pairs_len,
+    uint16_t *island_pairs, size_t island_pairs_len,
+    uint8_t *enabled, size_t enabled_len,
+    uint16_t *numbers, size_t numbers_len,
+    uint8_t *dynamic_bodies, size_t dynamic_bodies_len,
+    uint16_t *endpoints, size_t endpoints_len,
+    uint16_t *body_offsets, size_t body_offsets_len,
+    uint16_t *body_constraints, size_t body_constraints_len,
+    uint16_t *scratch_offsets, size_t scratch_offsets_len,
+    uint16_t *constraint_colors, size_t constraint_colors_len,
+    uint16_t *color_stamps, size_t color_stamps_len,
+    uint16_t *body_stamps, size_t body_stamps_len,
+    uint16_t *color_offsets, size_t color_offsets_len,
+    uint16_t *colored_constraints, size_t colored_constraints_len,
+    uint16_t *color_body_offsets, size_t color_body_offsets_len,
+    uint16_t *color_bodies, size_t color_bodies_len,
+    uint16_t *constraint_body_positions, size_t constraint_body_positions_len,
     size_t report[ENGKARUPI_REPORT_NUMBERS]);
+
+/* engkarupi_run on a struct of tables. */
+static inline uint8_t engkarupi_run_on(
+    const uint8_t *frame, size_t frame_len,
+    const struct engkarupi_run_tables *t,
+    size_t report[ENGKARUPI_REPORT_NUMBERS])
+{
+    return engkarupi_run(
+        frame, frame_len,
+        t->parents, t->parents_len,
+        t->body_islands, t->body_islands_len,
+        t->manifold_islands, t->manifold_islands_len,
+        t->joint_islands, t->joint_islands_len,
+        t->turns, t->turns_len,
+        t->types, t->types_len,
+        t->flags, t->flags_len,
+        t->pairs, t->pairs_len,
+        t->island_pairs, t->island_pairs_len,
+        t->enabled, t->enabled_len,
+        t->numbers, t->numbers_len,
+        t->dynamic_bodies, t->dynamic_bodies_len,
+        t->endpoints, t->endpoints_len,
+        t->body_offsets, t->body_offsets_len,
+        t->body_constraints, t->body_constraints_len,
+        t->scratch_offsets, t->scratch_offsets_len,
+        t->constraint_colors, t->constraint_colors_len,
+        t->color_stamps, t->color_stamps_len,
+        t->body_stamps, t->body_stamps_len,
+        t->color_offsets, t->color_offsets_len,
+        t->colored_constraints, t->colored_constraints_len,
+        t->color_body_offsets, t->color_body_offsets_len,
+        t->color_bodies, t->color_bodies_len,
+        t->constraint_body_positions, t->constraint_body_positions_len,
+        report);
+}
+
+/* Memory for the tables of any frame that question 3 lets pass: 425,990 bytes, to be static and not on a stack. What stands
+ * in it before a run does not matter.
+ */
+struct engkarupi_run_memory {
+    uint16_t parents[ENGKARUPI_MAX_BODIES];
+    uint16_t body_islands[ENGKARUPI_MAX_BODIES];
+    uint16_t manifold_islands[ENGKARUPI_MAX_MANIFOLDS];
+    uint16_t joint_islands[ENGKARUPI_MAX_JOINTS];
+    uint16_t turns[3 * ENGKARUPI_MAX_PAIRS];
+    uint8_t types[ENGKARUPI_MAX_BODIES];
+    uint8_t flags[ENGKARUPI_MAX_BODIES];
+    uint16_t pairs[2 * ENGKARUPI_MAX_PAIRS];
+    uint16_t island_pairs[2 * ENGKARUPI_MAX_PAIRS];
+    uint8_t enabled[ENGKARUPI_MAX_JOINTS];
+    uint16_t numbers[ENGKARUPI_MAX_PAIRS];
+    uint8_t dynamic_bodies[ENGKARUPI_MAX_BODIES];
+    uint16_t endpoints[2 * ENGKARUPI_MAX_PAIRS];
+    uint16_t body_offsets[ENGKARUPI_MAX_BODIES + 1];
+    uint16_t body_constraints[2 * ENGKARUPI_MAX_PAIRS];
+    uint16_t scratch_offsets[ENGKARUPI_MAX_PAIRS];
+    uint16_t constraint_colors[ENGKARUPI_MAX_PAIRS];
+    uint16_t color_stamps[ENGKARUPI_MAX_PAIRS];
+    uint16_t body_stamps[ENGKARUPI_MAX_BODIES];
+    uint16_t color_offsets[ENGKARUPI_MAX_PAIRS + 1];
+    uint16_t colored_constraints[ENGKARUPI_MAX_PAIRS];
+    uint16_t color_body_offsets[ENGKARUPI_MAX_PAIRS + 1];
+    uint16_t color_bodies[2 * ENGKARUPI_MAX_PAIRS];
+    uint16_t constraint_body_positions[2 * ENGKARUPI_MAX_PAIRS];
+};
+
+/* The tables in that memory. */
+static inline struct engkarupi_run_tables engkarupi_run_tables_in(struct engkarupi_run_memory *memory)
+{
+    struct engkarupi_run_tables t;
+#define ENGKARUPI_LEND(name) t.name = memory->name; t.name##_len = sizeof memory->name / sizeof memory->name[0]
+    ENGKARUPI_LEND(parents);
+    ENGKARUPI_LEND(body_islands);
+    ENGKARUPI_LEND(manifold_islands);
+    ENGKARUPI_LEND(joint_islands);
+    ENGKARUPI_LEND(turns);
+    ENGKARUPI_LEND(types);
+    ENGKARUPI_LEND(flags);
+    ENGKARUPI_LEND(pairs);
+    ENGKARUPI_LEND(island_pairs);
+    ENGKARUPI_LEND(enabled);
+    ENGKARUPI_LEND(numbers);
+    ENGKARUPI_LEND(dynamic_bodies);
+    ENGKARUPI_LEND(endpoints);
+    ENGKARUPI_LEND(body_offsets);
+    ENGKARUPI_LEND(body_constraints);
+    ENGKARUPI_LEND(scratch_offsets);
+    ENGKARUPI_LEND(constraint_colors);
+    ENGKARUPI_LEND(color_stamps);
+    ENGKARUPI_LEND(body_stamps);
+    ENGKARUPI_LEND(color_offsets);
+    ENGKARUPI_LEND(colored_constraints);
+    ENGKARUPI_LEND(color_body_offsets);
+    ENGKARUPI_LEND(color_bodies);
+    ENGKARUPI_LEND(constraint_body_positions);
+#undef ENGKARUPI_LEND
+    return t;
+}
 
 /* ---- test lifts: the same frame on every unit from one seed
  *
