@@ -1,8 +1,9 @@
 //! Finds the Rust files, which are never copied into the repository, and hands their folder on to `include!`. With the
-//! feature `ours` it also links the static library of the proved code.
+//! feature `ours` it also links the static library of the proved code, and compiles the header's wrapper over the run.
 use std::env;
 use std::fs;
-use std::path::PathBuf;
+use std::path::{Path, PathBuf};
+use std::process::Command;
 
 /// The files, each with the sum of (place + 1) x byte modulo 2^32: an edited one is refused.
 const FILES: [(&str, u32); 3] = [
@@ -13,6 +14,24 @@ const FILES: [(&str, u32); 3] = [
 
 fn checksum(bytes: &[u8]) -> u32 {
     (1u32..).zip(bytes).fold(0, |sum, (place, byte)| sum.wrapping_add(place.wrapping_mul(*byte as u32)))
+}
+
+/// Compiles the header's wrapper over the run (wrapper.c) and has it linked.
+fn compile_wrapper(repository: &Path) {
+    let header = repository.join("include/engkarupi.h");
+    let source = repository.join("oracle/wrapper.c");
+    let object = PathBuf::from(env::var("OUT_DIR").unwrap()).join("wrapper.o");
+    println!("cargo::rerun-if-env-changed=CC");
+    println!("cargo::rerun-if-changed={}", header.display());
+    println!("cargo::rerun-if-changed={}", source.display());
+    let compiler = env::var("CC").unwrap_or("cc".to_string());
+    let mut command = Command::new(&compiler);
+    command.args(["-std=c11", "-Wall", "-Wextra", "-Wpedantic", "-Werror", "-O2", "-c", "-o"]).arg(&object);
+    command.arg("-I").arg(repository.join("include")).arg(&source);
+    match command.status() {
+        Ok(status) if status.success() => println!("cargo::rustc-link-arg={}", object.display()),
+        ended => println!("cargo::error={compiler} on {}: {ended:?}", source.display()),
+    }
 }
 
 fn main() {
@@ -52,5 +71,6 @@ fn main() {
         println!("cargo::rerun-if-changed={}", archive.display());
         println!("cargo::rustc-link-search=native={}", folder.display());
         println!("cargo::rustc-link-lib=static=boundary");
+        compile_wrapper(&repository);
     }
 }

@@ -11,6 +11,8 @@ pub struct Tally {
     pub frames: usize,
     pub calls: usize,
     pub prints: usize,
+    /// prints of the sample program
+    pub samples: usize,
     /// lines through the program that makes lifts
     pub lines: usize,
     pub agree: usize,
@@ -430,13 +432,19 @@ impl<'a, L: Calls, R: Calls> Agree<'a, L, R> {
         }
     }
 
-    /// A file through the program.
+    /// A file through the program, and through the sample program.
     pub fn print(&mut self, file: &[u8]) {
         let (left, right) = (self.left.print(file), self.right.print(file));
         self.tally.prints += 1;
         self.tally.meets("print", refused(&left));
         let text = |b: &[u8]| String::from_utf8_lossy(&b[..b.len().min(400)]).to_string();
         self.check(left == right, || format!("print of {}:\n{}and\n{}", shorten(file), text(&left), text(&right)));
+        if let Some(sample) = self.right.sample(file) {
+            self.tally.samples += 1;
+            self.check(sample == right, || {
+                format!("the sample's print of {}:\n{}and\n{}", shorten(file), text(&sample), text(&right))
+            });
+        }
     }
 
     /// A file through the program of each side, beside a known text.

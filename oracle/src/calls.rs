@@ -340,6 +340,11 @@ pub trait Calls {
     /// What the program prints.
     fn print(&self, file: &[u8]) -> Vec<u8>;
 
+    /// What the sample program prints, where a side has one: the same.
+    fn sample(&self, _file: &[u8]) -> Option<Vec<u8>> {
+        None
+    }
+
     /// The lift of a seed with so many bodies, manifolds and joints, as a file from place 0 of lent bytes: the refusal or 0,
     /// and the file's length.
     fn generate(&self, seed: u32, sizes: [usize; 3], bytes: &mut [u8]) -> (u8, usize);

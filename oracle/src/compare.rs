@@ -169,7 +169,10 @@ pub fn compare<L: Calls, R: Calls>(left: &L, right: &R, more: usize) -> ! {
         println!("a refusal was never met");
         exit(1)
     }
-    println!("frames {} calls {} prints {} lines {}", tally.frames, tally.calls, tally.prints, tally.lines);
+    println!(
+        "frames {} calls {} prints {} samples {} lines {}",
+        tally.frames, tally.calls, tally.prints, tally.samples, tally.lines
+    );
     println!("{} agree, {} differ", tally.agree, tally.differ);
     exit((tally.differ != 0) as i32)
 }

@@ -1,5 +1,7 @@
-//! The proved code as a side: through the functions of include/engkarupi.h, and the programs `turns` and `generate_frame`.
+//! The proved code as a side: through the functions of include/engkarupi.h, the programs `turns` and `generate_frame`, and
+//! the sample program in C.
 use crate::calls::*;
+use std::ffi::c_void;
 use std::io::Write;
 use std::path::{Path, PathBuf};
 use std::process::{Command, Output, Stdio};
@@ -100,59 +102,8 @@ unsafe extern "C" {
 
     fn engkarupi_take(bodies: *const u16, marks: *mut u8, count: usize, a: usize, b: usize, handed: *mut u16) -> u8;
 
-    fn engkarupi_run(
-        frame: *const u8,
-        frame_len: usize,
-        parents: *mut u16,
-        parents_len: usize,
-        body_islands: *mut u16,
-        body_islands_len: usize,
-        manifold_islands: *mut u16,
-        manifold_islands_len: usize,
-        joint_islands: *mut u16,
-        joint_islands_len: usize,
-        turns: *mut u16,
-        turns_len: usize,
-        types: *mut u8,
-        types_len: usize,
-        flags: *mut u8,
-        flags_len: usize,
-        pairs: *mut u16,
-        pairs_len: usize,
-        island_pairs: *mut u16,
-        island_pairs_len: usize,
-        enabled: *mut u8,
-        enabled_len: usize,
-        numbers: *mut u16,
-        numbers_len: usize,
-        dynamic_bodies: *mut u8,
-        dynamic_bodies_len: usize,
-        endpoints: *mut u16,
-        endpoints_len: usize,
-        body_offsets: *mut u16,
-        body_offsets_len: usize,
-        body_constraints: *mut u16,
-        body_constraints_len: usize,
-        scratch_offsets: *mut u16,
-        scratch_offsets_len: usize,
-        constraint_colors: *mut u16,
-        constraint_colors_len: usize,
-        color_stamps: *mut u16,
-        color_stamps_len: usize,
-        body_stamps: *mut u16,
-        body_stamps_len: usize,
-        color_offsets: *mut u16,
-        color_offsets_len: usize,
-        colored_constraints: *mut u16,
-        colored_constraints_len: usize,
-        color_body_offsets: *mut u16,
-        color_body_offsets_len: usize,
-        color_bodies: *mut u16,
-        color_bodies_len: usize,
-        constraint_body_positions: *mut u16,
-        constraint_body_positions_len: usize,
-        report: *mut usize,
-    ) -> u8;
+    /// The wrapper of the header over engkarupi_run (wrapper.c).
+    fn oracle_run_on(frame: *const u8, frame_len: usize, tables: *const [LentTable; 24], report: *mut usize) -> u8;
 
     fn engkarupi_generate(
         seed: u32,
@@ -163,6 +114,19 @@ unsafe extern "C" {
         frame_len: usize,
         length: *mut usize,
     ) -> u8;
+}
+
+/// A table of the header's struct engkarupi_run_tables, which holds nothing but such pairs.
+#[repr(C)]
+struct LentTable {
+    start: *mut c_void,
+    len: usize,
+}
+
+impl LentTable {
+    fn of<T>(table: &mut [T]) -> LentTable {
+        LentTable { start: table.as_mut_ptr().cast(), len: table.len() }
+    }
 }
 
 /// Islands of a frame, on its tables.
@@ -314,67 +278,40 @@ fn take(binding: &mut Binding, [a, b]: [usize; 2]) -> Take {
     }
 }
 
-/// The run of a file on its tables.
+/// The run of a file on its tables, through the header's wrapper.
 pub fn run(file: &[u8], tables: &mut RunTables) -> Report {
     let RunTables { islands: i, turns, workspace: w } = tables;
     let p = &mut w.plan;
+    // in the order of the header's struct
+    let lent = [
+        LentTable::of(&mut i.parents),
+        LentTable::of(&mut i.bodies),
+        LentTable::of(&mut i.manifolds),
+        LentTable::of(&mut i.joints),
+        LentTable::of(turns),
+        LentTable::of(&mut w.types),
+        LentTable::of(&mut w.flags),
+        LentTable::of(&mut w.frame_pairs),
+        LentTable::of(&mut w.island_pairs),
+        LentTable::of(&mut w.enabled),
+        LentTable::of(&mut w.numbers),
+        LentTable::of(&mut p.flags),
+        LentTable::of(&mut p.pairs),
+        LentTable::of(&mut p.adjacency_offsets),
+        LentTable::of(&mut p.adjacency),
+        LentTable::of(&mut p.scratch),
+        LentTable::of(&mut p.colors),
+        LentTable::of(&mut p.color_stamps),
+        LentTable::of(&mut p.body_stamps),
+        LentTable::of(&mut p.group_offsets),
+        LentTable::of(&mut p.members),
+        LentTable::of(&mut p.body_offsets),
+        LentTable::of(&mut p.bodies),
+        LentTable::of(&mut p.positions),
+    ];
     let mut report = [0xABCD; 4];
     // SAFETY: as above; a report is four numbers.
-    let refusal = unsafe {
-        engkarupi_run(
-            file.as_ptr(),
-            file.len(),
-            i.parents.as_mut_ptr(),
-            i.parents.len(),
-            i.bodies.as_mut_ptr(),
-            i.bodies.len(),
-            i.manifolds.as_mut_ptr(),
-            i.manifolds.len(),
-            i.joints.as_mut_ptr(),
-            i.joints.len(),
-            turns.as_mut_ptr(),
-            turns.len(),
-            w.types.as_mut_ptr(),
-            w.types.len(),
-            w.flags.as_mut_ptr(),
-            w.flags.len(),
-            w.frame_pairs.as_mut_ptr(),
-            w.frame_pairs.len(),
-            w.island_pairs.as_mut_ptr(),
-            w.island_pairs.len(),
-            w.enabled.as_mut_ptr(),
-            w.enabled.len(),
-            w.numbers.as_mut_ptr(),
-            w.numbers.len(),
-            p.flags.as_mut_ptr(),
-            p.flags.len(),
-            p.pairs.as_mut_ptr(),
-            p.pairs.len(),
-            p.adjacency_offsets.as_mut_ptr(),
-            p.adjacency_offsets.len(),
-            p.adjacency.as_mut_ptr(),
-            p.adjacency.len(),
-            p.scratch.as_mut_ptr(),
-            p.scratch.len(),
-            p.colors.as_mut_ptr(),
-            p.colors.len(),
-            p.color_stamps.as_mut_ptr(),
-            p.color_stamps.len(),
-            p.body_stamps.as_mut_ptr(),
-            p.body_stamps.len(),
-            p.group_offsets.as_mut_ptr(),
-            p.group_offsets.len(),
-            p.members.as_mut_ptr(),
-            p.members.len(),
-            p.body_offsets.as_mut_ptr(),
-            p.body_offsets.len(),
-            p.bodies.as_mut_ptr(),
-            p.bodies.len(),
-            p.positions.as_mut_ptr(),
-            p.positions.len(),
-            report.as_mut_ptr(),
-        )
-    };
+    let refusal = unsafe { oracle_run_on(file.as_ptr(), file.len(), &lent, report.as_mut_ptr()) };
     let [islands, turns, takes, degree] = report;
     Report { refusal, islands, turns, takes, degree }
 }
@@ -404,10 +341,11 @@ fn said(program: &Path, input: &[u8]) -> Output {
     child.wait_with_output().unwrap()
 }
 
-/// The proved code; `turns` and `generate_frame` are the programs.
+/// The proved code; `turns` and `generate_frame` are the programs, `sample` is samples/run.c.
 pub struct Ours {
     pub turns: PathBuf,
     pub generate_frame: PathBuf,
+    pub sample: PathBuf,
 }
 
 impl Calls for Ours {
@@ -474,6 +412,12 @@ impl Calls for Ours {
         let Output { status, stdout, stderr } = said(&self.turns, file);
         assert!(status.success(), "turns failed: {}", String::from_utf8_lossy(&stderr));
         stdout
+    }
+
+    fn sample(&self, file: &[u8]) -> Option<Vec<u8>> {
+        let Output { status, stdout, stderr } = said(&self.sample, file);
+        assert!(status.success(), "the sample failed: {}", String::from_utf8_lossy(&stderr));
+        Some(stdout)
     }
 
     fn generate(&self, seed: u32, sizes: [usize; 3], bytes: &mut [u8]) -> (u8, usize) {

@@ -1,4 +1,5 @@
-//! The Rust beside the proved code. Arguments: how many times the default; the programs `turns` and `generate_frame`.
+//! The Rust beside the proved code. Arguments: how many times the default; the programs `turns` and `generate_frame`; the
+//! sample program, compiled from samples/run.c.
 use oracle::ours::Ours;
 
 fn main() {
@@ -7,5 +8,6 @@ fn main() {
     let mut program = |default: &str| words.next().unwrap_or(default.to_string()).into();
     let turns = program("../target/bin/turns");
     let generate_frame = program("../target/bin/generate_frame");
-    oracle::compare::compare(&oracle::kapitsa::Rust, &Ours { turns, generate_frame }, more);
+    let sample = program("../target/run");
+    oracle::compare::compare(&oracle::kapitsa::Rust, &Ours { turns, generate_frame, sample }, more);
 }
