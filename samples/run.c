@@ -16,18 +16,11 @@ static unsigned number_at(size_t place) {
     return 256u * frame[place] + frame[place + 1];
 }
 
-/* where a constraint's two endpoints stand in the frame */
-static size_t place_of(size_t constraint) {
-    size_t bodies = number_at(5), manifolds = number_at(7), place = 11 + bodies;
-    if (constraint < manifolds) {
-        return place + 4 * constraint;
-    }
-    return place + 4 * manifolds + 5 * (constraint - manifolds);
-}
-
-static void print_turn(const uint16_t turn[3]) {
-    size_t place = place_of(turn[2]);
-    printf("%u %u %u %u %u\n", turn[0], turn[1], turn[2], number_at(place), number_at(place + 2));
+/* where a constraint's endpoints stand in the frame: a manifold has four bytes, a joint five */
+static size_t ends_of(size_t constraint) {
+    size_t bodies = number_at(5), manifolds = number_at(7);
+    size_t joints_before = constraint > manifolds ? constraint - manifolds : 0;
+    return 11 + bodies + 4 * constraint + joints_before;
 }
 
 int main(void) {
@@ -42,8 +35,9 @@ int main(void) {
     }
     printf("islands %zu turns %zu takes %zu degree %zu\n", report[ENGKARUPI_REPORT_ISLANDS],
            report[ENGKARUPI_REPORT_TURNS], report[ENGKARUPI_REPORT_TAKES], report[ENGKARUPI_REPORT_DEGREE]);
-    for (size_t t = 0; t < report[ENGKARUPI_REPORT_TURNS]; t++) {
-        print_turn(&memory.turns[3 * t]);
+    for (const uint16_t *turn = memory.turns; turn < memory.turns + 3 * report[ENGKARUPI_REPORT_TURNS]; turn += 3) {
+        size_t ends = ends_of(turn[2]);
+        printf("%u %u %u %u %u\n", turn[0], turn[1], turn[2], number_at(ends), number_at(ends + 2));
     }
     return 0;
 }
