@@ -10,8 +10,8 @@ use Rattle.colored_bodies.specs.declared.Take.{Take}
 use Rattle.colored_bodies.specs.declared.Take.the-variants as take
 
 -- a plan as four numbers: bodies, constraints, groups, and the constraints of the largest group
-abbrev pub planFrom : List ℕ → ConstraintColoring
-planFrom p = record { «body_count» = getD p 0 0; «constraint_count» = getD p 1 0; «color_count» = getD p 2 0; «max_color_constraint_count» = getD p 3 0 }
+abbrev pub planOfNumbers : List ℕ → ConstraintColoring
+planOfNumbers p = record { «body_count» = getD p 0 0; «constraint_count» = getD p 1 0; «color_count» = getD p 2 0; «max_color_constraint_count» = getD p 3 0 }
 
 abbrev pub planNumbers : ConstraintColoring → List ℕ
 planNumbers p = p .«body_count» ∷ p .«constraint_count» ∷ p .«color_count» ∷ p .«max_color_constraint_count» ∷ []

@@ -2,52 +2,18 @@
 use colored_bodies::Marked;
 use constraint_coloring::ConstraintColoring;
 use constraint_coloring::Positions;
-use constraint_coloring::Update;
+use frame::Frame;
 ghost use mathlib.Core.Path.{_≡_};
 ghost use mathlib.Core.Bool.{cond};
 ghost use lib.Dec.{eqb};
 ghost use lib.ListN.{getD};
-ghost use Rattle.lists.specs.Basics.{one};
 ghost use Rattle.colored_bodies.specs.Answers.{takeNumber, withBodies, Placed};
-ghost use Rattle.constraint_coloring.specs.Calls.{updateNumber, updateChanged, planAfter, positionsNumber};
-ghost use Rattle.answer_numbers.specs.Numbers.{planFrom, positionNumbers, handedNumbers};
-
-// The refusal of an update, or 0.
-pub fn update_refusal(answer: Update) -> u8
-    ensures { λ r. ⌜ r ≡ updateNumber answer ⌝ }
-{
-    match answer {
-        Update::Changed(_) => 0,
-        Update::Unchanged => 0,
-        Update::Refused(n) => n,
-    }
-}
-
-// 1 if it changed the plan.
-pub fn is_changed(answer: Update) -> u8
-    ensures { λ r. ⌜ r ≡ one (updateChanged answer) ⌝ }
-{
-    match answer {
-        Update::Changed(_) => 1,
-        Update::Unchanged => 0,
-        Update::Refused(_) => 0,
-    }
-}
-
-// The plan after it.
-pub fn plan_after(plan: ConstraintColoring, answer: Update) -> ConstraintColoring
-    ensures { λ r. ⌜ r ≡ planAfter plan answer ⌝ }
-{
-    match answer {
-        Update::Changed(changed) => changed,
-        Update::Unchanged => plan,
-        Update::Refused(_) => plan,
-    }
-}
+ghost use Rattle.constraint_coloring.specs.Calls.{positionsNumber};
+ghost use Rattle.answer_numbers.specs.Numbers.{planOfNumbers, positionNumbers, handedNumbers};
 
 // The plan that four numbers give.
 pub fn plan_from(plan: &[usize; 4]) -> ConstraintColoring
-    ensures { λ r. ⌜ r ≡ planFrom (now (plan .entry)) ⌝ }
+    ensures { λ r. ⌜ r ≡ planOfNumbers (now (plan .entry)) ⌝ }
 {
     ConstraintColoring {
         body_count: plan[0],
@@ -87,7 +53,13 @@ pub fn locate(answer: Positions, places: &mut [u16; 2]) -> u8
 }
 
 // The answer of a take of marks as numbers, with the bodies' numbers.
-pub fn hand(bodies: &[u16; 4096], a: usize, b: usize, marked: Marked, handed: &mut [u16; 4]) -> u8
+pub fn hand(
+    bodies: &[u16; Frame::MAX_BODIES],
+    a: usize,
+    b: usize,
+    marked: Marked,
+    handed: &mut [u16; 4],
+) -> u8
     requires { ⌜ Placed a b marked ⌝ }
     ensures { λ r. ⌜ (r ≡ takeNumber (withBodies (now (bodies .entry)) a b marked)) × (now (handed .exit) ≡ handedNumbers (withBodies (now (bodies .entry)) a b marked)) ⌝ }
 {

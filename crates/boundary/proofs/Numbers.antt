@@ -15,11 +15,11 @@ use Rattle.constraint_coloring.specs.declared.Update.{Update}
 use Rattle.constraint_coloring.specs.declared.Positions.{Positions}
 use Rattle.plan_questions.specs.Plans.{Tables, part, groupPart}
 use Rattle.constraint_coloring.specs.Calls.{updateNumber, updateChanged, planAfter, Updated, positionsNumber, Located}
-use Rattle.answer_numbers.specs.Numbers.{planFrom, planNumbers, positionNumbers}
+use Rattle.answer_numbers.specs.Numbers.{planOfNumbers, planNumbers, positionNumbers}
 use Rattle.boundary.specs.Exports.{Updates, Found, Locates}
 
 pub updated-by : {plan flags pairs : List ℕ} {p q : ConstraintColoring} {t u : Tables} {answer : Update} {number changed : ℕ}
-    → p ≡ planFrom plan → Updated p flags pairs t u answer → number ≡ updateNumber answer → changed ≡ one (updateChanged answer) → q ≡ planAfter p answer
+    → p ≡ planOfNumbers plan → Updated p flags pairs t u answer → number ≡ updateNumber answer → changed ≡ one (updateChanged answer) → q ≡ planAfter p answer
     → Updates plan flags pairs t u number changed (planNumbers q)
 updated-by {plan} {flags} {pairs} {p} {q} {t} {u} {answer} e h n c after =
     record {
@@ -61,7 +61,7 @@ group-at n offsets table k start true h from =
 group-at n offsets table k start false h from = empty (groupPart n offsets table k) table start (rw h refl)
 
 pub found-by : {part : List ℕ} {p : ConstraintColoring} {start : ℕ} (plan offsets table : List ℕ) (k : ℕ)
-    → p ≡ planFrom plan → part ≡ groupPart (p .«color_count») offsets table k → start ≡ cond (eqb (length part) 0) 0 (getD offsets k 0)
+    → p ≡ planOfNumbers plan → part ≡ groupPart (p .«color_count») offsets table k → start ≡ cond (eqb (length part) 0) 0 (getD offsets k 0)
     → Found (getD plan 2 0) offsets table k start (length part)
 found-by {part} {p} {start} plan offsets table k e h from =
     let n = getD plan 2 0 in
@@ -74,7 +74,7 @@ found-by {part} {p} {start} plan offsets table k e h from =
     }
 
 pub located-by : {table places : List ℕ} {p : ConstraintColoring} {r number : ℕ} {answer : Positions} (plan : List ℕ)
-    → p ≡ planFrom plan → Located (p .«constraint_count») table r answer → number ≡ positionsNumber answer → places ≡ positionNumbers answer
+    → p ≡ planOfNumbers plan → Located (p .«constraint_count») table r answer → number ≡ positionsNumber answer → places ≡ positionNumbers answer
     → Locates (getD plan 1 0) table r number places
 located-by {table} {places} {p} {r} {number} {answer} plan e h n v =
     record {

@@ -13,7 +13,7 @@ use Rattle.constraint_coloring.specs.Calls.{updateNumber, updateChanged, planAf
 use Rattle.colored_bodies.specs.declared.BodyBinding.{BodyBinding}
 use Rattle.colored_bodies.specs.declared.Take.{Take}
 use Rattle.colored_bodies.specs.Answers.{takeNumber, Takes}
-use Rattle.answer_numbers.specs.Numbers.{planFrom, planNumbers, positionNumbers, handedNumbers}
+use Rattle.answer_numbers.specs.Numbers.{planOfNumbers, planNumbers, positionNumbers, handedNumbers}
 use Rattle.run_answer.specs.declared.Report.{Report}
 use Rattle.run_answer.specs.declared.Answer.{Answer}
 use Rattle.run_answer.specs.Answers.{runNumber, runReport}
@@ -24,10 +24,10 @@ use Rattle.frame_run.specs.Calls.{Lent, Ran}
 -- an update of a plan with the tables t, which are left as u
 pub record Updates (plan flags pairs : List ℕ) (t u : Tables) (number changed : ℕ) (left : List ℕ) : Type 0 where
   pub answer : Update
-  pub updated : Updated (planFrom plan) flags pairs t u answer
+  pub updated : Updated (planOfNumbers plan) flags pairs t u answer
   pub refusal : number ≡ updateNumber answer
   pub change : changed ≡ one (updateChanged answer)
-  pub plan-after : left ≡ planNumbers (planAfter (planFrom plan) answer)
+  pub plan-after : left ≡ planNumbers (planAfter (planOfNumbers plan) answer)
 
 -- the part of group k of n groups: where it starts in the table, and its size; an empty part starts at 0
 pub record Found (n : ℕ) (offsets table : List ℕ) (k start size : ℕ) : Type 0 where

@@ -2,12 +2,14 @@
 mod run;
 
 use colored_bodies::BodyBinding;
+use frame::Frame;
 ghost use mathlib.Core.List.{[], _∷_};
 ghost use lib.ListN.{length, getD};
 ghost use Rattle.frame.specs.Frames.{frameOf};
 ghost use Rattle.island.specs.Calls.{islandRefusal, Built};
 ghost use Rattle.colored_bodies.specs.Answers.{Binds};
 ghost use Rattle.generator.specs.Calls.{Made};
+ghost use Rattle.plan_questions.specs.Plans.{tablesOf};
 ghost use Rattle.boundary.specs.Exports.{Updates, Found, Locates, Took};
 
 // The islands of a frame, and how many; answers the refusal or 0.
@@ -64,7 +66,15 @@ pub extern "C" fn engkarupi_update(
     constraint_body_positions: &mut [u16],
     changed: &mut u8,
 ) -> u8
-    ensures { λ r. ⌜ Updates (now (plan .entry)) (now (flags .entry)) (now (pairs .entry)) (record { dynamic-bodies = now («dynamic_bodies» .entry); endpoints = now (endpoints .entry); body-offsets = now («body_offsets» .entry); body-constraints = now («body_constraints» .entry); scratch-offsets = now («scratch_offsets» .entry); constraint-colors = now («constraint_colors» .entry); color-stamps = now («color_stamps» .entry); body-stamps = now («body_stamps» .entry); color-offsets = now («color_offsets» .entry); colored-constraints = now («colored_constraints» .entry); color-body-offsets = now («color_body_offsets» .entry); color-bodies = now («color_bodies» .entry); constraint-body-positions = now («constraint_body_positions» .entry) }) (record { dynamic-bodies = now («dynamic_bodies» .exit); endpoints = now (endpoints .exit); body-offsets = now («body_offsets» .exit); body-constraints = now («body_constraints» .exit); scratch-offsets = now («scratch_offsets» .exit); constraint-colors = now («constraint_colors» .exit); color-stamps = now («color_stamps» .exit); body-stamps = now («body_stamps» .exit); color-offsets = now («color_offsets» .exit); colored-constraints = now («colored_constraints» .exit); color-body-offsets = now («color_body_offsets» .exit); color-bodies = now («color_bodies» .exit); constraint-body-positions = now («constraint_body_positions» .exit) }) r (now (changed .exit)) (now (plan .exit)) ⌝ }
+    ensures { λ r. ⌜ Updates (now (plan .entry)) (now (flags .entry)) (now (pairs .entry))
+        (tablesOf (now («dynamic_bodies» .entry)) (now (endpoints .entry)) (now («body_offsets» .entry))
+        (now («body_constraints» .entry)) (now («scratch_offsets» .entry)) (now («constraint_colors» .entry))
+        (now («color_stamps» .entry)) (now («body_stamps» .entry)) (now («color_offsets» .entry))
+        (now («colored_constraints» .entry)) (now («color_body_offsets» .entry)) (now («color_bodies» .entry)) (now («constraint_body_positions» .entry)))
+        (tablesOf (now («dynamic_bodies» .exit)) (now (endpoints .exit)) (now («body_offsets» .exit))
+        (now («body_constraints» .exit)) (now («scratch_offsets» .exit)) (now («constraint_colors» .exit))
+        (now («color_stamps» .exit)) (now («body_stamps» .exit)) (now («color_offsets» .exit))
+        (now («colored_constraints» .exit)) (now («color_body_offsets» .exit)) (now («color_bodies» .exit)) (now («constraint_body_positions» .exit))) r (now (changed .exit)) (now (plan .exit)) ⌝ }
 {
     let before = answer_numbers::plan_from(plan);
     let answer = before.update(
@@ -84,15 +94,15 @@ pub extern "C" fn engkarupi_update(
         color_bodies,
         constraint_body_positions,
     );
-    let after = answer_numbers::plan_after(before, answer);
+    let after = constraint_coloring::plan_after(before, answer);
     *plan = [
         after.body_count,
         after.constraint_count,
         after.color_count,
         after.max_color_constraint_count,
     ];
-    *changed = answer_numbers::is_changed(answer);
-    answer_numbers::update_refusal(answer)
+    *changed = constraint_coloring::is_changed(answer);
+    constraint_coloring::refusal_of(answer)
 }
 
 // The members of a group: where they start in their table; answers how many.
@@ -151,8 +161,8 @@ pub extern "C" fn engkarupi_positions(
 pub extern "C" fn engkarupi_bind(
     types: &[u8],
     indices: &[u16],
-    bodies: &mut [u16; 4096],
-    marks: &mut [u8; 4096],
+    bodies: &mut [u16; Frame::MAX_BODIES],
+    marks: &mut [u8; Frame::MAX_BODIES],
     count: &mut usize,
 ) -> u8
     ensures { λ r. ⌜ Binds (now (types .entry)) (now (indices .entry)) (record { refusal = r; binding = record { bodies = now (bodies .exit); marks = now (marks .exit); count = now (count .exit) } }) ⌝ }
@@ -170,8 +180,8 @@ pub extern "C" fn engkarupi_bind(
 // A take from a binding: two bodies in the order asked, each with 1 for "dynamic"; answers the refusal or 0.
 #[no_mangle]
 pub extern "C" fn engkarupi_take(
-    bodies: &[u16; 4096],
-    marks: &mut [u8; 4096],
+    bodies: &[u16; Frame::MAX_BODIES],
+    marks: &mut [u8; Frame::MAX_BODIES],
     count: usize,
     a: usize,
     b: usize,

@@ -1,4 +1,6 @@
 // The frame run for C and Rust.
+ghost use Rattle.plan_questions.specs.Plans.{tablesOf};
+ghost use Rattle.frame_run.specs.Calls.{lentOf};
 ghost use Rattle.boundary.specs.Exports.{Runs};
 
 // The run of a file, and its four numbers: islands, turns, takes, degree; answers the refusal or 0.
@@ -32,8 +34,20 @@ pub extern "C" fn engkarupi_run(
     report: &mut [usize; 4],
 ) -> u8
     ensures { λ r. ⌜ Runs (now (frame .entry))
-        (record { parents = now (parents .entry); body-islands = now («body_islands» .entry); manifold-islands = now («manifold_islands» .entry); joint-islands = now («joint_islands» .entry); turns = now (turns .entry); types = now (types .entry); flags = now (flags .entry); pairs = now (pairs .entry); island-pairs = now («island_pairs» .entry); enabled = now (enabled .entry); numbers = now (numbers .entry); plan = record { dynamic-bodies = now («dynamic_bodies» .entry); endpoints = now (endpoints .entry); body-offsets = now («body_offsets» .entry); body-constraints = now («body_constraints» .entry); scratch-offsets = now («scratch_offsets» .entry); constraint-colors = now («constraint_colors» .entry); color-stamps = now («color_stamps» .entry); body-stamps = now («body_stamps» .entry); color-offsets = now («color_offsets» .entry); colored-constraints = now («colored_constraints» .entry); color-body-offsets = now («color_body_offsets» .entry); color-bodies = now («color_bodies» .entry); constraint-body-positions = now («constraint_body_positions» .entry) } })
-        (record { parents = now (parents .exit); body-islands = now («body_islands» .exit); manifold-islands = now («manifold_islands» .exit); joint-islands = now («joint_islands» .exit); turns = now (turns .exit); types = now (types .exit); flags = now (flags .exit); pairs = now (pairs .exit); island-pairs = now («island_pairs» .exit); enabled = now (enabled .exit); numbers = now (numbers .exit); plan = record { dynamic-bodies = now («dynamic_bodies» .exit); endpoints = now (endpoints .exit); body-offsets = now («body_offsets» .exit); body-constraints = now («body_constraints» .exit); scratch-offsets = now («scratch_offsets» .exit); constraint-colors = now («constraint_colors» .exit); color-stamps = now («color_stamps» .exit); body-stamps = now («body_stamps» .exit); color-offsets = now («color_offsets» .exit); colored-constraints = now («colored_constraints» .exit); color-body-offsets = now («color_body_offsets» .exit); color-bodies = now («color_bodies» .exit); constraint-body-positions = now («constraint_body_positions» .exit) } }) r (now (report .exit)) ⌝ }
+        (lentOf (now (parents .entry)) (now («body_islands» .entry)) (now («manifold_islands» .entry)) (now («joint_islands» .entry))
+        (now (turns .entry)) (now (types .entry)) (now (flags .entry)) (now (pairs .entry))
+        (now («island_pairs» .entry)) (now (enabled .entry)) (now (numbers .entry))
+        (tablesOf (now («dynamic_bodies» .entry)) (now (endpoints .entry)) (now («body_offsets» .entry))
+        (now («body_constraints» .entry)) (now («scratch_offsets» .entry)) (now («constraint_colors» .entry))
+        (now («color_stamps» .entry)) (now («body_stamps» .entry)) (now («color_offsets» .entry))
+        (now («colored_constraints» .entry)) (now («color_body_offsets» .entry)) (now («color_bodies» .entry)) (now («constraint_body_positions» .entry))))
+        (lentOf (now (parents .exit)) (now («body_islands» .exit)) (now («manifold_islands» .exit)) (now («joint_islands» .exit))
+        (now (turns .exit)) (now (types .exit)) (now (flags .exit)) (now (pairs .exit))
+        (now («island_pairs» .exit)) (now (enabled .exit)) (now (numbers .exit))
+        (tablesOf (now («dynamic_bodies» .exit)) (now (endpoints .exit)) (now («body_offsets» .exit))
+        (now («body_constraints» .exit)) (now («scratch_offsets» .exit)) (now («constraint_colors» .exit))
+        (now («color_stamps» .exit)) (now («body_stamps» .exit)) (now («color_offsets» .exit))
+        (now («colored_constraints» .exit)) (now («color_body_offsets» .exit)) (now («color_bodies» .exit)) (now («constraint_body_positions» .exit)))) r (now (report .exit)) ⌝ }
 {
     let answer = frame_run::run(
         frame,
@@ -62,12 +76,12 @@ pub extern "C" fn engkarupi_run(
         color_bodies,
         constraint_body_positions,
     );
-    let carried = run_answer::reported(answer);
+    let carried = run_answer::report_of(answer);
     *report = [
         carried.islands,
         carried.turns,
         carried.takes,
         carried.degree,
     ];
-    run_answer::run_refusal(answer)
+    run_answer::refusal_of(answer)
 }

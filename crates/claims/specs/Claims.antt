@@ -19,8 +19,8 @@ use Rattle.island.specs.Calls.{Built}
 use Rattle.connected_sets.proofs.Theorem.{connected-label, label-connected, lowest-in, lowest-least, label-rises, body-below, label-each}
 use Rattle.groups.specs.Groups.{Plan, flagged, free, usedBy, colorsOf}
 use Rattle.groups.proofs.Colors.{colors-snoc, free-new, free-least, proper}
-use Rattle.painting.specs.Painting.{Walked}
-use Rattle.painting.proofs.Promised.{left-higher}
+use Rattle.coloring.specs.Coloring.{Walked}
+use Rattle.coloring.proofs.Promised.{left-higher}
 use Rattle.constraint_coloring.specs.declared.ConstraintColoring.{ConstraintColoring}
 use Rattle.plan_questions.specs.Plans.{Tables}
 use Rattle.constraint_coloring.specs.Calls.{freshPlan}

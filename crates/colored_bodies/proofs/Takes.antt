@@ -1,6 +1,6 @@
 -- Takes from a binding of which some bodies are gone: a take of bodies that are there, at their places, hands exactly them and leaves
 -- the binding with them gone. So takes that share no dynamic body all succeed, in any order.
-use Prim.Native.Nat.{ℕ, zero, suc, _+_, _-_, _≤_, _<_}
+use Prim.Native.Nat.{ℕ, _+_, _-_, _≤_, _<_}
 use mathlib.Core.Path.{_≡_, refl, sym, ap, _∙_}
 use mathlib.Core.Bool.{Bool, true, false, not, _&&_, _||_, cond}
 use mathlib.Core.List.{List, [], _∷_, _++_, map, map-map}
@@ -10,7 +10,7 @@ use lib.ListN.{length, getD, replicate, length-map, length-append, length-replic
 use lib.Seq.{getD-set-same, getD-set-other, ext-getD, getD-append-add}
 use borrow.Author.Tests.{eqb-true, eqb-false, ltb-true, ltb-false, lt-ltb, not-true}
 use Rattle.lists.specs.Basics.{all, count, one, mem, place, distinct, insert, sorted}
-use Rattle.lists.proofs.Laws.{and-left, and-right, and-both, or-right, clashes, by-cases, not-true-false, bool-ext, mem-self, mem-map, map-mem, map-ext-in, getD-map-lt, place-lt, place-get, get-place, distinct-map, all-intro, all-map, distinct-count, count-distinct, mem-count, count-any}
+use Rattle.lists.proofs.Laws.{and-left, and-right, and-both, or-right, clashes, by-cases, not-true-false, bool-ext, mem-self, mem-map, map-mem, map-ext-in, getD-map-lt, place-lt, place-get, get-place, distinct-map, all-intro, all-map, distinct-count, count-distinct, mem-count, count-any, replicate-at}
 use Rattle.frame.specs.Frames.{conflicts}
 use Rattle.colored_bodies.specs.declared.BodyBinding.{BodyBinding}
 use Rattle.colored_bodies.specs.Bindings.{padded, boundOf, placed, free, spend, refusalFrom, marksFrom, takeRefusal, takeMarks, Handed, handedAt, takeOf}
@@ -103,16 +103,11 @@ padded-in : (xs : List ℕ) (j : ℕ) → j < length xs → getD (padded xs) j 0
 unfolding padded
 padded-in xs j h = List·getD-append xs (replicate (4096 - length xs) 0) 0 j h
 
-zeros : (n j : ℕ) → getD {A = ℕ} (replicate n 0) j 0 ≡ 0
-zeros zero j = refl
-zeros (suc n) zero = refl
-zeros (suc n) (suc j) = zeros n j
-
 padded-out : (xs : List ℕ) (j : ℕ) → length xs ≤ j → getD (padded xs) j 0 ≡ 0
 unfolding padded
 padded-out xs j h =
     let e : j ≡ length xs + (j - length xs) = omega arith in
-    ap (λ (k : ℕ). getD (xs ++ replicate (4096 - length xs) 0) k 0) e ∙ getD-append-add xs (replicate (4096 - length xs) 0) (j - length xs) 0 ∙ zeros (4096 - length xs) (j - length xs)
+    ap (λ (k : ℕ). getD (xs ++ replicate (4096 - length xs) 0) k 0) e ∙ getD-append-add xs (replicate (4096 - length xs) 0) (j - length xs) 0 ∙ replicate-at (4096 - length xs) (j - length xs) 0
 
 -- ---- one take, of the bodies es that are listed and not gone
 module _ (types : List ℕ) (gone : ℕ → Bool) (bs es : List ℕ) (within : (b : ℕ) → mem b es ≡ true → mem b bs ≡ true) (apart : distinct bs ≡ true) (eapart : distinct es ≡ true) (few : length bs ≤ 4096)

@@ -3,6 +3,7 @@
 // `bind` lists a group's bodies and marks the dynamic ones held; a take hands two of them over, in the order asked, and marks the
 // dynamic ones taken, so that no dynamic body is handed over twice. `bind` refuses too many bodies (3), unknown types (5) and a
 // list that does not rise inside them (8); a take refuses bad positions (9) and bodies that are gone (10, 11).
+use frame::Frame;
 ghost use mathlib.Core.Path.{_≡_};
 ghost use mathlib.Core.Bool.{_&&_, cond};
 ghost use mathlib.Core.List.{List, [], _∷_, map};
@@ -15,8 +16,8 @@ ghost use Rattle.colored_bodies.specs.Answers.{withBodies, Placed, Filla
 
 // For each place a body number and a mark: 0 read-only, 1 held, and any other number taken.
 pub struct BodyBinding {
-    pub bodies: [u16; 4096],
-    pub marks: [u8; 4096],
+    pub bodies: [u16; Frame::MAX_BODIES],
+    pub marks: [u8; Frame::MAX_BODIES],
     pub count: usize,
 }
 
@@ -58,6 +59,7 @@ fn rises_below(indices: &[u16], n: usize) -> bool
 {
     let mut low: usize = 0;
     let mut i = 0;
+    // `low` is the least that the next entry may be: one more than the entry before.
     while i < indices.len() {
         let x = indices[i] as usize;
         if x < low {
@@ -84,7 +86,7 @@ fn known_refusal(types: &[u8], indices: &[u16]) -> u8
 fn bind_refusal(types: &[u8], indices: &[u16]) -> u8
     ensures { λ r. ⌜ r ≡ bindRefusal (now (types .entry)) (now (indices .entry)) ⌝ }
 {
-    if frame::Frame::MAX_BODIES < types.len() {
+    if Frame::MAX_BODIES < types.len() {
         return 3;
     }
     if !frame::at_most(types, 2) {
@@ -101,7 +103,7 @@ fn bound_count(refusal: u8, listed: usize) -> usize
 }
 
 // The first bodies of a list, into a table of zeros.
-fn list_bodies(indices: &[u16], count: usize, bodies: &mut [u16; 4096])
+fn list_bodies(indices: &[u16], count: usize, bodies: &mut [u16; Frame::MAX_BODIES])
     requires { ⌜ (count ≤ length (now indices)) × (count ≤ 4096) × (now bodies ≡ replicate 4096 0) ⌝ }
     ensures { λ _. ⌜ now (bodies .exit) ≡ padded (take count (now (indices .entry))) ⌝ }
 {
@@ -113,11 +115,12 @@ fn list_bodies(indices: &[u16], count: usize, bodies: &mut [u16; 4096])
 }
 
 // Their marks, into a table of zeros: dynamic bodies are held, others read-only.
-fn mark_bodies(types: &[u8], indices: &[u16], count: usize, marks: &mut [u8; 4096])
+fn mark_bodies(types: &[u8], indices: &[u16], count: usize, marks: &mut [u8; Frame::MAX_BODIES])
     requires { ⌜ Fillable (now types) (now indices) count × (now marks ≡ replicate 4096 0) ⌝ }
     ensures { λ _. ⌜ now (marks .exit) ≡ padded (map (markOf (now (types .entry))) (take count (now (indices .entry)))) ⌝ }
 {
     let mut i = 0;
+    // The first i places have their bodies' marks, the others 0.
     while i < count {
         let x = indices[i] as usize;
         marks[i] = (types[x] == 2) as u8;
@@ -127,12 +130,12 @@ fn mark_bodies(types: &[u8], indices: &[u16], count: usize, marks: &mut [u8; 409
 
 // All that a bind of known types does to marks, whatever stood in the table, with no copy. No entry: the run's loop over groups calls
 // it. Answers the binding's count.
-pub fn bind_marks(types: &[u8], indices: &[u16], marks: &mut [u8; 4096]) -> usize
+pub fn bind_marks(types: &[u8], indices: &[u16], marks: &mut [u8; Frame::MAX_BODIES]) -> usize
     requires { ⌜ Known (now types) ⌝ }
     ensures { λ r. ⌜ (r ≡ bindOf (now (types .entry)) (now (indices .entry)) .count) × (now (marks .exit) ≡ bindOf (now (types .entry)) (now (indices .entry)) .marks) ⌝ }
 {
     let count = bound_count(known_refusal(types, indices), indices.len());
-    *marks = [0u8; 4096];
+    *marks = [0u8; Frame::MAX_BODIES];
     mark_bodies(types, indices, count, marks);
     count
 }
@@ -144,8 +147,8 @@ impl BodyBinding {
     {
         let refusal = bind_refusal(types, indices);
         let count = bound_count(refusal, indices.len());
-        let mut bodies = [0u16; 4096];
-        let mut marks = [0u8; 4096];
+        let mut bodies = [0u16; Frame::MAX_BODIES];
+        let mut marks = [0u8; Frame::MAX_BODIES];
         list_bodies(indices, count, &mut bodies);
         mark_bodies(types, indices, count, &mut marks);
         let binding = BodyBinding {
@@ -164,7 +167,7 @@ impl BodyBinding {
 fn placed_in(count: usize, a: usize, b: usize) -> bool
     ensures { λ r. ⌜ r ≡ placed count (a ∷ b ∷ []) ⌝ }
 {
-    (a != b) & (a < count) & (a < 4096) & (b < count) & (b < 4096)
+    (a != b) & (a < count) & (a < Frame::MAX_BODIES) & (b < count) & (b < Frame::MAX_BODIES)
 }
 
 // The lower and the higher of two positions.
@@ -181,7 +184,7 @@ fn higher(a: usize, b: usize) -> usize
 }
 
 // A held place becomes taken; any other keeps its mark.
-fn take_body(marks: &mut [u8; 4096], p: usize)
+fn take_body(marks: &mut [u8; Frame::MAX_BODIES], p: usize)
     requires { ⌜ p < 4096 ⌝ }
     ensures { λ _. ⌜ now (marks .exit) ≡ spend (now (marks .entry)) p ⌝ }
 {
@@ -191,7 +194,7 @@ fn take_body(marks: &mut [u8; 4096], p: usize)
 }
 
 // Questions 10 and 11: the lower place is taken before the higher one is asked, and stays taken if that one is gone.
-fn take_both(marks: &mut [u8; 4096], low: usize, high: usize) -> u8
+fn take_both(marks: &mut [u8; Frame::MAX_BODIES], low: usize, high: usize) -> u8
     requires { ⌜ (low < 4096) × (high < 4096) ⌝ }
     ensures { λ r. ⌜ (r ≡ refusalFrom 10 (now (marks .entry)) (low ∷ high ∷ [])) × (now (marks .exit) ≡ marksFrom (now (marks .entry)) (low ∷ high ∷ [])) ⌝ }
 {
@@ -208,7 +211,7 @@ fn take_both(marks: &mut [u8; 4096], low: usize, high: usize) -> u8
 
 // All that a take does to the marks, with no copy: what a loop over a local binding calls. Its promise holds whatever bodies
 // stand beside the marks.
-pub fn take_marks(marks: &mut [u8; 4096], count: usize, a: usize, b: usize) -> Marked
+pub fn take_marks(marks: &mut [u8; Frame::MAX_BODIES], count: usize, a: usize, b: usize) -> Marked
     ensures { λ r. ⌜ ((bodies : List ℕ) → Marks (record { bodies = bodies; marks = now (marks .entry); count = count }) (a ∷ b ∷ []) r (now (marks .exit))) ⌝ }
 {
     if !placed_in(count, a, b) {
@@ -228,7 +231,7 @@ pub fn take_marks(marks: &mut [u8; 4096], count: usize, a: usize, b: usize) -> M
 }
 
 // The answer of a take of marks, with the bodies' numbers.
-fn with_bodies(bodies: &[u16; 4096], a: usize, b: usize, marked: Marked) -> Take
+fn with_bodies(bodies: &[u16; Frame::MAX_BODIES], a: usize, b: usize, marked: Marked) -> Take
     requires { ⌜ Placed a b marked ⌝ }
     ensures { λ r. ⌜ r ≡ withBodies (now (bodies .entry)) a b marked ⌝ }
 {

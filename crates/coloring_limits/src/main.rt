@@ -62,14 +62,6 @@ fn changed(answer: Update) -> usize {
     }
 }
 
-fn plan_after(plan: ConstraintColoring, answer: Update) -> ConstraintColoring {
-    match answer {
-        Update::Changed(next) => next,
-        Update::Unchanged => plan,
-        Update::Refused(n) => plan,
-    }
-}
-
 // A checksum of the first `count` places, as far as there are so many.
 fn checksum(table: &[u16], count: usize) -> usize
     ensures { λ r. ⌜ r ≤ 65520 ⌝ }
@@ -100,7 +92,7 @@ fn show(
     answer: Update,
     constraint_body_positions: &[u16],
 ) -> ConstraintColoring {
-    let plan = plan_after(before, answer);
+    let plan = constraint_coloring::plan_after(before, answer);
     io::print_decimal(1, case as u64);
     put(number(answer));
     put(changed(answer));

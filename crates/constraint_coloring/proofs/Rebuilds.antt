@@ -13,7 +13,7 @@ use Rattle.lists.specs.Basics.{maxOf, range, over, all}
 use Rattle.lists.proofs.Laws.{all-weaken}
 use Rattle.frame.specs.Frames.{fits}
 use Rattle.frame.proofs.Pairs.{fits-in}
-use Rattle.groups.specs.Groups.{planOf, pairsOf, colorsOf, groupCount, members, largestGroup, positions, flatten, offsets}
+use Rattle.groups.specs.Groups.{planFrom, planOf, pairsOf, colorsOf, groupCount, members, largestGroup, positions, flatten, offsets}
 use Rattle.groups.proofs.Colors.{colors-length, groups-few as few-groups}
 use Rattle.groups.proofs.Tables.{length-offsets}
 use Rattle.groups.proofs.Pairs.{pairs-length, pairs-sum}
@@ -21,7 +21,7 @@ use Rattle.parts.specs.Parts.{partsAt}
 use Rattle.parts.specs.Steps.{widest}
 use Rattle.parts.proofs.Groups.{widest-is}
 use Rattle.parts.proofs.Parts.{parts-pairs}
-use Rattle.painting.specs.Painting.{Ready}
+use Rattle.coloring.specs.Coloring.{Ready}
 use Rattle.gathering.specs.Gathers.{Gatherable}
 use Rattle.plan_questions.specs.Plans.{Tables}
 use Rattle.constraint_coloring.specs.Calls.{carried}
@@ -108,19 +108,19 @@ module _ {flags pairs : List ℕ} {t : Tables} (ok : Accepted flags pairs t) whe
   -- ---- what the plan says
   pub plan-is : (k largest : ℕ) → k ≡ groupCount promised → largest ≡ largestGroup promised
       → _≡_ {A = ConstraintColoring} (record { «body_count» = length flags; «constraint_count» = half; «color_count» = k; «max_color_constraint_count» = largest }) (carried (planOf flags pairs))
-  unfolding planOf
+  unfolding planFrom
   plan-is k largest ek el = carried-eq (length flags) half (length cs) k (groupCount promised) largest (largestGroup promised) (sym (pairs-length half pairs (ok .even))) ek el
 
   pub colors-planned : planOf flags pairs .colors ≡ promised
-  unfolding planOf
+  unfolding planFrom
   colors-planned = refl
 
   pub starts-planned : (k : ℕ) → k ≡ groupCount promised → planOf flags pairs .color-offsets ≡ offsets (members promised) k
-  unfolding planOf
+  unfolding planFrom
   starts-planned k e = ap (offsets (members promised)) (sym e)
 
   pub constraints-planned : (k : ℕ) → k ≡ groupCount promised → planOf flags pairs .colored-constraints ≡ flatten (members promised) k
-  unfolding planOf
+  unfolding planFrom
   constraints-planned k e = ap (flatten (members promised)) (sym e)
 
   module _ {colors bodies₀ body-starts bodies positions′ : List ℕ} {k : ℕ} (ec : colors ≡ promised) (ek : k ≡ groupCount promised) (l : Scheduled (length flags) (partsAt (length colors) [] pairs) colors k bodies₀ body-starts bodies positions′) where
@@ -128,13 +128,13 @@ module _ {flags pairs : List ℕ} {t : Tables} (ok : Accepted flags pairs t) whe
     listed = rw (parts-are (length colors) (ap length ec ∙ colors-long), ec, ek) at l
 
     pub body-starts-planned : body-starts ≡ planOf flags pairs .color-body-offsets
-    unfolding planOf
+    unfolding planFrom
     body-starts-planned = listed .gathered .starts
 
     pub bodies-planned : bodies ≡ over (planOf flags pairs .color-bodies) bodies₀
-    unfolding planOf
+    unfolding planFrom
     bodies-planned = listed .gathered .bodies
 
     pub positions-planned : positions′ ≡ planOf flags pairs .positions
-    unfolding planOf
+    unfolding planFrom
     positions-planned = listed .positions ∙ ap (flatten (positions (length flags) cs promised)) (colors-length flags cs)

@@ -3,13 +3,13 @@ use frame::Frame;
 ghost use mathlib.Core.Path.{_≡_};
 ghost use Prim.Native.Nat.{_≤_};
 ghost use lib.ListN.{length};
-ghost use Rattle.lists.specs.Basics.{over};
+ghost use Rattle.lists.specs.Basics.{one, over};
 ghost use Rattle.groups.specs.Groups.{groupCount};
 ghost use Rattle.parts.specs.Parts.{partsAt, Bounded};
 ghost use Rattle.parts.specs.Steps.{Gapless};
 ghost use Rattle.gathering.specs.Gathers.{Gatherable};
-ghost use Rattle.plan_questions.specs.Plans.{groupPart};
-ghost use Rattle.constraint_coloring.specs.Calls.{freshPlan, refusalWith, Updated, Located};
+ghost use Rattle.plan_questions.specs.Plans.{tablesOf, groupPart};
+ghost use Rattle.constraint_coloring.specs.Calls.{updateNumber, updateChanged, planAfter, freshPlan, refusalWith, Updated, Located};
 ghost use Rattle.constraint_coloring.specs.Stages.{Scheduled, Rebuilt};
 
 // What a plan carries by value; the rest stands in the tables that its caller lends.
@@ -27,6 +27,37 @@ pub enum Update {
     Refused(u8),
 }
 
+// What an update answered: the refusal or 0, 1 if it changed the plan, and the plan after it.
+pub fn refusal_of(answer: Update) -> u8
+    ensures { λ r. ⌜ r ≡ updateNumber answer ⌝ }
+{
+    match answer {
+        Update::Changed(_) => 0,
+        Update::Unchanged => 0,
+        Update::Refused(n) => n,
+    }
+}
+
+pub fn is_changed(answer: Update) -> u8
+    ensures { λ r. ⌜ r ≡ one (updateChanged answer) ⌝ }
+{
+    match answer {
+        Update::Changed(_) => 1,
+        Update::Unchanged => 0,
+        Update::Refused(_) => 0,
+    }
+}
+
+pub fn plan_after(plan: ConstraintColoring, answer: Update) -> ConstraintColoring
+    ensures { λ r. ⌜ r ≡ planAfter plan answer ⌝ }
+{
+    match answer {
+        Update::Changed(changed) => changed,
+        Update::Unchanged => plan,
+        Update::Refused(_) => plan,
+    }
+}
+
 // The answer of a lookup of positions: a's, then b's; or the number of the first question that got a "no".
 pub enum Positions {
     At(u16, u16),
@@ -42,18 +73,6 @@ fn copy_flags(from: &[u8], to: &mut [u8])
     while body < from.len() {
         to[body] = from[body];
         body += 1;
-    }
-}
-
-// The same of endpoint pairs.
-fn copy_pairs(from: &[u16], to: &mut [u16])
-    requires { ⌜ length (now from) ≤ length (now to) ⌝ }
-    ensures { λ _. ⌜ now (to .exit) ≡ over (now (from .entry)) (now (to .entry)) ⌝ }
-{
-    let mut entry = 0;
-    while entry < from.len() {
-        to[entry] = from[entry];
-        entry += 1;
     }
 }
 
@@ -124,56 +143,26 @@ fn rebuild(
     color_bodies: &mut [u16],
     constraint_body_positions: &mut [u16],
 ) -> ConstraintColoring
-    requires { ⌜ refusalWith (record {
-      dynamic-bodies = now «dynamic_bodies»;
-      endpoints = now endpoints;
-      body-offsets = now «body_offsets»;
-      body-constraints = now «body_constraints»;
-      scratch-offsets = now «scratch_offsets»;
-      constraint-colors = now «constraint_colors»;
-      color-stamps = now «color_stamps»;
-      body-stamps = now «body_stamps»;
-      color-offsets = now «color_offsets»;
-      colored-constraints = now «colored_constraints»;
-      color-body-offsets = now «color_body_offsets»;
-      color-bodies = now «color_bodies»;
-      constraint-body-positions = now «constraint_body_positions»;
-    }) (now flags) (now pairs) ≡ 0 ⌝ }
-    ensures { λ r. ⌜ Rebuilt (now (flags .entry)) (now (pairs .entry)) (record {
-      dynamic-bodies = now («dynamic_bodies» .entry);
-      endpoints = now (endpoints .entry);
-      body-offsets = now («body_offsets» .entry);
-      body-constraints = now («body_constraints» .entry);
-      scratch-offsets = now («scratch_offsets» .entry);
-      constraint-colors = now («constraint_colors» .entry);
-      color-stamps = now («color_stamps» .entry);
-      body-stamps = now («body_stamps» .entry);
-      color-offsets = now («color_offsets» .entry);
-      colored-constraints = now («colored_constraints» .entry);
-      color-body-offsets = now («color_body_offsets» .entry);
-      color-bodies = now («color_bodies» .entry);
-      constraint-body-positions = now («constraint_body_positions» .entry);
-    }) (record {
-      dynamic-bodies = now («dynamic_bodies» .exit);
-      endpoints = now (endpoints .exit);
-      body-offsets = now («body_offsets» .exit);
-      body-constraints = now («body_constraints» .exit);
-      scratch-offsets = now («scratch_offsets» .exit);
-      constraint-colors = now («constraint_colors» .exit);
-      color-stamps = now («color_stamps» .exit);
-      body-stamps = now («body_stamps» .exit);
-      color-offsets = now («color_offsets» .exit);
-      colored-constraints = now («colored_constraints» .exit);
-      color-body-offsets = now («color_body_offsets» .exit);
-      color-bodies = now («color_bodies» .exit);
-      constraint-body-positions = now («constraint_body_positions» .exit);
-    }) r ⌝ }
+    requires { ⌜ refusalWith
+        (tablesOf (now «dynamic_bodies») (now endpoints) (now «body_offsets»)
+        (now «body_constraints») (now «scratch_offsets») (now «constraint_colors»)
+        (now «color_stamps») (now «body_stamps») (now «color_offsets»)
+        (now «colored_constraints») (now «color_body_offsets») (now «color_bodies») (now «constraint_body_positions»)) (now flags) (now pairs) ≡ 0 ⌝ }
+    ensures { λ r. ⌜ Rebuilt (now (flags .entry)) (now (pairs .entry))
+        (tablesOf (now («dynamic_bodies» .entry)) (now (endpoints .entry)) (now («body_offsets» .entry))
+        (now («body_constraints» .entry)) (now («scratch_offsets» .entry)) (now («constraint_colors» .entry))
+        (now («color_stamps» .entry)) (now («body_stamps» .entry)) (now («color_offsets» .entry))
+        (now («colored_constraints» .entry)) (now («color_body_offsets» .entry)) (now («color_bodies» .entry)) (now («constraint_body_positions» .entry)))
+        (tablesOf (now («dynamic_bodies» .exit)) (now (endpoints .exit)) (now («body_offsets» .exit))
+        (now («body_constraints» .exit)) (now («scratch_offsets» .exit)) (now («constraint_colors» .exit))
+        (now («color_stamps» .exit)) (now («body_stamps» .exit)) (now («color_offsets» .exit))
+        (now («colored_constraints» .exit)) (now («color_body_offsets» .exit)) (now («color_bodies» .exit)) (now («constraint_body_positions» .exit))) r ⌝ }
 {
     let body_count = flags.len();
     let constraint_count = pairs.len() / 2;
     copy_flags(flags, dynamic_bodies);
-    copy_pairs(pairs, endpoints);
-    let color_count = painting::color_constraints(
+    tables::copy(pairs, pairs.len(), endpoints);
+    let color_count = coloring::color_constraints(
         flags,
         pairs,
         &[],
@@ -222,8 +211,8 @@ impl ConstraintColoring {
     // Questions 3 to 7; then equal input is "unchanged" and writes nothing, and other input is remembered and its plan built.
     pub fn update(
         self,
-        dynamic_bodies_in: &[u8],
-        endpoints_in: &[u16],
+        flags: &[u8],
+        pairs: &[u16],
         dynamic_bodies: &mut [u8],
         endpoints: &mut [u16],
         body_offsets: &mut [u16],
@@ -238,39 +227,19 @@ impl ConstraintColoring {
         color_bodies: &mut [u16],
         constraint_body_positions: &mut [u16],
     ) -> Update
-        ensures { λ r. ⌜ Updated self (now («dynamic_bodies_in» .entry)) (now («endpoints_in» .entry)) (record {
-          dynamic-bodies = now («dynamic_bodies» .entry);
-          endpoints = now (endpoints .entry);
-          body-offsets = now («body_offsets» .entry);
-          body-constraints = now («body_constraints» .entry);
-          scratch-offsets = now («scratch_offsets» .entry);
-          constraint-colors = now («constraint_colors» .entry);
-          color-stamps = now («color_stamps» .entry);
-          body-stamps = now («body_stamps» .entry);
-          color-offsets = now («color_offsets» .entry);
-          colored-constraints = now («colored_constraints» .entry);
-          color-body-offsets = now («color_body_offsets» .entry);
-          color-bodies = now («color_bodies» .entry);
-          constraint-body-positions = now («constraint_body_positions» .entry);
-        }) (record {
-          dynamic-bodies = now («dynamic_bodies» .exit);
-          endpoints = now (endpoints .exit);
-          body-offsets = now («body_offsets» .exit);
-          body-constraints = now («body_constraints» .exit);
-          scratch-offsets = now («scratch_offsets» .exit);
-          constraint-colors = now («constraint_colors» .exit);
-          color-stamps = now («color_stamps» .exit);
-          body-stamps = now («body_stamps» .exit);
-          color-offsets = now («color_offsets» .exit);
-          colored-constraints = now («colored_constraints» .exit);
-          color-body-offsets = now («color_body_offsets» .exit);
-          color-bodies = now («color_bodies» .exit);
-          constraint-body-positions = now («constraint_body_positions» .exit);
-        }) r ⌝ }
+        ensures { λ r. ⌜ Updated self (now (flags .entry)) (now (pairs .entry))
+            (tablesOf (now («dynamic_bodies» .entry)) (now (endpoints .entry)) (now («body_offsets» .entry))
+            (now («body_constraints» .entry)) (now («scratch_offsets» .entry)) (now («constraint_colors» .entry))
+            (now («color_stamps» .entry)) (now («body_stamps» .entry)) (now («color_offsets» .entry))
+            (now («colored_constraints» .entry)) (now («color_body_offsets» .entry)) (now («color_bodies» .entry)) (now («constraint_body_positions» .entry)))
+            (tablesOf (now («dynamic_bodies» .exit)) (now (endpoints .exit)) (now («body_offsets» .exit))
+            (now («body_constraints» .exit)) (now («scratch_offsets» .exit)) (now («constraint_colors» .exit))
+            (now («color_stamps» .exit)) (now («body_stamps» .exit)) (now («color_offsets» .exit))
+            (now («colored_constraints» .exit)) (now («color_body_offsets» .exit)) (now («color_bodies» .exit)) (now («constraint_body_positions» .exit))) r ⌝ }
     {
         let room = plan_questions::roomy(
-            dynamic_bodies_in.len(),
-            endpoints_in.len() / 2,
+            flags.len(),
+            pairs.len() / 2,
             dynamic_bodies.len(),
             endpoints.len(),
             body_offsets.len(),
@@ -285,23 +254,23 @@ impl ConstraintColoring {
             color_bodies.len(),
             constraint_body_positions.len(),
         );
-        let refusal = plan_questions::update_refusal(dynamic_bodies_in, endpoints_in, room);
+        let refusal = plan_questions::update_refusal(flags, pairs, room);
         if refusal != 0 {
             return Update::Refused(refusal);
         }
         if plan_questions::remembers(
             self.body_count,
             self.constraint_count,
-            dynamic_bodies_in,
-            endpoints_in,
+            flags,
+            pairs,
             dynamic_bodies,
             endpoints,
         ) {
             return Update::Unchanged;
         }
         Update::Changed(rebuild(
-            dynamic_bodies_in,
-            endpoints_in,
+            flags,
+            pairs,
             dynamic_bodies,
             endpoints,
             body_offsets,

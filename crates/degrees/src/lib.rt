@@ -1,5 +1,5 @@
 // D, internal to the frame run: the largest number of live constraints on one dynamic body.
-ghost use Prim.Native.Nat.{_≤_, max};
+ghost use Prim.Native.Nat.{_≤_};
 ghost use mathlib.Core.Path.{_≡_};
 ghost use mathlib.Core.Bool.{true};
 ghost use mathlib.Core.List.{[], _∷_};
@@ -26,6 +26,7 @@ fn count_all(pairs: &[u16], enabled: &[u8], counts: &mut [u16])
 {
     let mut k: usize = 0;
     let mut i: usize = 0;
+    // Each body's count has grown by the constraints on it among the first i, up to entry k.
     while k + 1 < pairs.len() {
         let live = frame::live_at(enabled, i);
         count_one(counts, live, pairs[k], pairs[k + 1]);
@@ -34,17 +35,11 @@ fn count_all(pairs: &[u16], enabled: &[u8], counts: &mut [u16])
     }
 }
 
-// What a body counts for, and the larger of two numbers.
+// What a body counts for.
 fn degree_of(body_type: u8, count: u16) -> u16
     ensures { λ r. ⌜ r ≡ counted «body_type» count ⌝ }
 {
     if body_type == 2 { count } else { 0 }
-}
-
-fn larger(a: u16, b: u16) -> u16
-    ensures { λ r. ⌜ r ≡ max a b ⌝ }
-{
-    if a < b { b } else { a }
 }
 
 fn largest(types: &[u8], counts: &[u16]) -> usize
@@ -53,8 +48,9 @@ fn largest(types: &[u8], counts: &[u16]) -> usize
 {
     let mut most = 0;
     let mut body = 0;
+    // `most` is the largest of the bodies passed.
     while body < types.len() {
-        most = larger(most, degree_of(types[body], counts[body]));
+        most = tables::larger(most, degree_of(types[body], counts[body]));
         body += 1;
     }
     most as usize

@@ -1,4 +1,4 @@
--- What the answer of questions 1 to 4 says of a file's sizes, and the three ways in which reading ends.
+-- What the answer of questions 1 to 5 says of a file, the three ways in which reading ends, and how many constraints a file has.
 use Prim.Native.Nat.{ℕ, zero, suc, _+_, _-_, _*_, _≤_}
 use mathlib.Core.Path.{_≡_, refl, sym, ap, _∙_}
 use mathlib.Core.Bool.{Bool, true, false, _&&_, cond}

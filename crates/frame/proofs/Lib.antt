@@ -3,3 +3,5 @@ pub mod Sizes
 pub mod Pairs
 pub mod Decoding
 pub mod Files
+pub mod Whole
+pub mod Places

@@ -1,6 +1,6 @@
 -- The file form of a frame: byte 1, then big-endian the length of the rest, B, M, J, types, pairs, joints.
 use Prim.Native.Nat.{ℕ, zero, suc, _+_, _-_, _*_}
-use mathlib.Core.Bool.{_&&_}
+use mathlib.Core.Bool.{_&&_, cond}
 use mathlib.Core.List.{List, [], _∷_, _++_}
 use lib.Dec.{leb, ltb, eqb}
 use lib.ListN.{length, getD, take, drop}
@@ -33,6 +33,10 @@ pairsAt bs = 11 + countB bs
 
 abbrev pub jointsAt : List ℕ → ℕ
 jointsAt bs = pairsAt bs + 4 * countM bs
+
+-- where the file bs has the endpoints of constraint n: manifolds first, then joints
+abbrev pub endsAt : List ℕ → ℕ → ℕ
+endsAt bs n = cond (ltb n (countM bs)) (pairsAt bs + 4 * n) (jointsAt bs + 5 * (n - countM bs))
 
 -- n pairs a, b of 16 bits, the first at place s and each `step` bytes after the one before
 unfoldable pub pairsFrom : List ℕ → ℕ → ℕ → ℕ → List ℕ

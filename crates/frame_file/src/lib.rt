@@ -1,6 +1,9 @@
 // Writing a frame in the file form, part by part where the file is to stand: the header, a pair of endpoints, and an enabled byte.
 // The caller has room. Internal: what `generate` writes with. The whole file is `fileOf` in specs/Written; proofs/Whole says that
 // the parts, each behind the one before, are the file, and proofs/Decoded that reading it gives the frame back.
+use frame::HEADER;
+use frame::JOINT;
+use frame::PAIR;
 ghost use mathlib.Core.Path.{_≡_};
 ghost use mathlib.Core.Bool.{true};
 ghost use mathlib.Core.List.{_∷_, []};
@@ -9,13 +12,6 @@ ghost use lib.ListN.{length};
 ghost use Rattle.lists.specs.Basics.{put};
 ghost use Rattle.frame.specs.Questions.{fewEach};
 ghost use Rattle.frame_file.specs.Written.{halfBytes, wordBytes, fileLength, headerBytes, pairBytes};
-
-// How many bytes stand before the types, and how many a pair of endpoints and a joint have.
-pub const HEADER: usize = 11;
-
-pub const PAIR: usize = 4;
-
-pub const JOINT: usize = 5;
 
 // A 16-bit number at a place, the upper byte first.
 fn put_half(out: &mut [u8], at: usize, n: usize)

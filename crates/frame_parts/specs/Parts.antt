@@ -1,37 +1,12 @@
--- What decoding a file and counting D need and leave.
-use Prim.Native.Nat.{ℕ, _+_, _*_, _≤_}
+-- What counting D needs.
+use Prim.Native.Nat.{ℕ, _*_, _≤_}
 use mathlib.Core.Path.{_≡_}
 use mathlib.Core.Bool.{true}
-use mathlib.Core.List.{List, _++_, map}
+use mathlib.Core.List.{List}
 use lib.ListN.{length, take, drop}
-use Rattle.frame.specs.Frames.{flagOf, constraints, frameOf, allSound}
-use Rattle.frame.specs.Questions.{asked}
-use Rattle.frame.specs.Files.{countB, countM, countJ, typesIn, manifoldsIn, jointsIn, enabledIn, fileQuestions}
+use Rattle.frame.specs.Frames.{constraints, frameOf, allSound}
 
--- a file that passed questions 1 to 5, and tables of its frame's sizes
-pub record Decodable (bs : List ℕ) (m : ℕ) (ts fs ps es : List ℕ) : Type 0 where
-  pub file : asked (fileQuestions bs) ≡ 0
-  pub manifolds : m ≡ countM bs
-  pub types : length ts ≡ countB bs
-  pub flags : length fs ≡ countB bs
-  pub pairs : length ps ≡ 2 * (countM bs + countJ bs)
-  pub enabled : length es ≡ countJ bs
-
--- the two runs of endpoint pairs in a file, for a table of both
-pub record Paired (bs : List ℕ) (b m : ℕ) (ps : List ℕ) : Type 0 where
-  pub file : asked (fileQuestions bs) ≡ 0
-  pub bodies : b ≡ countB bs
-  pub manifolds : m ≡ countM bs
-  pub pairs : length ps ≡ 2 * (countM bs + countJ bs)
-
--- types, dynamic flags, endpoint pairs (manifolds, then joints), enabled bytes
-pub record Decoded (bs ts fs ps es : List ℕ) : Type 0 where
-  pub types : ts ≡ typesIn bs
-  pub flags : fs ≡ map flagOf (typesIn bs)
-  pub pairs : ps ≡ manifoldsIn bs ++ jointsIn bs
-  pub enabled : es ≡ enabledIn bs
-
--- what a count of D needs: unless the frame is refused, it passed question 7
+-- unless the frame is refused, it passed question 7
 pub record Countable (k : ℕ) (ts ps : List ℕ) (m : ℕ) (es cs : List ℕ) : Type 0 where
   pub pairs : 2 * m ≤ length ps
   pub counts : length ts ≤ length cs

@@ -1,5 +1,5 @@
-// What fills the tables of a frame, internal to the run: the file is decoded, its islands built, D counted, and the constraints' numbers
-// sorted by island, on tables that hold the manifolds' part before the joints'.
+// What fills the tables of a decoded frame, internal to the run: its islands are built, D counted, and the constraints' numbers sorted by
+// island, on tables that hold the manifolds' part before the joints'.
 use island::Answer;
 ghost use Prim.Native.Nat.{_+_, _*_, _≤_};
 ghost use mathlib.Core.Path.{_≡_};
@@ -8,39 +8,10 @@ ghost use mathlib.Core.List.{_++_};
 ghost use lib.Dec.{eqb};
 ghost use lib.ListN.{length, take, drop};
 ghost use Rattle.frame.specs.Frames.{frameOf, degreeMax};
-ghost use Rattle.frame.specs.Files.{manifoldsIn, jointsIn};
 ghost use Rattle.island.specs.Calls.{islandRefusal, Built};
 ghost use Rattle.island.specs.Answers.{answerNumber, answerIslands};
 ghost use Rattle.island_numbers.specs.Numbers.{byIsland, Labels, Sortable};
-ghost use Rattle.frame_parts.specs.Parts.{Paired, Decodable, Decoded, Countable};
-
-// The endpoint pairs: manifolds, then joints.
-fn decode_pairs(frame: &[u8], bodies: usize, manifolds: usize, pairs: &mut [u16])
-    requires { ⌜ Paired (now frame) bodies manifolds (now pairs) ⌝ }
-    ensures { λ _. ⌜ now (pairs .exit) ≡ manifoldsIn (now (frame .entry)) ++ jointsIn (now (frame .entry)) ⌝ }
-{
-    let n = 2 * manifolds;
-    frame::decode_pairs(frame, 11 + bodies, 4, &mut pairs[..n]);
-    frame::decode_pairs(frame, 11 + bodies + 4 * manifolds, 5, &mut pairs[n..]);
-}
-
-// The whole file.
-pub fn decode(
-    frame: &[u8],
-    manifolds: usize,
-    types: &mut [u8],
-    flags: &mut [u8],
-    pairs: &mut [u16],
-    enabled: &mut [u8],
-)
-    requires { ⌜ Decodable (now frame) manifolds (now types) (now flags) (now pairs) (now enabled) ⌝ }
-    ensures { λ _. ⌜ Decoded (now (frame .entry)) (now (types .exit)) (now (flags .exit)) (now (pairs .exit)) (now (enabled .exit)) ⌝ }
-{
-    frame::decode_types(frame, types);
-    frame::flag_bodies(types, flags);
-    decode_pairs(frame, types.len(), manifolds, pairs);
-    frame::decode_enabled(frame, 11 + types.len() + 4 * manifolds, enabled);
-}
+ghost use Rattle.frame_parts.specs.Parts.{Countable};
 
 // The islands.
 pub fn build(

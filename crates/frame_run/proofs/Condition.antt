@@ -8,23 +8,23 @@ use Rattle.frame.specs.Questions.{question, asked}
 use Rattle.frame.specs.Files.{decode, fileQuestions, frameRefusal}
 use Rattle.frame.proofs.Questions.{passed, asked-append, zero-cond}
 use Rattle.schedules.proofs.Condition3.{condition3}
-use Rattle.frame_tables.specs.Filled.{soundness}
-use Rattle.frame_run.specs.Calls.{Lent, roomIn, refusalIn}
+use Rattle.frame_tables.specs.Filled.{soundRefusal}
+use Rattle.frame_run.specs.Calls.{Lent, roomyIn, refusalIn}
 use Rattle.frame_run.specs.Condition.{Claim}
 use Rattle.frame_run.proofs.Runs.{all-asked}
 
 -- a frame that the run accepts is accepted, and the tables have room
 module _ (bs : List ℕ) (l : Lent) (e : refusalIn bs l ≡ 0) where
-  parts : (asked (fileQuestions bs) ≡ 0) × (cond (roomIn bs l) (soundness bs) 6 ≡ 0)
-  parts = zero-cond (asked (fileQuestions bs)) (cond (roomIn bs l) (soundness bs) 6) (sym (all-asked bs (roomIn bs l)) ∙ e)
+  parts : (asked (fileQuestions bs) ≡ 0) × (cond (roomyIn bs l) (soundRefusal bs) 6 ≡ 0)
+  parts = zero-cond (asked (fileQuestions bs)) (cond (roomyIn bs l) (soundRefusal bs) 6) (sym (all-asked bs (roomyIn bs l)) ∙ e)
 
-  pub room : roomIn bs l ≡ true
-  room = passed (roomIn bs l) (soundness bs) 5 (parts .1) .0
+  pub room : roomyIn bs l ≡ true
+  room = passed (roomyIn bs l) (soundRefusal bs) 5 (parts .1) .0
 
   pub accepted : frameRefusal bs ≡ 0
-  unfolding frameRefusal soundness
+  unfolding frameRefusal soundRefusal
   accepted =
-      asked-append (fileQuestions bs) (question 7 (allSound (decode bs)) ∷ []) refl ∙ rw (parts .0) (passed (roomIn bs l) (soundness bs) 5 (parts .1) .1)
+      asked-append (fileQuestions bs) (question 7 (allSound (decode bs)) ∷ []) refl ∙ rw (parts .0) (passed (roomyIn bs l) (soundRefusal bs) 5 (parts .1) .1)
 
 pub conditioned : Claim
 conditioned bs l m r p o e h s =

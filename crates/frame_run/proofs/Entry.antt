@@ -20,11 +20,11 @@ use Rattle.plan_questions.specs.Plans as plans
 use Rattle.plan_questions.proofs.Rooms.{Fitted, fitted, fitted-all}
 use Rattle.schedules.specs.Runs.{refused, runOf}
 use Rattle.island_run.proofs.Rooms.{SameLengths}
-use Rattle.frame_tables.specs.Filled.{soundness}
+use Rattle.frame_tables.specs.Filled.{soundRefusal}
 use Rattle.run_answer.specs.declared.Answer.{Answer}
 use Rattle.run_answer.specs.declared.Answer.the-variants as answer
-use Rattle.frame_run.specs.Calls.{Lent, roomFor, roomIn, refusalIn, Worked, Ran}
-use Rattle.frame_run.specs.Sized.{Spacious, RanSized}
+use Rattle.frame_run.specs.Calls.{Lent, roomyFor, roomyIn, refusalIn, Worked, Ran}
+use Rattle.frame_run.specs.Sized.{RoomySized, RanSized}
 use Rattle.frame_run.proofs.Runs.{all-asked}
 use Rattle.frame.proofs.Files.{file-sized}
 use Rattle.frame.proofs.Questions.{passed, zero-cond}
@@ -56,7 +56,7 @@ module _ (bs : List ℕ) (l : Lent) where
   kept x = record { kept = λ a b. refl; long = refl }
 
   module _ (n : ℕ) (e : k ≡ n) (nz : n ≡ 0 → ⊥) (ns : n ≡ 7 → ⊥) where
-    none-run : runOf bs (roomIn bs l) ≡ refused n
+    none-run : runOf bs (roomyIn bs l) ≡ refused n
     unfolding runOf
     none-run = rw (e, ne-eqb n 0 nz)
 
@@ -107,13 +107,13 @@ module _ (bs : List ℕ) (l : Lent) where
     }
 
   -- the code's refusal: that of the file, or 6
-  module _ (read n : ℕ) (room : Bool) (file : read ≡ asked (fileQuestions bs)) (roomed : asked (fileQuestions bs) ≡ 0 → room ≡ roomIn bs l)
+  module _ (read n : ℕ) (room : Bool) (file : read ≡ asked (fileQuestions bs)) (roomed : asked (fileQuestions bs) ≡ 0 → room ≡ roomyIn bs l)
       (first : n ≡ cond (eqb read 0) (cond room 0 6) read) where
     -- where it is 0, questions 1 to 6 are passed
     pub file-passed : n ≡ 0 → asked (fileQuestions bs) ≡ 0
     file-passed z = sym file ∙ zero-cond read (cond room 0 6) (sym first ∙ z) .0
 
-    pub room-passed : n ≡ 0 → roomIn bs l ≡ true
+    pub room-passed : n ≡ 0 → roomyIn bs l ≡ true
     room-passed z = sym (roomed (file-passed z)) ∙ passed room 0 5 (zero-cond read (cond room 0 6) (sym first ∙ z) .1) .0
 
     -- otherwise it is the run's
@@ -130,11 +130,11 @@ module _ (bs : List ℕ) (l : Lent) where
         (λ t.
         let q : asked (fileQuestions bs) ≡ 0 = sym file ∙ eqb-true read 0 t in
         let six = roomless nz t in
-        let no : roomIn bs l ≡ false = by-cases (roomIn bs l) (λ s. absurd (nz (first ∙ rw (t, roomed q ∙ s)))) (λ s. s) in
-        all-asked bs (roomIn bs l) ∙ rw (q, no) (sym six))
+        let no : roomyIn bs l ≡ false = by-cases (roomyIn bs l) (λ s. absurd (nz (first ∙ rw (t, roomed q ∙ s)))) (λ s. s) in
+        all-asked bs (roomyIn bs l) ∙ rw (q, no) (sym six))
         (λ t.
         let y = unreadable t in
-        all-asked bs (roomIn bs l) ∙ rw (ne-eqb (asked (fileQuestions bs)) 0 (λ z. nz (y ∙ z))) (sym y))
+        all-asked bs (roomyIn bs l) ∙ rw (ne-eqb (asked (fileQuestions bs)) 0 (λ z. nz (y ∙ z))) (sym y))
 
     not-seven : (n ≡ 0 → ⊥) → n ≡ 7 → ⊥
     not-seven nz s = by-cases (eqb read 0)
@@ -146,9 +146,9 @@ module _ (bs : List ℕ) (l : Lent) where
 
   -- ---- questions 1 to 6 are passed
 
-  module _ (q : asked (fileQuestions bs) ≡ 0) (r : roomIn bs l ≡ true) where
-    seven-left : k ≡ soundness bs
-    seven-left = all-asked bs (roomIn bs l) ∙ rw (q, r)
+  module _ (q : asked (fileQuestions bs) ≡ 0) (r : roomyIn bs l ≡ true) where
+    seven-left : k ≡ soundRefusal bs
+    seven-left = all-asked bs (roomyIn bs l) ∙ rw (q, r)
 
     -- the lengths that question 6 wants, but for the plan's tables
     abbrev pub wanted : List (ℕ × ℕ)
@@ -158,14 +158,14 @@ module _ (bs : List ℕ) (l : Lent) where
         ∷ (2 * (countM bs + countJ bs), length (l .pairs)) ∷ (2 * (countM bs + countJ bs), length (l .island-pairs)) ∷ (countJ bs, length (l .enabled)) ∷ (countM bs + countJ bs, length (l .numbers)) ∷ []
 
     pub wanted-fit : Fitted wanted
-    unfolding roomIn roomFor
+    unfolding roomyIn roomyFor
     wanted-fit = fitted-all true wanted (and-left (fitted true wanted) (plans.roomy (countB bs) (countM bs + countJ bs) (l .plan)) r) .1
 
     plan-fits : plans.roomy (countB bs) (countM bs + countJ bs) (l .plan) ≡ true
-    unfolding roomIn roomFor
+    unfolding roomyIn roomyFor
     plan-fits = and-right (fitted true wanted) (plans.roomy (countB bs) (countM bs + countJ bs) (l .plan)) r
 
-    pub spacious : (ns : List ℕ) → length ns ≡ countM bs + countJ bs → Spacious bs (l .parents) (l .body-islands) (l .manifold-islands) (l .joint-islands) (l .turns) (l .island-pairs) ns (l .plan)
+    pub spacious : (ns : List ℕ) → length ns ≡ countM bs + countJ bs → RoomySized bs (l .parents) (l .body-islands) (l .manifold-islands) (l .joint-islands) (l .turns) (l .island-pairs) ns (l .plan)
     spacious ns e =
         let w = wanted-fit in
         record {
@@ -181,7 +181,7 @@ module _ (bs : List ℕ) (l : Lent) where
 
     -- the workspace is free but for its lengths
     seven-or-none : (k ≡ 0 → ⊥) → (k ≡ 7 → ⊥) → ⊥
-    unfolding soundness
+    unfolding soundRefusal
     seven-or-none a b = by-cases (allSound (decode bs))
         (λ t. a (seven-left ∙ rw t))
         (λ t. b (seven-left ∙ rw t))
@@ -238,8 +238,8 @@ module _ (bs : List ℕ) (reading : Reading) (h : Read bs reading) where
         → room ≡ (leb b (length (l .parents)) && leb b (length (l .body-islands)) && leb m (length (l .manifold-islands)) && leb j (length (l .joint-islands))
         && leb (3 * (m + j)) (length (l .turns)) && leb b (length (l .types)) && leb b (length (l .flags))
         && leb (2 * (m + j)) (length (l .pairs)) && leb (2 * (m + j)) (length (l .island-pairs)) && leb j (length (l .enabled)) && leb (m + j) (length (l .numbers)) && plan)
-        → room ≡ roomIn bs l
-    unfolding roomIn roomFor
+        → room ≡ roomyIn bs l
+    unfolding roomyIn roomyFor
     room-read l b m j plan room eb em ej ep er =
         let s = sizes-read in
         er ∙ rw (ep, eb, em, ej, s)

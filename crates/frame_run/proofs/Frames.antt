@@ -15,14 +15,14 @@ use Rattle.frame.specs.Frames.{Constraint, Frame, constraints, constraintAt, co
 use Rattle.frame.specs.Questions.{asked}
 use Rattle.frame.specs.Files.{countM, countJ, pairsAt, jointsAt, typesIn, manifoldsIn, jointsIn, enabledIn, decode, fileQuestions}
 use Rattle.connected_sets.specs.Islands.{islandCount, label, ofIsland}
-use Rattle.groups.specs.Groups.{pairsOf, members}
+use Rattle.groups.specs.Groups.{pairAt, pairsOf, members}
 use Rattle.groups.proofs.Pairs.{pair-at, pairs-append}
 use Rattle.plan_questions.specs.Plans.{updateRefusal}
 use Rattle.schedules.specs.Runs.{Call, flags, pairsFor, planAt, groupCalls, schedule, rising, turnOf, turnsOf, runCalls}
 use Rattle.schedules.proofs.Accepted.{Accepted}
-use Rattle.schedules.proofs.Plans.{accepts}
+use Rattle.schedules.proofs.Plans.{pairs-joined, accepts}
 use Rattle.schedules.proofs.Condition3.{run-turns, run-takes}
-use Rattle.island_numbers.specs.Numbers.{pairAt, pairsAmong}
+use Rattle.island_numbers.specs.Numbers.{pairsAmong}
 use Rattle.turn_table.specs.Turns.{none, Room}
 use Rattle.group_run.specs.Appends.{callsIn, planCalls, addedBy}
 use Rattle.one_island.specs.Island.{islandCalls}
@@ -81,8 +81,8 @@ module _ (bs : List ℕ) where
         ∙ List·getD-map (λ (c : Constraint). c .ends) (constraints f) n nothing
 
     pairs-are : (i : ℕ) → pairsAmong pairs (ofIsland f i) ≡ pairsFor f i
-    unfolding pairsAmong pairsFor ofIsland
-    pairs-are i = joinMap-ext-in _ _ (ofIsland f i) (λ n m. ends-at n (omega (arith, range-high n 0 (length (constraints f)) (filter-mem (λ k. eqb i (label f (constraintAt f k))) n (numbers f) m .0))))
+    unfolding pairsAmong ofIsland
+    pairs-are i = rw (pairs-joined f i) (joinMap-ext-in _ _ (ofIsland f i) (λ n m. ends-at n (omega (arith, range-high n 0 (length (constraints f)) (filter-mem (λ k. eqb i (label f (constraintAt f k))) n (numbers f) m .0)))))
 
     -- ---- the calls
 

@@ -10,13 +10,13 @@ use lib.ListN.{length, take, length-map}
 use Rattle.lists.specs.Basics.{joinMap}
 use Rattle.lists.proofs.Laws.{by-cases, and-left}
 use Rattle.lists.proofs.Puts.{put-first}
-use Rattle.island.proofs.Entry.{built-by}
 use lib.Seq.{length-paste-head}
 use Rattle.frame.specs.Frames.{Frame, constraints, allSound, flagOf}
 use Rattle.frame.specs.Questions.{question, asked, typesKnown, bits}
 use Rattle.frame.specs.Files.{countB, countM, countJ, jointsAt, typesIn, enabledIn, decode, fileQuestions}
 use Rattle.frame.proofs.Questions.{asked-append}
 use Rattle.connected_sets.specs.Islands.{islandCount, label}
+use Rattle.island.proofs.Built.{built-as}
 use Rattle.groups.specs.Groups.{members}
 use Rattle.plan_questions.specs.Plans.{Tables, roomy, updateRefusal}
 use Rattle.plan_questions.proofs.Rooms.{fitted-roomy}
@@ -29,17 +29,17 @@ use Rattle.group_run.specs.Appends.{addedBy}
 use Rattle.island_run.specs.Islands.{callsOf, Prepared}
 use Rattle.island_run.proofs.Rooms.{SameLengths, room-kept}
 use Rattle.frame_tables.specs.declared.Filling.{Filling}
-use Rattle.frame_tables.specs.Filled.{labelsIn, soundness, Fills, Roomy}
+use Rattle.frame_tables.specs.Filled.{labelsIn, soundRefusal, Fills, Roomy}
 use Rattle.frame_tables.proofs.Tables.{file-accepted, types-long, labels-are, labels-sortable, enabled-long}
 use Rattle.run_answer.specs.declared.Report.{Report}
 use Rattle.run_answer.specs.declared.Answer.{Answer}
-use Rattle.run_answer.specs.Answers.{runReport, Told}
-use Rattle.frame_run.specs.Sized.{Spacious, RanSized}
+use Rattle.run_answer.specs.Answers.{runReport, AnswerOf}
+use Rattle.frame_run.specs.Sized.{RoomySized, RanSized}
 use Rattle.frame_run.proofs.Frames.{turns-long, pairs-twice, calls-are, updates-accepted, run-room}
 use Rattle.frame.proofs.Files.{file-sized, file-known}
 
 -- the room that filling the tables needs
-pub roomy-of : (bs pa bi mi ji ts ip ns : List ℕ) (t : Tables) → Spacious bs pa bi mi ji ts ip ns t → Roomy bs pa bi mi ji ns (t .constraint-colors) (t .scratch-offsets) (t .color-offsets) (t .body-stamps)
+pub roomy-of : (bs pa bi mi ji ts ip ns : List ℕ) (t : Tables) → RoomySized bs pa bi mi ji ts ip ns t → Roomy bs pa bi mi ji ns (t .constraint-colors) (t .scratch-offsets) (t .color-offsets) (t .body-stamps)
 roomy-of bs pa bi mi ji ts ip ns t h =
     let w = fitted-roomy (countB bs) (countM bs + countJ bs) t (h .tables) in
     record {
@@ -55,8 +55,8 @@ roomy-of bs pa bi mi ji ts ip ns t h =
     }
 
 -- questions 6 and 7 come after those of the file
-pub all-asked : (bs : List ℕ) (room : Bool) → runRefusal bs room ≡ cond (eqb (asked (fileQuestions bs)) 0) (cond room (soundness bs) 6) (asked (fileQuestions bs))
-unfolding runRefusal soundness
+pub all-asked : (bs : List ℕ) (room : Bool) → runRefusal bs room ≡ cond (eqb (asked (fileQuestions bs)) 0) (cond room (soundRefusal bs) 6) (asked (fileQuestions bs))
+unfolding runRefusal soundRefusal
 all-asked bs room = asked-append (fileQuestions bs) (question 6 room ∷ question 7 (allSound (decode bs)) ∷ []) refl
 
 module _ (bs : List ℕ) (e : asked (fileQuestions bs) ≡ 0) where
@@ -64,7 +64,7 @@ module _ (bs : List ℕ) (e : asked (fileQuestions bs) ≡ 0) where
   f = decode bs
 
   -- where questions 1 to 6 are passed, 7 is left
-  run-refusal : runRefusal bs true ≡ soundness bs
+  run-refusal : runRefusal bs true ≡ soundRefusal bs
   run-refusal = all-asked bs true ∙ rw e
 
   module _ (ts fs ps es pa bi mi ji pa′ bi′ mi′ ji′ ns : List ℕ) (r : Filling) (h : Fills bs ts fs ps es pa bi mi ji pa′ bi′ mi′ ji′ ns r) where
@@ -75,11 +75,11 @@ module _ (bs : List ℕ) (e : asked (fileQuestions bs) ≡ 0) where
     sound-labels t = labels-are bs e pa bi mi ji pa′ bi′ mi′ ji′ (r .refusal) (r .islands) (h .islands) ∙ rw t
 
     sound-islands : allSound f ≡ true → r .islands ≡ islandCount f
-    unfolding soundness
+    unfolding soundRefusal
     sound-islands t = rw t at (h .islands .count)
 
     no-islands : allSound f ≡ false → r .islands ≡ 0
-    unfolding soundness
+    unfolding soundRefusal
     no-islands t = rw t at (h .islands .count)
 
     calls-of : callsOf ts fs ps labels (r .islands) ≡ cond (allSound f) (runCalls f) []
@@ -143,15 +143,15 @@ module _ (bs : List ℕ) (e : asked (fileQuestions bs) ≡ 0) where
     -- ---- the answer
 
     module _ (m : ℕ) (em : m ≡ countM bs) (tt tt′ : List ℕ) (tally : Tally) (answer : Answer)
-        (added : Appended (addedBy (callsOf ts fs ps (take m mi′ ++ take (length es) ji′) (r .islands))) tt none tt′ tally) (told : Told r tally answer) where
+        (added : Appended (addedBy (callsOf ts fs ps (take m mi′ ++ take (length es) ji′) (r .islands))) tt none tt′ tally) (told : AnswerOf r tally answer) where
       done : Appended (addedBy (cond (allSound f) (runCalls f) [])) tt none tt′ tally
       done = rw (fronts m em, calls-of) at added
 
-      refusal-is : r .refusal ≡ soundness bs
+      refusal-is : r .refusal ≡ soundRefusal bs
       refusal-is = h .islands .refusal
 
       sound-ran : allSound f ≡ true → RanSized bs pa bi mi ji tt pa′ bi′ mi′ ji′ tt′ answer
-      unfolding soundness runOf
+      unfolding soundRefusal runOf
       sound-ran t =
           let d : Appended (addedBy (runCalls f)) tt none tt′ tally = rw t at done in
           let z : r .refusal ≡ 0 = rw t at refusal-is in
@@ -164,11 +164,11 @@ module _ (bs : List ℕ) (e : asked (fileQuestions bs) ≡ 0) where
             refused = told .refused ∙ rw refusal-is;
             report = rep ∙ rw (q, p, k, sound-islands t, rw t at (h .degree));
             turns = d .table ∙ put-first (joinMap turnOf (turnsOf (runCalls f))) tt ∙ rw q;
-            islands = built-by (h .islands) (told .refusal) (ap (λ (x : Report). x .islands) rep);
+            islands = built-as (sym (told .refusal)) (sym (ap (λ (x : Report). x .islands) rep)) (h .islands);
           }
 
       refused-ran : allSound f ≡ false → RanSized bs pa bi mi ji tt pa′ bi′ mi′ ji′ tt′ answer
-      unfolding soundness runOf turnsOf
+      unfolding soundRefusal runOf turnsOf
       refused-ran t =
           let d : Appended (addedBy []) tt none tt′ tally = rw t at done in
           let z : r .refusal ≡ 7 = rw t at refusal-is in
@@ -179,7 +179,7 @@ module _ (bs : List ℕ) (e : asked (fileQuestions bs) ≡ 0) where
             refused = told .refused ∙ rw refusal-is;
             report = rep ∙ rw q;
             turns = d .table ∙ put-first [] tt ∙ rw q;
-            islands = built-by (h .islands) (told .refusal) (ap (λ (x : Report). x .islands) rep ∙ sym (no-islands t));
+            islands = built-as (sym (told .refusal)) (no-islands t ∙ sym (ap (λ (x : Report). x .islands) rep)) (h .islands);
           }
 
       pub ran : RanSized bs pa bi mi ji tt pa′ bi′ mi′ ji′ tt′ answer

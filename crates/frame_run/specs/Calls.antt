@@ -11,7 +11,7 @@ use Rattle.island.specs.Calls.{Built}
 use Rattle.plan_questions.specs.Plans as plans
 use Rattle.schedules.specs.Runs.{runRefusal, runOf}
 use Rattle.run_answer.specs.declared.Answer.{Answer}
-use Rattle.run_answer.specs.Answers.{runNumber, runRefused, runReport}
+use Rattle.run_answer.specs.Answers.{runNumber, runRefused, runReport, carried}
 
 -- ---- the lent tables
 
@@ -31,16 +31,33 @@ pub record Lent : Type 0 where
   pub numbers : List ℕ
   pub plan : plans.Tables
 
+-- these tables, in the order in which a run is lent them
+abbrev pub lentOf : List ℕ → List ℕ → List ℕ → List ℕ → List ℕ → List ℕ → List ℕ → List ℕ → List ℕ → List ℕ → List ℕ → plans.Tables → Lent
+lentOf parents body-islands manifold-islands joint-islands turns types flags pairs island-pairs enabled numbers plan = record {
+  parents = parents;
+  body-islands = body-islands;
+  manifold-islands = manifold-islands;
+  joint-islands = joint-islands;
+  turns = turns;
+  types = types;
+  flags = flags;
+  pairs = pairs;
+  island-pairs = island-pairs;
+  enabled = enabled;
+  numbers = numbers;
+  plan = plan;
+}
+
 -- question 6, for a frame of b bodies, m manifolds and j joints
-unfoldable pub roomFor : ℕ → ℕ → ℕ → Lent → Bool
-roomFor b m j l =
+unfoldable pub roomyFor : ℕ → ℕ → ℕ → Lent → Bool
+roomyFor b m j l =
     leb b (length (l .parents)) && leb b (length (l .body-islands)) && leb m (length (l .manifold-islands)) && leb j (length (l .joint-islands))
     && leb (3 * (m + j)) (length (l .turns)) && leb b (length (l .types)) && leb b (length (l .flags))
     && leb (2 * (m + j)) (length (l .pairs)) && leb (2 * (m + j)) (length (l .island-pairs)) && leb j (length (l .enabled)) && leb (m + j) (length (l .numbers))
     && plans.roomy b (m + j) (l .plan)
 
-unfoldable pub roomIn : List ℕ → Lent → Bool
-roomIn bs l = roomFor (countB bs) (countM bs) (countJ bs) l
+unfoldable pub roomyIn : List ℕ → Lent → Bool
+roomyIn bs l = roomyFor (countB bs) (countM bs) (countJ bs) l
 
 -- a table of the workspace: free after 7 or acceptance but for its length; after any other refusal as it was
 pub record Worked (k : ℕ) (old new : List ℕ) : Type 0 where
@@ -49,20 +66,15 @@ pub record Worked (k : ℕ) (old new : List ℕ) : Type 0 where
 
 -- the refusal of the file bs on the tables l, or 0
 abbrev pub refusalIn : List ℕ → Lent → ℕ
-refusalIn bs l = runRefusal bs (roomIn bs l)
+refusalIn bs l = runRefusal bs (roomyIn bs l)
 
 -- the contract: the lent tables at entry (l) and at exit (m), and the answer
 pub record Ran (bs : List ℕ) (l m : Lent) (r : Answer) : Type 0 where
   pub refusal : runNumber r ≡ refusalIn bs l
   pub refused : runRefused r ≡ not (eqb (refusalIn bs l) 0)
-  pub report : runReport r ≡ record {
-    islands = runOf bs (roomIn bs l) .islands;
-    turns = runOf bs (roomIn bs l) .turns;
-    takes = runOf bs (roomIn bs l) .takes;
-    degree = runOf bs (roomIn bs l) .degree;
-  }
+  pub report : runReport r ≡ carried (runOf bs (roomyIn bs l))
   -- the turns from place 0 on; past them the turn table keeps its content
-  pub turns : m .turns ≡ over (runOf bs (roomIn bs l) .table) (l .turns)
+  pub turns : m .turns ≡ over (runOf bs (roomyIn bs l) .table) (l .turns)
   -- the island tables stand as an islands call leaves them
   pub islands : Built (decode bs) (refusalIn bs l) (l .parents) (l .body-islands) (l .manifold-islands) (l .joint-islands) (m .parents) (m .body-islands) (m .manifold-islands) (m .joint-islands) (runNumber r) (runReport r .islands)
   pub types : Worked (refusalIn bs l) (l .types) (m .types)

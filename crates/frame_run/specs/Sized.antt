@@ -10,12 +10,12 @@ use Rattle.frame.specs.Files.{countB, countM, countJ, decode}
 use Rattle.island.specs.Calls.{Built}
 use Rattle.plan_questions.specs.Plans.{Tables, roomy}
 use Rattle.schedules.specs.Runs.{runOf}
-use Rattle.frame_tables.specs.Filled.{soundness}
+use Rattle.frame_tables.specs.Filled.{soundRefusal}
 use Rattle.run_answer.specs.declared.Answer.{Answer}
-use Rattle.run_answer.specs.Answers.{runNumber, runRefused, runReport}
+use Rattle.run_answer.specs.Answers.{runNumber, runRefused, runReport, carried}
 
 -- room in the tables that are not cut to size, and as many numbers as constraints
-pub record Spacious (bs pa bi mi ji ts ip ns : List ℕ) (t : Tables) : Type 0 where
+pub record RoomySized (bs pa bi mi ji ts ip ns : List ℕ) (t : Tables) : Type 0 where
   pub parents : countB bs ≤ length pa
   pub body-islands : countB bs ≤ length bi
   pub manifold-islands : countM bs ≤ length mi
@@ -27,13 +27,8 @@ pub record Spacious (bs pa bi mi ji ts ip ns : List ℕ) (t : Tables) : Type 0 w
 
 -- the island tables and the turn table at entry and at exit, and the answer
 pub record RanSized (bs pa bi mi ji ts pa′ bi′ mi′ ji′ ts′ : List ℕ) (r : Answer) : Type 0 where
-  pub refusal : runNumber r ≡ soundness bs
-  pub refused : runRefused r ≡ not (eqb (soundness bs) 0)
-  pub report : runReport r ≡ record {
-    islands = runOf bs true .islands;
-    turns = runOf bs true .turns;
-    takes = runOf bs true .takes;
-    degree = runOf bs true .degree;
-  }
+  pub refusal : runNumber r ≡ soundRefusal bs
+  pub refused : runRefused r ≡ not (eqb (soundRefusal bs) 0)
+  pub report : runReport r ≡ carried (runOf bs true)
   pub turns : ts′ ≡ over (runOf bs true .table) ts
-  pub islands : Built (decode bs) (soundness bs) pa bi mi ji pa′ bi′ mi′ ji′ (runNumber r) (runReport r .islands)
+  pub islands : Built (decode bs) (soundRefusal bs) pa bi mi ji pa′ bi′ mi′ ji′ (runNumber r) (runReport r .islands)

@@ -2,9 +2,10 @@
 // that the tables are filled (question 7), and each island in number order is colored and its groups taken.
 use frame::Frame;
 use run_answer::Answer;
-ghost use Rattle.frame_parts.specs.Parts.{Decodable};
-ghost use Rattle.frame_run.specs.Calls.{Ran};
-ghost use Rattle.frame_run.specs.Sized.{Spacious, RanSized};
+ghost use Rattle.frame.specs.Decodes.{Decodable};
+ghost use Rattle.plan_questions.specs.Plans.{tablesOf};
+ghost use Rattle.frame_run.specs.Calls.{lentOf, Ran};
+ghost use Rattle.frame_run.specs.Sized.{RoomySized, RanSized};
 
 // The run of a file that passed questions 1 to 6, where `types`, `flags`, `pairs`, `enabled` and `numbers` have its sizes. After 7 there
 // are no islands, so that nothing is taken.
@@ -37,7 +38,11 @@ fn run_sized(
     constraint_body_positions: &mut [u16],
 ) -> Answer
     requires { ⌜ Decodable (now frame) manifolds (now types) (now flags) (now pairs) (now enabled) ⌝ }
-    requires { ⌜ Spacious (now frame) (now parents) (now «body_islands») (now «manifold_islands») (now «joint_islands») (now turns) (now «island_pairs») (now numbers) (record { dynamic-bodies = now «dynamic_bodies»; endpoints = now endpoints; body-offsets = now «body_offsets»; body-constraints = now «body_constraints»; scratch-offsets = now «scratch_offsets»; constraint-colors = now «constraint_colors»; color-stamps = now «color_stamps»; body-stamps = now «body_stamps»; color-offsets = now «color_offsets»; colored-constraints = now «colored_constraints»; color-body-offsets = now «color_body_offsets»; color-bodies = now «color_bodies»; constraint-body-positions = now «constraint_body_positions» }) ⌝ }
+    requires { ⌜ RoomySized (now frame) (now parents) (now «body_islands») (now «manifold_islands») (now «joint_islands») (now turns) (now «island_pairs») (now numbers)
+        (tablesOf (now «dynamic_bodies») (now endpoints) (now «body_offsets»)
+        (now «body_constraints») (now «scratch_offsets») (now «constraint_colors»)
+        (now «color_stamps») (now «body_stamps») (now «color_offsets»)
+        (now «colored_constraints») (now «color_body_offsets») (now «color_bodies») (now «constraint_body_positions»)) ⌝ }
     ensures { λ r. ⌜ RanSized (now (frame .entry)) (now (parents .entry)) (now («body_islands» .entry)) (now («manifold_islands» .entry)) (now («joint_islands» .entry)) (now (turns .entry))
         (now (parents .exit)) (now («body_islands» .exit)) (now («manifold_islands» .exit)) (now («joint_islands» .exit)) (now (turns .exit)) r ⌝ }
 {
@@ -82,7 +87,7 @@ fn run_sized(
         constraint_body_positions,
         turns,
     );
-    run_answer::told(filling, tally)
+    run_answer::answer_of(filling, tally)
 }
 
 // The run of a file. Refusals 1 to 6 change nothing; after 7 the turn table is kept, and the island tables stand as a refused islands
@@ -115,11 +120,23 @@ pub fn run(
     constraint_body_positions: &mut [u16],
 ) -> Answer
     ensures { λ r. ⌜ Ran (now (frame .entry))
-        (record { parents = now (parents .entry); body-islands = now («body_islands» .entry); manifold-islands = now («manifold_islands» .entry); joint-islands = now («joint_islands» .entry); turns = now (turns .entry); types = now (types .entry); flags = now (flags .entry); pairs = now (pairs .entry); island-pairs = now («island_pairs» .entry); enabled = now (enabled .entry); numbers = now (numbers .entry); plan = record { dynamic-bodies = now («dynamic_bodies» .entry); endpoints = now (endpoints .entry); body-offsets = now («body_offsets» .entry); body-constraints = now («body_constraints» .entry); scratch-offsets = now («scratch_offsets» .entry); constraint-colors = now («constraint_colors» .entry); color-stamps = now («color_stamps» .entry); body-stamps = now («body_stamps» .entry); color-offsets = now («color_offsets» .entry); colored-constraints = now («colored_constraints» .entry); color-body-offsets = now («color_body_offsets» .entry); color-bodies = now («color_bodies» .entry); constraint-body-positions = now («constraint_body_positions» .entry) } })
-        (record { parents = now (parents .exit); body-islands = now («body_islands» .exit); manifold-islands = now («manifold_islands» .exit); joint-islands = now («joint_islands» .exit); turns = now (turns .exit); types = now (types .exit); flags = now (flags .exit); pairs = now (pairs .exit); island-pairs = now («island_pairs» .exit); enabled = now (enabled .exit); numbers = now (numbers .exit); plan = record { dynamic-bodies = now («dynamic_bodies» .exit); endpoints = now (endpoints .exit); body-offsets = now («body_offsets» .exit); body-constraints = now («body_constraints» .exit); scratch-offsets = now («scratch_offsets» .exit); constraint-colors = now («constraint_colors» .exit); color-stamps = now («color_stamps» .exit); body-stamps = now («body_stamps» .exit); color-offsets = now («color_offsets» .exit); colored-constraints = now («colored_constraints» .exit); color-body-offsets = now («color_body_offsets» .exit); color-bodies = now («color_bodies» .exit); constraint-body-positions = now («constraint_body_positions» .exit) } }) r ⌝ }
+        (lentOf (now (parents .entry)) (now («body_islands» .entry)) (now («manifold_islands» .entry)) (now («joint_islands» .entry))
+        (now (turns .entry)) (now (types .entry)) (now (flags .entry)) (now (pairs .entry))
+        (now («island_pairs» .entry)) (now (enabled .entry)) (now (numbers .entry))
+        (tablesOf (now («dynamic_bodies» .entry)) (now (endpoints .entry)) (now («body_offsets» .entry))
+        (now («body_constraints» .entry)) (now («scratch_offsets» .entry)) (now («constraint_colors» .entry))
+        (now («color_stamps» .entry)) (now («body_stamps» .entry)) (now («color_offsets» .entry))
+        (now («colored_constraints» .entry)) (now («color_body_offsets» .entry)) (now («color_bodies» .entry)) (now («constraint_body_positions» .entry))))
+        (lentOf (now (parents .exit)) (now («body_islands» .exit)) (now («manifold_islands» .exit)) (now («joint_islands» .exit))
+        (now (turns .exit)) (now (types .exit)) (now (flags .exit)) (now (pairs .exit))
+        (now («island_pairs» .exit)) (now (enabled .exit)) (now (numbers .exit))
+        (tablesOf (now («dynamic_bodies» .exit)) (now (endpoints .exit)) (now («body_offsets» .exit))
+        (now («body_constraints» .exit)) (now («scratch_offsets» .exit)) (now («constraint_colors» .exit))
+        (now («color_stamps» .exit)) (now («body_stamps» .exit)) (now («color_offsets» .exit))
+        (now («colored_constraints» .exit)) (now («color_body_offsets» .exit)) (now («color_bodies» .exit)) (now («constraint_body_positions» .exit)))) r ⌝ }
 {
     let reading = Frame::read(frame);
-    let sizes = frame::read_sizes(reading);
+    let sizes = frame::sizes_of(reading);
     let bodies = sizes.bodies;
     let manifolds = sizes.manifolds;
     let joints = sizes.joints;
@@ -141,7 +158,7 @@ pub fn run(
         color_bodies.len(),
         constraint_body_positions.len(),
     );
-    let room = run_answer::room_for(
+    let room = run_answer::roomy_for(
         bodies,
         manifolds,
         joints,
@@ -158,7 +175,7 @@ pub fn run(
         numbers.len(),
         plan,
     );
-    let refusal = run_answer::first_refusal(frame::read_refusal(reading), room);
+    let refusal = run_answer::first_refusal(frame::refusal_of(reading), room);
     if refusal != 0 {
         return Answer::Refused(refusal);
     }

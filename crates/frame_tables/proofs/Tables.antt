@@ -20,8 +20,9 @@ use Rattle.connected_sets.specs.Islands.{label}
 use Rattle.island.specs.Calls.{Rooms, islandRefusal, labelsAfter, Built}
 use Rattle.schedules.proofs.Accepted.{Accepted, accepted}
 use Rattle.island_numbers.specs.Numbers.{Labels, Sortable, byIsland}
-use Rattle.frame_parts.specs.Parts.{Decoded, Countable}
-use Rattle.frame_tables.specs.Filled.{Roomy, Fills, labelsIn, soundness}
+use Rattle.frame.specs.Decodes.{Decoded}
+use Rattle.frame_parts.specs.Parts.{Countable}
+use Rattle.frame_tables.specs.Filled.{Roomy, Fills, labelsIn, soundRefusal}
 use Rattle.frame_tables.proofs.Labels.{frame-labels, none-labels}
 
 -- ---- the lengths of a file's parts
@@ -55,9 +56,9 @@ module _ (bs : List ℕ) (e : asked (fileQuestions bs) ≡ 0) where
 
   -- ---- the labels that an islands call leaves
 
-  module _ (pa bi mi ji pa′ bi′ mi′ ji′ : List ℕ) (k n : ℕ) (built : Built f (soundness bs) pa bi mi ji pa′ bi′ mi′ ji′ k n) where
-    front-labels : (old new labels : List ℕ) (c : ℕ) → length labels ≡ c → new ≡ labelsAfter (soundness bs) labels old → take c new ≡ cond (allSound f) labels (replicate c none)
-    unfolding soundness labelsAfter
+  module _ (pa bi mi ji pa′ bi′ mi′ ji′ : List ℕ) (k n : ℕ) (built : Built f (soundRefusal bs) pa bi mi ji pa′ bi′ mi′ ji′ k n) where
+    front-labels : (old new labels : List ℕ) (c : ℕ) → length labels ≡ c → new ≡ labelsAfter (soundRefusal bs) labels old → take c new ≡ cond (allSound f) labels (replicate c none)
+    unfolding soundRefusal labelsAfter
     front-labels old new labels c l en = by-cases (allSound f)
         (λ t. rw t (ap (take c) (rw t at en) ∙ take-at labels (drop (length labels) old) c l))
         (λ t. rw t (ap (take c) (rw t at en) ∙ ap (λ (x : ℕ). take c (replicate x none ++ drop (length (replicate x none)) old)) l ∙ take-at (replicate c none) (drop (length (replicate c none)) old) c (length-replicate c none)))
@@ -71,7 +72,7 @@ module _ (bs : List ℕ) (e : asked (fileQuestions bs) ≡ 0) where
         (λ t. rw t (replicate-append-replicate (countM bs) (countJ bs) none)))
 
     pub labels-sortable : Labels n (labelsIn bs mi′ ji′)
-    unfolding soundness
+    unfolding soundRefusal
     labels-sortable = rw labels-are (by-cases (allSound f)
         (λ t. rw (t, rw t at (built .count)) (frame-labels f (file-accepted t)))
         (λ t. rw (t, rw t at (built .count)) (none-labels (countM bs + countJ bs) (omega (arith, s .manifolds, s .joints)))))
@@ -96,8 +97,8 @@ module _ (bs : List ℕ) (e : asked (fileQuestions bs) ≡ 0) where
       abbrev rooms : Rooms
       rooms = record { parents = length pa; bodies = length bi; manifolds = length mi; joints = length ji }
 
-      refusal-is : islandRefusal ts (take (2 * m) ps) (drop (2 * m) ps) es rooms ≡ soundness bs
-      unfolding islandRefusal soundness fewEach decode
+      refusal-is : islandRefusal ts (take (2 * m) ps) (drop (2 * m) ps) es rooms ≡ soundRefusal bs
+      unfolding islandRefusal soundRefusal fewEach decode
       refusal-is =
           let lm = pairs-long bs (pairsAt bs) 4 (countM bs) in
           let lj = pairs-long bs (jointsAt bs) 5 (countJ bs) in
@@ -121,11 +122,11 @@ module _ (bs : List ℕ) (e : asked (fileQuestions bs) ≡ 0) where
 
       module _ (pa′ bi′ mi′ ji′ : List ℕ) (k n : ℕ)
           (h : Built (frameOf ts (take (2 * m) ps) (drop (2 * m) ps) es) (islandRefusal ts (take (2 * m) ps) (drop (2 * m) ps) es rooms) pa bi mi ji pa′ bi′ mi′ ji′ k n) where
-        pub built : Built f (soundness bs) pa bi mi ji pa′ bi′ mi′ ji′ k n
+        pub built : Built f (soundRefusal bs) pa bi mi ji pa′ bi′ mi′ ji′ k n
         built = rw (frame-is, refusal-is) at h
 
         refusal-sound : k ≡ 0 → allSound f ≡ true
-        unfolding soundness
+        unfolding soundRefusal
         refusal-sound z = by-cases (allSound f) (λ t. t) (λ t. absurd (let y : 7 ≡ 0 = sym (rw t at (built .refusal)) ∙ z in omega arith))
 
         pub countable : (c : ℕ) → c ≡ k → Countable c ts ps m es cs
@@ -137,7 +138,7 @@ module _ (bs : List ℕ) (e : asked (fileQuestions bs) ≡ 0) where
         }
 
         pub degree-is : (c r : ℕ) → c ≡ k → r ≡ cond (eqb c 0) (degreeMax (frameOf ts (take (2 * m) ps) (drop (2 * m) ps) es)) 0 → r ≡ cond (allSound f) (degreeMax f) 0
-        unfolding soundness
+        unfolding soundRefusal
         degree-is c r ec er = er ∙ by-cases (allSound f)
             (λ t. rw (frame-is, ec, rw t at (built .refusal), t))
             (λ t. rw (ec, rw t at (built .refusal), t))

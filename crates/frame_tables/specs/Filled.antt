@@ -8,12 +8,12 @@ use Rattle.frame.specs.Frames.{allSound, degreeMax}
 use Rattle.frame.specs.Files.{countB, countM, countJ, decode}
 use Rattle.island.specs.Calls.{Built}
 use Rattle.island_numbers.specs.Numbers.{byIsland}
-use Rattle.frame_parts.specs.Parts.{Decoded}
+use Rattle.frame.specs.Decodes.{Decoded}
 use Rattle.frame_tables.specs.declared.Filling.{Filling}
 
 -- what question 7 answers, once the questions before it are passed
-unfoldable pub soundness : List ℕ → ℕ
-soundness bs = cond (allSound (decode bs)) 0 7
+unfoldable pub soundRefusal : List ℕ → ℕ
+soundRefusal bs = cond (allSound (decode bs)) 0 7
 
 -- room in the other tables: parents, labels, numbers, and the workspace of a sort and of a count on each body
 pub record Roomy (bs pa bi mi ji ns ks ss os cs : List ℕ) : Type 0 where
@@ -34,6 +34,6 @@ labelsIn bs mi ji = take (countM bs) mi ++ take (countJ bs) ji
 -- all tables filled: island tables at entry (pa bi mi ji) and at exit, the sorted numbers, and the answer
 pub record Fills (bs ts fs ps es pa bi mi ji pa′ bi′ mi′ ji′ ns : List ℕ) (r : Filling) : Type 0 where
   pub decoded : Decoded bs ts fs ps es
-  pub islands : Built (decode bs) (soundness bs) pa bi mi ji pa′ bi′ mi′ ji′ (r .refusal) (r .islands)
+  pub islands : Built (decode bs) (soundRefusal bs) pa bi mi ji pa′ bi′ mi′ ji′ (r .refusal) (r .islands)
   pub degree : r .degree ≡ cond (allSound (decode bs)) (degreeMax (decode bs)) 0
   pub numbers : ns ≡ byIsland (r .islands) (labelsIn bs mi′ ji′)

@@ -1,6 +1,6 @@
 // The tables of a frame, internal to the run: the file is decoded, its islands labelled (question 7), D counted, and the constraints'
 // numbers sorted by island.
-ghost use Rattle.frame_parts.specs.Parts.{Decodable};
+ghost use Rattle.frame.specs.Decodes.{Decodable};
 ghost use Rattle.frame_tables.specs.Filled.{Roomy, Fills};
 
 // The refusal or 0, the island count, and D; all 0 after a refusal but its number.
@@ -35,7 +35,7 @@ pub fn fill(
         (now (parents .entry)) (now («body_islands» .entry)) (now («manifold_islands» .entry)) (now («joint_islands» .entry))
         (now (parents .exit)) (now («body_islands» .exit)) (now («manifold_islands» .exit)) (now («joint_islands» .exit)) (now (numbers .exit)) r ⌝ }
 {
-    frame_parts::decode(frame, manifolds, types, flags, pairs, enabled);
+    frame::decode(frame, manifolds, types, flags, pairs, enabled);
     let answer = frame_parts::build(
         types,
         pairs,

@@ -31,6 +31,7 @@ fn stamp_part(bodies: &[u16], stamp: u16, body_stamps: &mut [u16]) -> usize
 {
     let mut count = 0;
     let mut i = 0;
+    // The first i bodies have the stamp; `count` of them had another.
     while i < bodies.len() {
         count += stamp_body(bodies[i], stamp, body_stamps);
         i += 1;
@@ -52,6 +53,7 @@ fn stamp_members(
 {
     let mut count = 0;
     let mut i = 0;
+    // The bodies of the first i members have the stamp; `count` of them had another.
     while i < members.len() {
         let bodies = parts::part(endpoints, bounds, members[i] as usize);
         count += stamp_part(bodies, stamp, body_stamps);
@@ -67,6 +69,7 @@ fn collect(body_stamps: &[u16], stamp: u16, part: &mut [u16])
 {
     let mut body = 0;
     let mut at = 0;
+    // The first `at` places hold the stamped bodies below `body`.
     while at < part.len() {
         part[at] = body as u16;
         at += (body_stamps[body] == stamp) as usize;
@@ -125,6 +128,7 @@ fn note_part(
 {
     let mut end = start;
     let mut i = 0;
+    // The first i bodies are noted, up to place `end`.
     while i < bodies.len() {
         end = note(bodies[i], stamp, body_stamps, color_bodies, end);
         i += 1;
@@ -148,6 +152,7 @@ fn note_members(
 {
     let mut end = start;
     let mut i = 0;
+    // The bodies of the first i members are noted, up to place `end`.
     while i < members.len() {
         let bodies = parts::part(endpoints, bounds, members[i] as usize);
         end = note_part(bodies, stamp, body_stamps, color_bodies, end);
@@ -245,6 +250,7 @@ pub fn gather(
     color_body_offsets[0] = 0;
     let mut end = 0;
     let mut color = 0;
+    // The bodies of the groups below `color` are listed up to place `end`, and no stamp is above `color`.
     while color < color_count {
         let members = parts::between(colored_constraints, color_offsets, color, color + 1);
         let stamp = (color + 1) as u16;

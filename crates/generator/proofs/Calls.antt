@@ -1,6 +1,6 @@
 -- The questions in order, one "no" after another, and the two ways in which a call ends.
 use Prim.Native.Nat.{ℕ, _+_, _≤_, _<_}
-use mathlib.Core.Path.{_≡_, refl, sym, _∙_}
+use mathlib.Core.Path.{_≡_, sym, _∙_}
 use mathlib.Core.Bool.{true, false}
 use mathlib.Core.List.{List}
 use native.Mathlib.Omega.{arith}
@@ -14,7 +14,7 @@ use Rattle.frame.proofs.Questions.{passed}
 use Rattle.frame_file.specs.Written.{fileLength}
 use Rattle.generator.specs.declared.Generated.the-variants.{Frame, Refused}
 use Rattle.generator.specs.Draws.{generatedBytes}
-use Rattle.generator.specs.Calls.{pairsPossible, generateRefusal, generatedNumber, generatedLength, CaseTold, Made}
+use Rattle.generator.specs.Calls.{pairsPossible, generateRefusal, Makes}
 
 -- a pair is wanted, so there are two bodies for it
 pub two-bodies : (b m j : ℕ) → pairsPossible b m j ≡ true → 1 ≤ m + j → 2 ≤ b
@@ -57,11 +57,11 @@ module _ (b m j room : ℕ) where
 -- ---- how a call ends
 
 module _ (seed b m j : ℕ) (old : List ℕ) where
-  pub made-none : (k : ℕ) → k ≡ generateRefusal b m j (length old) → (k ≡ 0 → ⊥) → Made seed b m j old old (generatedNumber (Refused k)) (generatedLength (Refused k)) × CaseTold (Refused k)
+  pub made-none : (k : ℕ) → k ≡ generateRefusal b m j (length old) → (k ≡ 0 → ⊥) → Makes seed b m j old old (Refused k)
   made-none k e n =
       let z : eqb (generateRefusal b m j (length old)) 0 ≡ false = ne-eqb (generateRefusal b m j (length old)) 0 (λ h. n (e ∙ h)) in
-      (record { refusal = e; as-long = rw z; bytes = rw z }, rw (ne-eqb k 0 n))
+      record { made = record { refusal = e; as-long = rw z; bytes = rw z }; refused = rw z }
 
   pub made-frame : (n : ℕ) (new : List ℕ) → generateRefusal b m j (length old) ≡ 0 → n ≡ fileLength b m j → new ≡ over (generatedBytes seed b m j) old
-      → Made seed b m j old new (generatedNumber (Frame n)) (generatedLength (Frame n)) × CaseTold (Frame n)
-  made-frame n new z e f = (record { refusal = sym z; as-long = rw z e; bytes = rw z f }, refl)
+      → Makes seed b m j old new (Frame n)
+  made-frame n new z e f = record { made = record { refusal = sym z; as-long = rw z e; bytes = rw z f }; refused = rw z }

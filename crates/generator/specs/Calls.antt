@@ -29,9 +29,6 @@ abbrev pub generatedRefused : Generated → Bool
 generatedRefused (Frame n) = false
 generatedRefused (Refused k) = true
 
-abbrev pub CaseTold : Generated → Type 0
-CaseTold r = generatedRefused r ≡ not (eqb (generatedNumber r) 0)
-
 -- the frame's length; 0 where refused
 abbrev pub generatedLength : Generated → ℕ
 generatedLength (Frame n) = n
@@ -42,3 +39,8 @@ pub record Made (seed b m j : ℕ) (old new : List ℕ) (number long : ℕ) : Ty
   pub refusal : number ≡ generateRefusal b m j (length old)
   pub as-long : long ≡ cond (eqb (generateRefusal b m j (length old)) 0) (fileLength b m j) 0
   pub bytes : new ≡ cond (eqb (generateRefusal b m j (length old)) 0) (over (generatedBytes seed b m j) old) old
+
+-- the contract: such a call, and its answer, which is a refusal exactly if there is one
+pub record Makes (seed b m j : ℕ) (old new : List ℕ) (r : Generated) : Type 0 where
+  pub made : Made seed b m j old new (generatedNumber r) (generatedLength r)
+  pub refused : generatedRefused r ≡ not (eqb (generateRefusal b m j (length old)) 0)

@@ -1,9 +1,9 @@
 // Test lifts from a number: one seed gives the same frame on every unit. A linear congruential generator draws the types, then the
 // manifolds' pairs, then the joints, each pair of two different bodies, straight into the lent bytes in the file form. `generate`
 // answers every seed and all sizes; its time is linear in the frame's bytes, and the largest frame has 40,971 of them.
-use frame_file::HEADER;
-use frame_file::JOINT;
-use frame_file::PAIR;
+use frame::HEADER;
+use frame::JOINT;
+use frame::PAIR;
 ghost use mathlib.Core.Path.{_≡_};
 ghost use mathlib.Core.Bool.{true};
 ghost use mathlib.Core.List.{_∷_, [], _++_};
@@ -13,7 +13,7 @@ ghost use Rattle.lists.specs.Basics.{put, over};
 ghost use Rattle.frame.specs.Questions.{fewEach};
 ghost use Rattle.frame_file.specs.Written.{fileLength, pairBytes, jointBytes};
 ghost use Rattle.generator.specs.Draws.{nextState, stateAfter, draw, pairDrawn, typesDrawn, pairsDrawn, enabledDrawn, generatedBytes};
-ghost use Rattle.generator.specs.Calls.{pairsPossible, generateRefusal, generatedNumber, generatedLength, CaseTold, Made};
+ghost use Rattle.generator.specs.Calls.{pairsPossible, generateRefusal, generatedNumber, generatedLength, Makes};
 
 // The answer of `generate`: the frame's length, or the number of the first question that got a "no".
 pub enum Generated {
@@ -68,6 +68,7 @@ fn draw_types(out: &mut [u8], at: usize, count: usize, seed: u32) -> u32
 {
     let mut state = seed;
     let mut i = 0;
+    // The first i types are drawn; `state` is the state after them.
     while i < count {
         state = next_state(state);
         out[at + i] = (upper(state) % 3) as u8;
@@ -107,6 +108,7 @@ fn draw_manifolds(out: &mut [u8], at: usize, bodies: u32, count: usize, before: 
 {
     let mut state = before;
     let mut i = 0;
+    // The first i pairs are drawn; `state` is the state after them.
     while i < count {
         state = draw_pair(out, at + PAIR * i, bodies, state);
         i += 1;
@@ -121,6 +123,7 @@ fn draw_joints(out: &mut [u8], at: usize, bodies: u32, count: usize, before: u32
 {
     let mut state = before;
     let mut i = 0;
+    // The first i joints are drawn; `state` is the state after them.
     while i < count {
         state = draw_joint(out, at + JOINT * i, bodies, state);
         i += 1;
@@ -172,7 +175,7 @@ pub fn generate(
     joints: usize,
     bytes: &mut [u8],
 ) -> Generated
-    ensures { λ r. ⌜ Made seed bodies manifolds joints (now (bytes .entry)) (now (bytes .exit)) (generatedNumber r) (generatedLength r) × CaseTold r ⌝ }
+    ensures { λ r. ⌜ Makes seed bodies manifolds joints (now (bytes .entry)) (now (bytes .exit)) r ⌝ }
 {
     let refusal = first_refusal(bodies, manifolds, joints, bytes.len());
     if refusal != 0 {

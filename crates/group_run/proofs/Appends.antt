@@ -1,15 +1,14 @@
 -- Every loop of the run keeps one invariant: the calls done and those still to come are the whole, and what is done has been added. So a
 -- turn of a loop moves the next calls from the one list to the other, and at the end all are done.
-use Prim.Native.Nat.{ℕ, suc, _+_, _-_, _≤_, _<_}
+use Prim.Native.Nat.{ℕ, _+_, _-_, _≤_, _<_}
 use mathlib.Core.Path.{_≡_, sym, ap, _∙_}
 use mathlib.Core.List.{List, [], _++_, append-assoc, append-nil}
 use native.Mathlib.Omega.{arith}
-use native.Mathlib.Numerals.{add-one}
 use lib.Dec.{eqb}
 use lib.ListN.{length, length-append}
 use Rattle.lists.specs.Basics.{count, put, joinMap, rangeFrom}
 use Rattle.lists.proofs.Puts.{length-put, put-put}
-use Rattle.lists.proofs.Ranges.{filter-append, joinMap-append}
+use Rattle.lists.proofs.Ranges.{filter-append, joinMap-append, range-next}
 use Rattle.lists.proofs.Sums.{sum-append}
 use Rattle.schedules.specs.Runs.{Call, turnOf, turnsOf, takesOf}
 use Rattle.turn_table.specs.declared.Tally.{Tally}
@@ -93,9 +92,7 @@ module _ {whole rest : List Call} {t₀ t : List ℕ} {s₀ s : Tally} (room : R
 
 module _ (g : ℕ → List Call) (k n : ℕ) where
   pub parts-next : k < n → joinMap g (rangeFrom k (n - k)) ≡ g k ++ joinMap g (rangeFrom (k + 1) (n - (k + 1)))
-  parts-next h =
-      let e : n - k ≡ suc (n - (k + 1)) = omega arith in
-      rw (e, add-one)
+  parts-next h = ap (joinMap g) (range-next n k h)
 
   pub parts-end : n ≤ k → joinMap g (rangeFrom k (n - k)) ≡ []
   parts-end h =

@@ -13,11 +13,11 @@ use Rattle.lists.specs.Basics.{one, count, sumOf, joinMap, rangeFrom}
 use Rattle.lists.proofs.Laws.{by-cases}
 use Rattle.lists.proofs.Fills.{whole}
 use Rattle.lists.proofs.Sums.{sum-map}
-use Rattle.groups.specs.Groups.{Plan}
+use Rattle.groups.specs.Groups.{pairAt, Plan}
 use Rattle.constraint_coloring.specs.declared.ConstraintColoring.{ConstraintColoring}
 use Rattle.constraint_coloring.specs.declared.Positions.{Positions}
 use Rattle.constraint_coloring.specs.declared.Positions.the-variants as positions
-use Rattle.plan_questions.specs.Plans.{groupPart, positionsRefusal, positionsAt}
+use Rattle.plan_questions.specs.Plans.{groupPart, positionsRefusal}
 use Rattle.constraint_coloring.specs.Calls.{positionsNumber, positionsValues, Located}
 use Rattle.colored_bodies.specs.declared.BodyBinding.{BodyBinding}
 use Rattle.colored_bodies.specs.declared.Marked.{Marked}
@@ -44,7 +44,7 @@ module _ (p : Plan) (marks : List ℕ) (n r : ℕ) where
   unfolding takeRank takeOf
   rank-taken q x y m left e l h =
       let z : refusal ≡ 0 = sym (l .refusal) ∙ ap positionsNumber e in
-      let ps : x ∷ y ∷ [] ≡ positionsAt (p .positions) r = sym (ap positionsValues e) ∙ l .values ∙ ap (λ (k : ℕ). cond (eqb k 0) (positionsAt (p .positions) r) []) z in
+      let ps : x ∷ y ∷ [] ≡ pairAt (p .positions) r = sym (ap positionsValues e) ∙ l .values ∙ ap (λ (k : ℕ). cond (eqb k 0) (pairAt (p .positions) r) []) z in
       record {
         refusal = rw z (h .refusal ∙ ap (λ (xs : List ℕ). takeOf b xs .refusal) ps);
         dynamic = rw z (h .dynamic ∙ ap (λ (xs : List ℕ). map (λ h. h .dynamic) (takeOf b xs .handed)) ps);
@@ -55,7 +55,7 @@ module _ (p : Plan) (marks : List ℕ) (n r : ℕ) where
   unfolding takeRank
   rank-refused q k e l =
       let z : k ≡ refusal = sym (ap positionsNumber e) ∙ l .refusal in
-      let no : [] ≡ cond (eqb refusal 0) (positionsAt (p .positions) r) [] = sym (ap positionsValues e) ∙ l .values in
+      let no : [] ≡ cond (eqb refusal 0) (pairAt (p .positions) r) [] = sym (ap positionsValues e) ∙ l .values in
       by-cases (eqb refusal 0)
       (λ t. absurd (let y : 0 ≡ 2 = ap length (rw t at no) in omega arith))
       (λ t. record { refusal = rw t z; dynamic = rw t; after = rw t })
@@ -133,7 +133,7 @@ module _ (p : Plan) (b : BodyBinding) (r : ℕ) where
   bare-dynamic : count (λ h. h .dynamic) (takeRank p b r .handed) ≡ count (λ h. h .dynamic) (takeRank p (bare b) r .handed)
   unfolding takeRank takeOf takeRefusal
   bare-dynamic = by-cases (eqb asked 0)
-      (λ e. rw e (by-cases (eqb (takeRefusal b (positionsAt (p .positions) r)) 0) (λ f. rw f) (λ f. rw f)))
+      (λ e. rw e (by-cases (eqb (takeRefusal b (pairAt (p .positions) r)) 0) (λ f. rw f) (λ f. rw f)))
       (λ e. rw e)
 
   bare-after : bare (takeRank p b r .after) ≡ takeRank p (bare b) r .after

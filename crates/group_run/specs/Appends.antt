@@ -5,6 +5,7 @@ use mathlib.Core.List.{List, [], _∷_, map}
 use Rattle.lists.specs.Basics.{joinMap, range}
 use Rattle.groups.specs.Groups.{Plan}
 use Rattle.constraint_coloring.specs.declared.ConstraintColoring.{ConstraintColoring}
+use Rattle.constraint_coloring.specs.Calls.{planWith}
 use Rattle.colored_bodies.specs.declared.BodyBinding.{BodyBinding}
 use Rattle.colored_bodies.specs.declared.Marked.{Marked}
 use Rattle.colored_bodies.specs.Bindings.{bindOf}
@@ -17,18 +18,7 @@ use Rattle.turn_table.specs.Turns.{Added, Appended}
 
 -- a plan as its lookups see it: what it carries, and the five tables that they read
 abbrev pub seen : ConstraintColoring → List ℕ → List ℕ → List ℕ → List ℕ → List ℕ → Plan
-seen p color-offsets colored-constraints color-body-offsets color-bodies positions = record {
-  bodies = p .«body_count»;
-  constraints = p .«constraint_count»;
-  groups = p .«color_count»;
-  largest = p .«max_color_constraint_count»;
-  colors = [];
-  color-offsets = color-offsets;
-  colored-constraints = colored-constraints;
-  color-body-offsets = color-body-offsets;
-  color-bodies = color-bodies;
-  positions = positions;
-}
+seen p = planWith p []
 
 -- the takes of group k, with its members as the plan lists them; `ns` numbers the ranks of island i
 unfoldable pub callsIn : Plan → List ℕ → List ℕ → ℕ → ℕ → List Call

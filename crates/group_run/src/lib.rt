@@ -3,6 +3,7 @@
 use colored_bodies::Marked;
 use constraint_coloring::ConstraintColoring;
 use constraint_coloring::Positions;
+use frame::Frame;
 use turn_table::Tally;
 ghost use mathlib.Core.Path.{_≡_};
 ghost use mathlib.Core.List.{[], _∷_};
@@ -18,7 +19,7 @@ fn take_rank(
     plan: ConstraintColoring,
     positions: &[u16],
     rank: usize,
-    marks: &mut [u8; 4096],
+    marks: &mut [u8; Frame::MAX_BODIES],
     count: usize,
 ) -> Marked
     ensures { λ r. ⌜ RankTaken (seen plan [] [] [] [] (now (positions .entry))) (now (marks .entry)) count rank r (now (marks .exit)) ⌝ }
@@ -47,7 +48,7 @@ fn take_member(
     plan: ConstraintColoring,
     positions: &[u16],
     rank: usize,
-    marks: &mut [u8; 4096],
+    marks: &mut [u8; Frame::MAX_BODIES],
     count: usize,
     turns: &mut [u16],
     tally: Tally,
@@ -74,7 +75,7 @@ fn take_members(
     plan: ConstraintColoring,
     positions: &[u16],
     members: &[u16],
-    marks: &mut [u8; 4096],
+    marks: &mut [u8; Frame::MAX_BODIES],
     count: usize,
     turns: &mut [u16],
     tally: Tally,
@@ -84,6 +85,7 @@ fn take_members(
 {
     let mut sum = tally;
     let mut m = 0;
+    // The first m members are taken, and their turns appended.
     while m < members.len() {
         let rank = members[m] as usize;
         sum = take_member(
@@ -113,7 +115,7 @@ fn run_group(
     types: &[u8],
     bodies: &[u16],
     members: &[u16],
-    marks: &mut [u8; 4096],
+    marks: &mut [u8; Frame::MAX_BODIES],
     turns: &mut [u16],
     tally: Tally,
 ) -> Tally
@@ -155,9 +157,10 @@ pub fn run_groups(
     requires { ⌜ Known (now types) ⌝ }
     ensures { λ r. ⌜ Appended (addedBy (planCalls (seen plan (now («color_offsets» .entry)) (now («colored_constraints» .entry)) (now («color_body_offsets» .entry)) (now («color_bodies» .entry)) (now (positions .entry))) (now (types .entry)) (now (numbers .entry)) island)) (now (turns .entry)) tally (now (turns .exit)) r ⌝ }
 {
-    let mut marks = [0u8; 4096];
+    let mut marks = [0u8; Frame::MAX_BODIES];
     let mut sum = tally;
     let mut group = 0;
+    // The groups below `group` are run, and their turns appended.
     while group < plan.color_count {
         let members = plan.constraints_in_schedule_group(color_offsets, colored_constraints, group);
         let bodies = plan.bodies_in_schedule_group(color_body_offsets, color_bodies, group);

@@ -21,7 +21,7 @@ unfolding freeFrom
 freeFrom-le zero c used = omega arith
 freeFrom-le (suc d) c used = by-cases (mem c used) (λ e. rw e (omega (arith, freeFrom-le d (suc c) used))) (λ e. rw e (omega arith))
 
-pub free-le : (used : List ℕ) → free used ≤ length used
+free-le : (used : List ℕ) → free used ≤ length used
 unfolding free
 free-le used = omega (arith, freeFrom-le (length used) 0 used)
 

@@ -1,9 +1,9 @@
--- The entry. Where questions 3 to 6 get a "yes" the tables are long enough, and the frame is laid on their first places; so what is laid, with the rest of each table behind it,
+-- The entry. Where questions 3 to 6 get a "yes" the tables are long enough, and the frame is built on their first places; so what stands there, with the rest of each table behind it,
 -- is what the contract says. Where one gets a "no" nothing is written.
 use Prim.Native.Nat.{ℕ, _+_, _≤_, _/_}
 use native.Mathlib.Omega.{arith}
 use mathlib.Core.Path.{_≡_, refl, sym, ap, _∙_, subst}
-use mathlib.Core.Bool.{Bool, true, false, _&&_, cond}
+use mathlib.Core.Bool.{Bool, true, false, not, _&&_, cond}
 use mathlib.Core.List.{List, [], _∷_, _++_, map}
 use lib.Dec.{leb, eqb}
 use lib.ListN.{length, take, drop, replicate, length-map, length-replicate}
@@ -13,8 +13,11 @@ use Rattle.lists.specs.Basics.{over}
 use Rattle.lists.proofs.Laws.{and-left, and-right, length-range}
 use Rattle.frame.specs.Frames.{Frame, frameOf, constraintsOf, bodies, allSound, none}
 use Rattle.connected_sets.specs.Islands.{islandCount, bodyLabel, label}
-use Rattle.island.specs.Calls.{Rooms, islandRefusal, Parents, labelsAfter, Built}
-use Rattle.island.specs.Steps.{Sized, Laid}
+use Rattle.island.specs.declared.Answer.{Answer}
+use Rattle.island.specs.declared.Answer.the-variants.{Refused}
+use Rattle.island.specs.Answers.{answerIslands}
+use Rattle.island.specs.Calls.{Rooms, islandRefusal, Parents, labelsAfter, Builds}
+use Rattle.island.specs.Steps.{Sized, BuiltSized}
 use Rattle.island.proofs.Refusals.{early, early-few, early-room, early-below, refused-early, refused-late}
 
 pairs-bounds : (l es : List ℕ) → (length (constraintsOf l es) + length (constraintsOf l es) ≤ length l) × (length l ≤ length (constraintsOf l es) + length (constraintsOf l es) + 1)
@@ -68,18 +71,21 @@ module _ (ts ps js es p₀ b₀ m₀ j₀ : List ℕ) where
   }
 
   -- ---- refused before question 7
-  pub kept-built : (k : ℕ) → k ≡ early ts ps js es rooms → (k ≡ 0 → ⊥) → Built f (islandRefusal ts ps js es rooms) p₀ b₀ m₀ j₀ p₀ b₀ m₀ j₀ k 0
+  pub kept-builds : (k : ℕ) → k ≡ early ts ps js es rooms → (k ≡ 0 → ⊥) → Builds f (islandRefusal ts ps js es rooms) p₀ b₀ m₀ j₀ p₀ b₀ m₀ j₀ (Refused k)
   unfolding labelsAfter
-  kept-built k e n = subst (λ (q : ℕ). Built f q p₀ b₀ m₀ j₀ p₀ b₀ m₀ j₀ k 0) (refused-early ts ps js es rooms k e n) (record {
-    refusal = refl;
-    count = rw (ne-eqb k 0 n);
-    body-labels = same (map (bodyLabel f) (bodies f)) b₀;
-    manifold-labels = same (map (label f) (f .manifolds)) m₀;
-    joint-labels = same (map (label f) (f .joints)) j₀;
-    parents = λ z. absurd (n z);
-    beyond = refl;
-    alone = λ z. absurd (n7 z);
-    kept = λ u v. refl;
+  kept-builds k e n = subst (λ (q : ℕ). Builds f q p₀ b₀ m₀ j₀ p₀ b₀ m₀ j₀ (Refused k)) (refused-early ts ps js es rooms k e n) (record {
+    built = record {
+      refusal = refl;
+      count = rw (ne-eqb k 0 n);
+      body-labels = same (map (bodyLabel f) (bodies f)) b₀;
+      manifold-labels = same (map (label f) (f .manifolds)) m₀;
+      joint-labels = same (map (label f) (f .joints)) j₀;
+      parents = λ z. absurd (n z);
+      beyond = refl;
+      alone = λ z. absurd (n7 z);
+      kept = λ u v. refl;
+    };
+    refused = rw (ne-eqb k 0 n);
   })
     where
       n7 : k ≡ 7 → ⊥
@@ -88,41 +94,43 @@ module _ (ts ps js es p₀ b₀ m₀ j₀ : List ℕ) where
       same : (labels old : List ℕ) → old ≡ labelsAfter k labels old
       same labels old = rw (ne-eqb k 0 n, ne-eqb k 7 n7)
 
-  -- ---- laid on the first places
-  module _ (p b m j : List ℕ) (n i : ℕ) (w : Laid f p b m j n i) (lp : length p ≡ length ts) where
-    laid-labels : (ok : Bool) (labels old new : List ℕ) (size : ℕ) → length labels ≡ size → (ok ≡ true → new ≡ labels) → (ok ≡ false → new ≡ replicate size none) → new ++ drop size old ≡ labelsAfter (seven ok) labels old
+  -- ---- built on the first places
+  module _ (p b m j : List ℕ) (r : Answer) (w : BuiltSized f p b m j r) (lp : length p ≡ length ts) where
+    labels-after : (ok : Bool) (labels old new : List ℕ) (size : ℕ) → length labels ≡ size → (ok ≡ true → new ≡ labels) → (ok ≡ false → new ≡ replicate size none) → new ++ drop size old ≡ labelsAfter (seven ok) labels old
     unfolding labelsAfter
-    laid-labels true labels old new size e y x = ap (λ (l : List ℕ). l ++ drop size old) (y refl) ∙ ap (λ (s : ℕ). labels ++ drop s old) (sym e)
-    laid-labels false labels old new size e y x = ap (λ (l : List ℕ). l ++ drop size old) (x refl) ∙ again
+    labels-after true labels old new size e y x = ap (λ (l : List ℕ). l ++ drop size old) (y refl) ∙ ap (λ (s : ℕ). labels ++ drop s old) (sym e)
+    labels-after false labels old new size e y x = ap (λ (l : List ℕ). l ++ drop size old) (x refl) ∙ again
       where
         again : replicate size none ++ drop size old ≡ over (replicate (length labels) none) old
         again = rw e (ap (λ (s : ℕ). replicate size none ++ drop s old) (sym (length-replicate size none)))
 
-    counted : (ok : Bool) → (ok ≡ true → i ≡ islandCount f) → (ok ≡ false → i ≡ 0) → i ≡ cond (eqb (seven ok) 0) (islandCount f) 0
+    counted : (ok : Bool) → (ok ≡ true → answerIslands r ≡ islandCount f) → (ok ≡ false → answerIslands r ≡ 0) → answerIslands r ≡ cond (eqb (seven ok) 0) (islandCount f) 0
     counted true y x = y refl
     counted false y x = x refl
+
+    no-if-seven : (ok : Bool) → not ok ≡ not (eqb (seven ok) 0)
+    no-if-seven true = refl
+    no-if-seven false = refl
 
     zero-or-seven : (ok : Bool) → (seven ok ≡ 0 → ok ≡ true) × (seven ok ≡ 7 → ok ≡ false) × ((seven ok ≡ 0 → ⊥) → (seven ok ≡ 7 → ⊥) → ⊥)
     zero-or-seven true = ((λ z. refl), (λ z. absurd (eqb-false 0 7 refl z)), (λ u v. u refl))
     zero-or-seven false = ((λ z. absurd (eqb-false 7 0 refl z)), (λ z. refl), (λ u v. v refl))
 
-    pub laid-built : early ts ps js es rooms ≡ 0 → Built f (islandRefusal ts ps js es rooms) p₀ b₀ m₀ j₀ (p ++ drop (length ts) p₀) (b ++ drop (length ts) b₀) (m ++ drop (length ps / 2) m₀) (j ++ drop (length js / 2) j₀) n i
-    laid-built e = subst (λ (q : ℕ). Built f q p₀ b₀ m₀ j₀ (p ++ drop (length ts) p₀) (b ++ drop (length ts) b₀) (m ++ drop (length ps / 2) m₀) (j ++ drop (length js / 2) j₀) n i) (refused-late ts ps js es rooms e) (record {
-      refusal = w .refusal;
-      count = counted ok (λ y. w .accepted y .1 .count) (λ x. w .refused x .count);
-      body-labels = laid-labels ok (map (bodyLabel f) (bodies f)) b₀ b (length ts) (length-map (bodies f) (bodyLabel f) ∙ length-range 0 (length ts)) (λ y. w .accepted y .1 .body-labels) (λ x. w .refused x .body-labels);
-      manifold-labels = laid-labels ok (map (label f) (f .manifolds)) m₀ m (length ps / 2) (length-map (f .manifolds) (label f) ∙ pairs-length ps []) (λ y. w .accepted y .1 .manifold-labels) (λ x. w .refused x .manifold-labels ∙ ap (λ (s : ℕ). replicate s none) (pairs-length ps []));
-      joint-labels = laid-labels ok (map (label f) (f .joints)) j₀ j (length js / 2) (length-map (f .joints) (label f) ∙ pairs-length js es) (λ y. w .accepted y .1 .joint-labels) (λ x. w .refused x .joint-labels ∙ ap (λ (s : ℕ). replicate s none) (pairs-length js es));
-      parents = λ z. subst (Parents f) (sym (take-at p (drop (length ts) p₀) (length ts) lp)) (w .accepted (zero-or-seven ok .0 z) .0);
-      beyond = drop-at p (drop (length ts) p₀) (length ts) lp;
-      alone = λ z. ap (λ (q : List ℕ). q ++ drop (length ts) p₀) (w .refused (zero-or-seven ok .1 z) .alone) ∙ ap (λ (s : ℕ). bodies f ++ drop s p₀) (sym (length-range 0 (length ts)));
-      kept = λ u v. absurd (zero-or-seven ok .2 u v);
+    pub sized-builds : early ts ps js es rooms ≡ 0 → Builds f (islandRefusal ts ps js es rooms) p₀ b₀ m₀ j₀ (p ++ drop (length ts) p₀) (b ++ drop (length ts) b₀) (m ++ drop (length ps / 2) m₀) (j ++ drop (length js / 2) j₀) r
+    sized-builds e = subst (λ (q : ℕ). Builds f q p₀ b₀ m₀ j₀ (p ++ drop (length ts) p₀) (b ++ drop (length ts) b₀) (m ++ drop (length ps / 2) m₀) (j ++ drop (length js / 2) j₀) r) (refused-late ts ps js es rooms e) (record {
+      built = record {
+        refusal = w .refusal;
+        count = counted ok (λ y. w .accepted y .1 .count) (λ x. w .blank x .count);
+        body-labels = labels-after ok (map (bodyLabel f) (bodies f)) b₀ b (length ts) (length-map (bodies f) (bodyLabel f) ∙ length-range 0 (length ts)) (λ y. w .accepted y .1 .body-labels) (λ x. w .blank x .body-labels);
+        manifold-labels = labels-after ok (map (label f) (f .manifolds)) m₀ m (length ps / 2) (length-map (f .manifolds) (label f) ∙ pairs-length ps []) (λ y. w .accepted y .1 .manifold-labels) (λ x. w .blank x .manifold-labels ∙ ap (λ (s : ℕ). replicate s none) (pairs-length ps []));
+        joint-labels = labels-after ok (map (label f) (f .joints)) j₀ j (length js / 2) (length-map (f .joints) (label f) ∙ pairs-length js es) (λ y. w .accepted y .1 .joint-labels) (λ x. w .blank x .joint-labels ∙ ap (λ (s : ℕ). replicate s none) (pairs-length js es));
+        parents = λ z. subst (Parents f) (sym (take-at p (drop (length ts) p₀) (length ts) lp)) (w .accepted (zero-or-seven ok .0 z) .0);
+        beyond = drop-at p (drop (length ts) p₀) (length ts) lp;
+        alone = λ z. ap (λ (q : List ℕ). q ++ drop (length ts) p₀) (w .blank (zero-or-seven ok .1 z) .alone) ∙ ap (λ (s : ℕ). bodies f ++ drop s p₀) (sym (length-range 0 (length ts)));
+        kept = λ u v. absurd (zero-or-seven ok .2 u v);
+      };
+      refused = w .refused ∙ no-if-seven ok;
     })
       where
         ok : Bool
         ok = allSound f
-
--- an answer that is taken apart into the refusal and the count
-pub built-by : {f : Frame} {k : ℕ} {p₀ b₀ m₀ j₀ p b m j : List ℕ} {number islands r count : ℕ}
-    → Built f k p₀ b₀ m₀ j₀ p b m j number islands → r ≡ number → count ≡ islands → Built f k p₀ b₀ m₀ j₀ p b m j r count
-built-by h e g = rw (e, g) h

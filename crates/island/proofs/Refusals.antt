@@ -11,8 +11,7 @@ use Rattle.lists.proofs.Laws.{and-left}
 use Rattle.frame.specs.Frames.{frameOf, allSound}
 use Rattle.frame.specs.Questions.{question, asked, fewEach, even, pairCount, typesKnown, bits}
 use Rattle.frame.proofs.Questions.{passed, asked-append}
-use Rattle.island.specs.Calls.{Rooms, roomy, islandRefusal}
-use Rattle.island.specs.Steps.{earlyQuestions}
+use Rattle.island.specs.Calls.{Rooms, roomy, earlyQuestions, islandRefusal}
 
 module _ (ts ps js es : List ℕ) (r : Rooms) where
   abbrev pub q3 : Bool

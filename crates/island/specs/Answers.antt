@@ -1,8 +1,6 @@
 -- Document 01's number and values for each case of an answer.
 use Prim.Native.Nat.{ℕ}
-use mathlib.Core.Path.{_≡_}
-use mathlib.Core.Bool.{Bool, true, false, not}
-use lib.Dec.{eqb}
+use mathlib.Core.Bool.{Bool, true, false}
 use Rattle.island.specs.declared.Answer.{Answer}
 use Rattle.island.specs.declared.Answer.the-variants.{Islands, Refused}
 
@@ -15,9 +13,6 @@ answerNumber (Refused k) = k
 abbrev pub answerRefused : Answer → Bool
 answerRefused (Islands n) = false
 answerRefused (Refused k) = true
-
-abbrev pub CaseTold : Answer → Type 0
-CaseTold r = answerRefused r ≡ not (eqb (answerNumber r) 0)
 
 -- how many islands; 0 where refused
 abbrev pub answerIslands : Answer → ℕ

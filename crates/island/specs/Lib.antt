@@ -1,3 +1,3 @@
-pub mod Calls
 pub mod Answers
+pub mod Calls
 pub mod Steps

@@ -1,16 +1,16 @@
 -- What the steps of a build leave: only the private functions' contracts cite these.
 use Prim.Native.Nat.{ℕ, _≤_}
 use mathlib.Core.Path.{_≡_}
-use mathlib.Core.Bool.{true, false, _&&_, cond}
-use mathlib.Core.List.{List, [], _∷_, map}
-use lib.Dec.{eqb}
+use mathlib.Core.Bool.{true, false, not, cond}
+use mathlib.Core.List.{List, map}
 use lib.ListN.{length, getD, replicate}
 use Rattle.lists.specs.Basics.{any}
 use Rattle.frame.specs.Frames.{Frame, constraints, bodies, on, allSound, none}
-use Rattle.frame.specs.Questions.{Question, question, fewEach, even, pairCount, typesKnown, bits}
 use Rattle.island_sets.specs.Sets.{rootOf, Falls}
 use Rattle.connected_sets.specs.Islands.{lowest, islandCount, bodyLabel, label}
-use Rattle.island.specs.Calls.{Rooms, roomy, Parents}
+use Rattle.island.specs.declared.Answer.{Answer}
+use Rattle.island.specs.Answers.{answerNumber, answerRefused, answerIslands}
+use Rattle.island.specs.Calls.{Parents}
 
 -- ---- a frame on tables of just its sizes
 
@@ -21,13 +21,13 @@ pub record Sized (f : Frame) (p b m j : List ℕ) : Type 0 where
   pub long-manifolds : length m ≡ length (f .manifolds)
   pub long-joints : length j ≡ length (f .joints)
 
--- its constraints are sound, joined and marked
+-- its constraints are sound and joined, and label 0 tells which bodies they are on
 pub record Ready (f : Frame) (p b m j : List ℕ) : Type 0 where
   pub sized : Sized f p b m j
   pub passed : allSound f ≡ true
   pub falls : Falls p
   pub roots : rootOf p ≡ lowest f
-  pub marks : (x : ℕ) → getD b x none ≡ cond (any (on x) (constraints f)) 0 none
+  pub constrained : (x : ℕ) → getD b x none ≡ cond (any (on x) (constraints f)) 0 none
 
 -- its labels
 pub record Labelled (f : Frame) (b m j : List ℕ) (islands : ℕ) : Type 0 where
@@ -45,16 +45,8 @@ pub record Blank (f : Frame) (p b m j : List ℕ) (islands : ℕ) : Type 0 where
   pub joint-labels : j ≡ replicate (length (f .joints)) none
 
 -- question 7 decides between the two
-pub record Laid (f : Frame) (p b m j : List ℕ) (number islands : ℕ) : Type 0 where
-  pub refusal : number ≡ cond (allSound f) 0 7
-  pub accepted : allSound f ≡ true → Parents f p × Labelled f b m j islands
-  pub refused : allSound f ≡ false → Blank f p b m j islands
-
--- ---- the questions before the 7th
-abbrev pub earlyQuestions : List ℕ → List ℕ → List ℕ → List ℕ → Rooms → List Question
-earlyQuestions ts ps js es r =
-    question 3 (fewEach (length ts) (pairCount ps) (pairCount js))
-    ∷ question 4 (even ps && even js && eqb (length es) (pairCount js))
-    ∷ question 5 (typesKnown ts && bits es)
-    ∷ question 6 (roomy ts ps js r)
-    ∷ []
+pub record BuiltSized (f : Frame) (p b m j : List ℕ) (r : Answer) : Type 0 where
+  pub refusal : answerNumber r ≡ cond (allSound f) 0 7
+  pub refused : answerRefused r ≡ not (allSound f)
+  pub accepted : allSound f ≡ true → Parents f p × Labelled f b m j (answerIslands r)
+  pub blank : allSound f ≡ false → Blank f p b m j (answerIslands r)

@@ -1,24 +1,24 @@
--- What constraints join and mark. A live pair of dynamic bodies has one edge, any other pair none; a live pair marks its two bodies.
+-- What constraints join, and which bodies they constrain. A live pair of dynamic bodies has one edge, any other pair none; a live pair constrains its two bodies.
 -- What is joined by one list and then by another is joined by both together: so a loop over the constraints joins them all.
 use Prim.Native.Nat.{ℕ, _+_, _*_, _≤_, _<_}
 use native.Mathlib.Omega.{arith}
 use native.Mathlib.Decide.{ℕ-discrete}
 use mathlib.Core.Path.{_≡_, refl, sym, ap, _∙_, subst}
-use mathlib.Core.Bool.{Bool, true, false, _&&_, _||_, cond}
+use mathlib.Core.Bool.{Bool, true, false, _&&_, _||_, cond, and-true}
 use mathlib.Core.List.{List, [], _∷_, _++_, append-assoc, append-nil}
 use lib.Dec.{eqb}
 use lib.ListN.{length, getD, set, drop, length-set}
 use lib.Seq.{getD-set-same, getD-set-other}
 use borrow.Author.Tests.{eqb-true, eq-eqb, ne-eqb}
 use Rattle.lists.specs.Basics.{any, all}
-use Rattle.lists.proofs.Laws.{and-left, and-right, and-both, clashes, not-true-false, any-append, all-append}
+use Rattle.lists.proofs.Laws.{and-left, and-right, and-both, clashes, not-true-false, any-append, all-append, cond-or}
 use Rattle.lists.proofs.Ranges.{joinMap-append}
 use Rattle.frame.specs.Frames.{Constraint, Frame, constraint, constraintsOf, dynamic, on, sound, none}
 use Rattle.frame.proofs.Pairs.{pairs-step, pairs-end, scan-stop}
 use Rattle.island_sets.specs.Sets.{rootOf, Falls, merge}
 use Rattle.island_labels.specs.Labels.{bare}
 use Rattle.connected_sets.specs.Islands.{Edge, star, edgesOf, edges, join}
-use Rattle.island_joins.specs.Joins.{Joined, Tried}
+use Rattle.island_joins.specs.Joins.{Joined, JoinedOrRefused}
 use Rattle.connected_sets.proofs.Joins.{join-append}
 
 -- ---- what one pair joins
@@ -50,9 +50,9 @@ module _ (g : ℕ → ℕ) (ts : List ℕ) (a b : ℕ) where
     pub join-on : u * 256 + v ≡ 514 → merge g a b ≡ join g (edgesOf (bare ts) (constraint true a b))
     join-on e = sym (joined ∙ rw (eq-eqb (getD ts a 0) 2 (omega arith), eq-eqb (getD ts b 0) 2 (omega arith)))
 
--- ---- what one pair marks
-mark-one : (l : List ℕ) (a x : ℕ) → a < length l → getD (set l a 0) x none ≡ cond (eqb x a) 0 (getD l x none)
-mark-one l a x h = go (ℕ-discrete x a)
+-- ---- what one pair constrains
+constrain-one : (l : List ℕ) (a x : ℕ) → a < length l → getD (set l a 0) x none ≡ cond (eqb x a) 0 (getD l x none)
+constrain-one l a x h = go (ℕ-discrete x a)
   where
     go : Dec (x ≡ a) → getD (set l a 0) x none ≡ cond (eqb x a) 0 (getD l x none)
     go (yes e) = rw (e, eq-eqb a a refl) (getD-set-same l a 0 none h)
@@ -64,22 +64,18 @@ either true false n = refl
 either false true n = refl
 either false false n = refl
 
-mark-two : (l : List ℕ) (a b x : ℕ) → a < length l → b < length l → getD (set (set l a 0) b 0) x none ≡ cond (any (on x) (constraint true a b ∷ [])) 0 (getD l x none)
+constrain-two : (l : List ℕ) (a b x : ℕ) → a < length l → b < length l → getD (set (set l a 0) b 0) x none ≡ cond (any (on x) (constraint true a b ∷ [])) 0 (getD l x none)
 unfolding on
-mark-two l a b x h k =
-    mark-one (set l a 0) b x (rw length-set k)
-    ∙ ap (λ (n : ℕ). cond (eqb x b) 0 n) (mark-one l a x h)
+constrain-two l a b x h k =
+    constrain-one (set l a 0) b x (rw length-set k)
+    ∙ ap (λ (n : ℕ). cond (eqb x b) 0 n) (constrain-one l a x h)
     ∙ either (eqb x a) (eqb x b) (getD l x none)
 
 -- ---- one constraint
-pub only : (s : Bool) → s ≡ (s && true)
-only true = refl
-only false = refl
-
 module _ (ts p l : List ℕ) (t : Bool) (a b : ℕ) where
   pub joined-dead : Falls p → t ≡ false → Joined ts (constraint t a b ∷ []) p l p l
   unfolding edges edgesOf on
-  joined-dead h e = record { falls = h; roots = rw e; marks = λ x. rw e }
+  joined-dead h e = record { falls = h; roots = rw e; constrained = λ x. rw e }
 
   pub joined-live : (p′ l′ : List ℕ) → Falls p′ → t ≡ true → a < length l → b < length l
       → rootOf p′ ≡ join (rootOf p) (edgesOf (bare ts) (constraint true a b)) → l′ ≡ set (set l a 0) b 0
@@ -88,7 +84,7 @@ module _ (ts p l : List ℕ) (t : Bool) (a b : ℕ) where
   joined-live p′ l′ h e ha hb r m = record {
     falls = h;
     roots = rw e (r ∙ ap (join (rootOf p)) (sym (append-nil (edgesOf (bare ts) (constraint true a b)))));
-    marks = λ x. rw e (ap (λ (k : List ℕ). getD k x none) m ∙ mark-two l a b x ha hb);
+    constrained = λ x. rw e (ap (λ (k : List ℕ). getD k x none) m ∙ constrain-two l a b x ha hb);
   }
 
 -- ---- two lists of constraints together
@@ -96,14 +92,9 @@ edges-append : (f : Frame) (cs ds : List Constraint) → edges f (cs ++ ds) ≡ 
 unfolding edges
 edges-append f cs ds = joinMap-append (edgesOf f) cs ds
 
-marked-both : (s t : Bool) (n : ℕ) → cond t 0 (cond s 0 n) ≡ cond (s || t) 0 n
-marked-both true true n = refl
-marked-both true false n = refl
-marked-both false t n = refl
-
 pub joined-none : (ts p l : List ℕ) → Falls p → Joined ts [] p l p l
 unfolding edges
-joined-none ts p l h = record { falls = h; roots = refl; marks = λ x. refl }
+joined-none ts p l h = record { falls = h; roots = refl; constrained = λ x. refl }
 
 pub joined-append : (ts : List ℕ) (cs ds : List Constraint) (p₀ l₀ p₁ l₁ p₂ l₂ : List ℕ) → Joined ts cs p₀ l₀ p₁ l₁ → Joined ts ds p₁ l₁ p₂ l₂ → Joined ts (cs ++ ds) p₀ l₀ p₂ l₂
 joined-append ts cs ds p₀ l₀ p₁ l₁ p₂ l₂ u v = record {
@@ -113,25 +104,25 @@ joined-append ts cs ds p₀ l₀ p₁ l₁ p₂ l₂ u v = record {
       ∙ ap (λ (g : ℕ → ℕ). join g (edges (bare ts) ds)) (u .roots)
       ∙ sym (join-append (rootOf p₀) (edges (bare ts) cs) (edges (bare ts) ds))
       ∙ ap (join (rootOf p₀)) (sym (edges-append (bare ts) cs ds));
-  marks = λ x.
-      v .marks x
-      ∙ ap (λ (n : ℕ). cond (any (on x) ds) 0 n) (u .marks x)
-      ∙ marked-both (any (on x) cs) (any (on x) ds) (getD l₀ x none)
+  constrained = λ x.
+      v .constrained x
+      ∙ ap (λ (n : ℕ). cond (any (on x) ds) 0 n) (u .constrained x)
+      ∙ cond-or (any (on x) cs) (any (on x) ds) 0 (getD l₀ x none)
       ∙ ap (λ (t : Bool). cond t 0 (getD l₀ x none)) (sym (any-append (on x) cs ds));
 }
 
 -- the first list has a constraint that does not pass; or all pass, and the second list is tried
-module _ (ts : List ℕ) (cs ds : List Constraint) (p₀ l₀ p₁ l₁ : List ℕ) (r : Bool) (u : Tried ts cs p₀ l₀ p₁ l₁ r) where
+module _ (ts : List ℕ) (cs ds : List Constraint) (p₀ l₀ p₁ l₁ : List ℕ) (r : Bool) (u : JoinedOrRefused ts cs p₀ l₀ p₁ l₁ r) where
   abbrev passes : Constraint → Bool
   passes = sound (length ts)
 
   both-lists : (t : Bool) → r ≡ t → all passes (cs ++ ds) ≡ (t && all passes ds)
   both-lists t e = all-append passes cs ds ∙ ap (λ (x : Bool). x && all passes ds) (sym (u .answer) ∙ e)
 
-  pub tried-first : r ≡ false → Tried ts (cs ++ ds) p₀ l₀ p₁ l₁ false
+  pub tried-first : r ≡ false → JoinedOrRefused ts (cs ++ ds) p₀ l₀ p₁ l₁ false
   tried-first e = record { answer = sym (both-lists false e); joined = λ t. clashes false t refl }
 
-  pub tried-both : r ≡ true → (p₂ l₂ : List ℕ) (r₂ : Bool) → Tried ts ds p₁ l₁ p₂ l₂ r₂ → Tried ts (cs ++ ds) p₀ l₀ p₂ l₂ r₂
+  pub tried-both : r ≡ true → (p₂ l₂ : List ℕ) (r₂ : Bool) → JoinedOrRefused ts ds p₁ l₁ p₂ l₂ r₂ → JoinedOrRefused ts (cs ++ ds) p₀ l₀ p₂ l₂ r₂
   tried-both e p₂ l₂ r₂ v = record { answer = v .answer ∙ sym (both-lists true e); joined = λ t. joined-append ts cs ds p₀ l₀ p₁ l₁ p₂ l₂ (u .joined e) (v .joined t) }
 
 -- ---- the loop over the pairs, at entry k of ps and constraint i: the constraints before are done, and passed question 7
@@ -156,7 +147,7 @@ module _ (ts ps es p₀ l₀ p l : List ℕ) (k i : ℕ) (w : Joining ts ps es p
   asked-both = ap (all (sound (length ts))) (sym (w .whole)) ∙ all-append (sound (length ts)) (w .done) (constraintsOf (drop k ps) (drop i es)) ∙ rw (w .passed)
 
   pub joining-stops : (t : Bool) → k + 1 < length ps → t ≡ eqb (getD es i 1) 1 → all (sound (length ts)) (here t ∷ []) ≡ false → all (sound (length ts)) (constraintsOf ps es) ≡ false
-  joining-stops t h e s = asked-both ∙ scan-stop (sound (length ts)) ps es k i t (sound (length ts) (here t)) h e refl (only (sound (length ts) (here t)) ∙ s)
+  joining-stops t h e s = asked-both ∙ scan-stop (sound (length ts)) ps es k i t (sound (length ts) (here t)) h e refl (sym (and-true (sound (length ts) (here t))) ∙ s)
 
   pub joining-turns : (p′ l′ : List ℕ) (t : Bool) → k + 1 < length ps → t ≡ eqb (getD es i 1) 1 → all (sound (length ts)) (here t ∷ []) ≡ true
       → length p′ ≡ length p → length l′ ≡ length l → Joined ts (here t ∷ []) p l p′ l′ → Joining ts ps es p₀ l₀ p′ l′ (k + 2) (i + 1)

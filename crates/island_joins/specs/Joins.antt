@@ -10,13 +10,13 @@ use Rattle.connected_sets.specs.Islands.{join, edges}
 use Rattle.island_sets.specs.Sets.{rootOf, Falls}
 use Rattle.island_labels.specs.Labels.{bare}
 
--- the constraints cs join the sets of p₀, and mark the bodies that they are on in l₀
+-- the constraints cs join the sets of p₀, and constrain the bodies that they are on in l₀
 pub record Joined (ts : List ℕ) (cs : List Constraint) (p₀ l₀ p l : List ℕ) : Type 0 where
   pub falls : Falls p
   pub roots : rootOf p ≡ join (rootOf p₀) (edges (bare ts) cs)
-  pub marks : (x : ℕ) → getD l x none ≡ cond (any (on x) cs) 0 (getD l₀ x none)
+  pub constrained : (x : ℕ) → getD l x none ≡ cond (any (on x) cs) 0 (getD l₀ x none)
 
 -- r says whether all of them pass question 7; where one does not, the tables are left anyhow
-pub record Tried (ts : List ℕ) (cs : List Constraint) (p₀ l₀ p l : List ℕ) (r : Bool) : Type 0 where
+pub record JoinedOrRefused (ts : List ℕ) (cs : List Constraint) (p₀ l₀ p l : List ℕ) (r : Bool) : Type 0 where
   pub answer : r ≡ all (sound (length ts)) cs
   pub joined : r ≡ true → Joined ts cs p₀ l₀ p l

@@ -8,31 +8,25 @@ ghost use Rattle.frame.specs.Frames.{constraint, constraints, constraintsOf, fr
 ghost use Rattle.connected_sets.specs.Islands.{join, edgesOf};
 ghost use Rattle.island_sets.specs.Sets.{rootOf, Falls};
 ghost use Rattle.island_labels.specs.Labels.{bare, Fit};
-ghost use Rattle.island_joins.specs.Joins.{Tried};
+ghost use Rattle.island_joins.specs.Joins.{JoinedOrRefused};
 
 // The types of two dynamic bodies, 2 and 2, as the two bytes of one number.
-const BOTH_DYNAMIC: u16 = 514;
-
-fn wide(x: u8) -> u16
-    ensures { λ r. ⌜ (r ≡ x) × (r < 256) ⌝ }
-{
-    x as u16
-}
+const BOTH_DYNAMIC: usize = 514;
 
 // Two bodies are joined if both are dynamic. Their types are tested as one number: one branch to guess, not two.
 fn join_dynamic(body_types: &[u8], parents: &mut [u16], a: u16, b: u16)
     requires { ⌜ Falls (now parents) × (length (now parents) ≡ length (now «body_types»)) × (a < length (now «body_types»)) × (b < length (now «body_types»)) ⌝ }
     ensures { λ _. ⌜ Falls (now (parents .exit)) × (rootOf (now (parents .exit)) ≡ join (rootOf (now (parents .entry))) (edgesOf (bare (now («body_types» .entry))) (constraint true a b))) ⌝ }
 {
-    let types = wide(body_types[a as usize]) * 256 + wide(body_types[b as usize]);
+    let types = frame::wide(body_types[a as usize]) * 256 + frame::wide(body_types[b as usize]);
     if types != BOTH_DYNAMIC {
         return;
     }
     island_sets::union(parents, a, b);
 }
 
-// Two bodies are marked: label 0 where the numbering will put their island's.
-fn mark(body_islands: &mut [u16], a: u16, b: u16)
+// Two bodies are constrained: label 0 where the numbering will put their island's.
+fn constrain(body_islands: &mut [u16], a: u16, b: u16)
     requires { ⌜ (a < length (now «body_islands»)) × (b < length (now «body_islands»)) ⌝ }
     ensures { λ _. ⌜ now («body_islands» .exit) ≡ set (set (now («body_islands» .entry)) a 0) b 0 ⌝ }
 {
@@ -40,7 +34,7 @@ fn mark(body_islands: &mut [u16], a: u16, b: u16)
     body_islands[b as usize] = 0;
 }
 
-// One constraint is asked question 7; if it is live and passes, it marks its two bodies and joins them.
+// One constraint is asked question 7; if it is live and passes, it constrains its two bodies and joins them.
 fn join_one(
     body_types: &[u8],
     parents: &mut [u16],
@@ -50,7 +44,7 @@ fn join_one(
     b: u16,
 ) -> bool
     requires { ⌜ Fit (now «body_types») (now parents) (now «body_islands») ⌝ }
-    ensures { λ r. ⌜ Tried (now («body_types» .entry)) (constraint live a b ∷ []) (now (parents .entry)) (now («body_islands» .entry)) (now (parents .exit)) (now («body_islands» .exit)) r ⌝ }
+    ensures { λ r. ⌜ JoinedOrRefused (now («body_types» .entry)) (constraint live a b ∷ []) (now (parents .entry)) (now («body_islands» .entry)) (now (parents .exit)) (now («body_islands» .exit)) r ⌝ }
 {
     if !frame::sound_one(body_types.len(), live, a, b) {
         return false;
@@ -58,7 +52,7 @@ fn join_one(
     if !live {
         return true;
     }
-    mark(body_islands, a, b);
+    constrain(body_islands, a, b);
     join_dynamic(body_types, parents, a, b);
     true
 }
@@ -72,11 +66,12 @@ fn join_all(
     body_islands: &mut [u16],
 ) -> bool
     requires { ⌜ Fit (now «body_types») (now parents) (now «body_islands») ⌝ }
-    ensures { λ r. ⌜ Tried (now («body_types» .entry)) (constraintsOf (now (pairs .entry)) (now (enabled .entry)))
+    ensures { λ r. ⌜ JoinedOrRefused (now («body_types» .entry)) (constraintsOf (now (pairs .entry)) (now (enabled .entry)))
         (now (parents .entry)) (now («body_islands» .entry)) (now (parents .exit)) (now («body_islands» .exit)) r ⌝ }
 {
     let mut k: usize = 0;
     let mut i: usize = 0;
+    // The first i constraints, up to entry k, passed question 7 and are joined.
     while k + 1 < pairs.len() {
         let live = frame::live_at(enabled, i);
         if !join_one(
@@ -105,7 +100,7 @@ pub fn join_frame(
     body_islands: &mut [u16],
 ) -> bool
     requires { ⌜ Fit (now «body_types») (now parents) (now «body_islands») ⌝ }
-    ensures { λ r. ⌜ Tried (now («body_types» .entry)) (constraints (frameOf (now («body_types» .entry)) (now (manifolds .entry)) (now (joints .entry)) (now (enabled .entry))))
+    ensures { λ r. ⌜ JoinedOrRefused (now («body_types» .entry)) (constraints (frameOf (now («body_types» .entry)) (now (manifolds .entry)) (now (joints .entry)) (now (enabled .entry))))
         (now (parents .entry)) (now («body_islands» .entry)) (now (parents .exit)) (now («body_islands» .exit)) r ⌝ }
 {
     if !join_all(body_types, manifolds, &enabled[..0], parents, body_islands) {

@@ -1,5 +1,5 @@
 -- The numbering of the islands. Bodies come in rising order, and a body's parent is lower unless it is itself the lowest of its set:
--- so a marked body that is its own parent starts the next island, and any other finds its island's number at its parent.
+-- so a constrained body that is its own parent starts the next island, and any other finds its island's number at its parent.
 use Prim.Native.Nat.{ℕ, _+_, _≤_, _<_}
 use native.Mathlib.Omega.{arith}
 use native.Mathlib.Decide.{ℕ-discrete, decLt}
@@ -19,13 +19,13 @@ use Rattle.lists.proofs.Bits.{one-le, one-true}
 use Rattle.frame.specs.Frames.{dynamic, none}
 use Rattle.island_sets.specs.Sets.{rootOf, Falls}
 use Rattle.island_sets.proofs.Roots.{read-le, read-root, read-here, root-le, root-root}
-use Rattle.island_labels.specs.Labels.{bare, Fit, marked, leadsBy, Together, LeadersFlagged, own, Stepped, Numbered}
+use Rattle.island_labels.specs.Labels.{bare, Fit, inIslandBy, leadsBy, Together, LeadersFlagged, own, Stepped, Numbered}
 
 -- ---- the flags, at body b: l₀ at the start, l as it is
 pub record Flagging (ts p l₀ l : List ℕ) (b : ℕ) : Type 0 where
   pub inside : b ≤ length ts
   pub long : length l ≡ length l₀
-  pub done : (x : ℕ) → x < b → getD l x 0 ≡ one (leadsBy (marked ts l₀) (rootOf p) x)
+  pub done : (x : ℕ) → x < b → getD l x 0 ≡ one (leadsBy (inIslandBy ts l₀) (rootOf p) x)
   pub todo : (x : ℕ) → b ≤ x → getD l x none ≡ getD l₀ x none
 
 pub flagging-starts : (ts p l : List ℕ) → Flagging ts p l l 0
@@ -39,9 +39,9 @@ module _ (ts p l₀ l : List ℕ) (b : ℕ) (w : Flagging ts p l₀ l b) (fit : 
   abbrev test : Bool
   test = eqb (getD ts b 0) 2 && not (eqb (getD l b 0) none)
 
-  marked-here : test ≡ marked ts l₀ b
+  in-island-here : test ≡ inIslandBy ts l₀ b
   unfolding dynamic
-  marked-here = ap (λ (v : ℕ). eqb (getD ts b 0) 2 && not (eqb v none)) (getD-any l b 0 none (omega (arith, w .long)) ∙ w .todo b (le-refl b))
+  in-island-here = ap (λ (v : ℕ). eqb (getD ts b 0) 2 && not (eqb v none)) (getD-any l b 0 none (omega (arith, w .long)) ∙ w .todo b (le-refl b))
 
   fixed-here : Dec (getD p b 0 ≡ b) → eqb (getD p b 0) b ≡ eqb (rootOf p b) b
   fixed-here (yes e) = eq-eqb (getD p b 0) b e ∙ sym (eq-eqb (rootOf p b) b (read-here p b in-p e))
@@ -49,8 +49,8 @@ module _ (ts p l₀ l : List ℕ) (b : ℕ) (w : Flagging ts p l₀ l b) (fit : 
       let r : rootOf p b ≡ b → ⊥ = λ q. omega (arith, read-le p (fit .falls) b in-p, e, q, read-root p (fit .falls) b in-p, root-le p (fit .falls) (getD p b 0)) in
       ne-eqb (getD p b 0) b e ∙ sym (ne-eqb (rootOf p b) b r)
 
-  leads-here : (test && eqb (getD p b 0) b) ≡ leadsBy (marked ts l₀) (rootOf p) b
-  leads-here = ap (λ (t : Bool). t && eqb (getD p b 0) b) marked-here ∙ ap (λ (t : Bool). marked ts l₀ b && t) (fixed-here (ℕ-discrete (getD p b 0) b))
+  leads-here : (test && eqb (getD p b 0) b) ≡ leadsBy (inIslandBy ts l₀) (rootOf p) b
+  leads-here = ap (λ (t : Bool). t && eqb (getD p b 0) b) in-island-here ∙ ap (λ (t : Bool). inIslandBy ts l₀ b && t) (fixed-here (ℕ-discrete (getD p b 0) b))
 
   pub flagging-turns : (f : ℕ) → f ≡ one (test && eqb (getD p b 0) b) → Flagging ts p l₀ (set l b f) (b + 1)
   flagging-turns f e = record {
@@ -60,11 +60,11 @@ module _ (ts p l₀ l : List ℕ) (b : ℕ) (w : Flagging ts p l₀ l b) (fit : 
     todo = λ x j. getD-set-other l b x f none (λ q. omega (arith, q, j)) ∙ w .todo x (omega (arith, j));
   }
     where
-      at : (x : ℕ) → x < b + 1 → Dec (x ≡ b) → getD (set l b f) x 0 ≡ one (leadsBy (marked ts l₀) (rootOf p) x)
-      at x j (yes q) = subst (λ (y : ℕ). getD (set l b f) y 0 ≡ one (leadsBy (marked ts l₀) (rootOf p) y)) (sym q) (getD-set-same l b f 0 (omega (arith, w .long)) ∙ e ∙ ap one leads-here)
+      at : (x : ℕ) → x < b + 1 → Dec (x ≡ b) → getD (set l b f) x 0 ≡ one (leadsBy (inIslandBy ts l₀) (rootOf p) x)
+      at x j (yes q) = subst (λ (y : ℕ). getD (set l b f) y 0 ≡ one (leadsBy (inIslandBy ts l₀) (rootOf p) y)) (sym q) (getD-set-same l b f 0 (omega (arith, w .long)) ∙ e ∙ ap one leads-here)
       at x j (no q) = getD-set-other l b x f 0 q ∙ w .done x (omega (arith, q, j))
 
-pub flagging-ends : (ts p l₀ l : List ℕ) (b : ℕ) → Flagging ts p l₀ l b → length l₀ ≡ length ts → length l ≤ b → LeadersFlagged (marked ts l₀) (rootOf p) (length ts) l
+pub flagging-ends : (ts p l₀ l : List ℕ) (b : ℕ) → Flagging ts p l₀ l b → length l₀ ≡ length ts → length l ≤ b → LeadersFlagged (inIslandBy ts l₀) (rootOf p) (length ts) l
 flagging-ends ts p l₀ l b w el h = record { flags = λ x k. w .done x (omega (arith, w .long, k)) }
 
 -- ---- the numbers, at body b: f has the flags, l as it is, with n islands so far
@@ -141,31 +141,31 @@ module _ (p f l : List ℕ) (n b : ℕ) (w : Numbering p f l n b) (h : Falls p) 
           subst (λ (y : ℕ). getD (set (own l b n) b new) y none ≡ numberOf p f y) (sym q) (getD-set-same (own l b n) b new none in-own ∙ parent-has (ℕ-discrete (getD p b 0) b))
       at x j (no q) = kept x none q ∙ w .done x (omega (arith, q, j))
 
--- ---- flags of the marked bodies that lead: a body is marked if its root is, so its number is its island's
-module _ (ts p l₀ f : List ℕ) (fit : Fit ts p l₀) (w : LeadersFlagged (marked ts l₀) (rootOf p) (length ts) f) where
+-- ---- flags of the constrained bodies that lead: a body is constrained if its root is, so its number is its island's
+module _ (ts p l₀ f : List ℕ) (fit : Fit ts p l₀) (w : LeadersFlagged (inIslandBy ts l₀) (rootOf p) (length ts) f) where
   pub flag-le : (x : ℕ) → x < length ts → getD f x 0 ≤ 1
-  flag-le x k = omega (arith, w .flags x k, one-le (leadsBy (marked ts l₀) (rootOf p) x))
+  flag-le x k = omega (arith, w .flags x k, one-le (leadsBy (inIslandBy ts l₀) (rootOf p) x))
 
-  module _ (same : Together (marked ts l₀) (rootOf p)) (size : length f ≡ length l₀) where
-    unmarked : (x : ℕ) → length ts ≤ x → marked ts l₀ x ≡ false
-    unmarked x k = ap (λ (v : ℕ). dynamic (bare ts) x && not (eqb v none)) (List·getD-eq-default l₀ none (omega (arith, k, fit .long-bodies))) ∙ and-false (dynamic (bare ts) x)
+  module _ (same : Together (inIslandBy ts l₀) (rootOf p)) (size : length f ≡ length l₀) where
+    not-in-island : (x : ℕ) → length ts ≤ x → inIslandBy ts l₀ x ≡ false
+    not-in-island x k = ap (λ (v : ℕ). dynamic (bare ts) x && not (eqb v none)) (List·getD-eq-default l₀ none (omega (arith, k, fit .long-bodies))) ∙ and-false (dynamic (bare ts) x)
 
-    leaders-are : leader f ≡ leadsBy (marked ts l₀) (rootOf p)
+    leaders-are : leader f ≡ leadsBy (inIslandBy ts l₀) (rootOf p)
     leaders-are = fun-ext (λ x. go x (decLt x (length ts)))
       where
-        go : (x : ℕ) → Dec (x < length ts) → leader f x ≡ leadsBy (marked ts l₀) (rootOf p) x
-        go x (yes k) = ap (λ (v : ℕ). eqb v 1) (w .flags x k) ∙ one-true (leadsBy (marked ts l₀) (rootOf p) x)
+        go : (x : ℕ) → Dec (x < length ts) → leader f x ≡ leadsBy (inIslandBy ts l₀) (rootOf p) x
+        go x (yes k) = ap (λ (v : ℕ). eqb v 1) (w .flags x k) ∙ one-true (leadsBy (inIslandBy ts l₀) (rootOf p) x)
         go x (no k) =
             ap (λ (v : ℕ). eqb v 1) (List·getD-eq-default f 0 (omega (arith, k, size, fit .long-bodies)))
-            ∙ sym (ap (λ (t : Bool). t && eqb (rootOf p x) x) (unmarked x (omega (arith, k))))
+            ∙ sym (ap (λ (t : Bool). t && eqb (rootOf p x) x) (not-in-island x (omega (arith, k))))
 
-    root-leads : (x : ℕ) → leadsBy (marked ts l₀) (rootOf p) (rootOf p x) ≡ marked ts l₀ x
+    root-leads : (x : ℕ) → leadsBy (inIslandBy ts l₀) (rootOf p) (rootOf p x) ≡ inIslandBy ts l₀ x
     unfolding Together
     root-leads x =
         let r = root-root p (fit .falls) x in
-        ap (λ (t : Bool). marked ts l₀ (rootOf p x) && t) (eq-eqb (rootOf p (rootOf p x)) (rootOf p x) r) ∙ and-true (marked ts l₀ (rootOf p x)) ∙ same (rootOf p x) x r
+        ap (λ (t : Bool). inIslandBy ts l₀ (rootOf p x) && t) (eq-eqb (rootOf p (rootOf p x)) (rootOf p x) r) ∙ and-true (inIslandBy ts l₀ (rootOf p x)) ∙ same (rootOf p x) x r
 
-    pub numbering-ends : (l : List ℕ) (n b : ℕ) → Numbering p f l n b → length l ≤ b → Numbered (marked ts l₀) (rootOf p) (length ts) n l
+    pub numbering-ends : (l : List ℕ) (n b : ℕ) → Numbering p f l n b → length l ≤ b → Numbered (inIslandBy ts l₀) (rootOf p) (length ts) n l
     numbering-ends l n b v h = record {
       islands-are = v .islands ∙ ap (λ (x : ℕ). count (leader f) (range x)) e ∙ ap (λ (g : ℕ → Bool). count g (range (length ts))) leaders-are;
       labels-are = λ x. go x (decLt x b);
@@ -174,11 +174,11 @@ module _ (ts p l₀ f : List ℕ) (fit : Fit ts p l₀) (w : LeadersFlagged (mar
         e : b ≡ length ts
         e = omega (arith, h, size, v .long, v .inside, fit .long-parents, fit .long-bodies)
 
-        go : (x : ℕ) → Dec (x < b) → getD l x none ≡ cond (marked ts l₀ x) (count (leadsBy (marked ts l₀) (rootOf p)) (range (rootOf p x))) none
+        go : (x : ℕ) → Dec (x < b) → getD l x none ≡ cond (inIslandBy ts l₀ x) (count (leadsBy (inIslandBy ts l₀) (rootOf p)) (range (rootOf p x))) none
         go x (yes k) =
             v .done x k
             ∙ ap (λ (g : ℕ → Bool). cond (g (rootOf p x)) (count g (range (rootOf p x))) none) leaders-are
-            ∙ ap (λ (t : Bool). cond t (count (leadsBy (marked ts l₀) (rootOf p)) (range (rootOf p x))) none) (root-leads x)
+            ∙ ap (λ (t : Bool). cond t (count (leadsBy (inIslandBy ts l₀) (rootOf p)) (range (rootOf p x))) none) (root-leads x)
         go x (no k) =
             List·getD-eq-default l none (omega (arith, k, h))
-            ∙ sym (ap (λ (t : Bool). cond t (count (leadsBy (marked ts l₀) (rootOf p)) (range (rootOf p x))) none) (unmarked x (omega (arith, k, e))))
+            ∙ sym (ap (λ (t : Bool). cond t (count (leadsBy (inIslandBy ts l₀) (rootOf p)) (range (rootOf p x))) none) (not-in-island x (omega (arith, k, e))))

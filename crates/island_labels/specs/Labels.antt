@@ -21,15 +21,15 @@ pub record Fit (ts p l : List ℕ) : Type 0 where
 
 -- ---- numbering
 
--- a body is in an island: it is dynamic and marked
-abbrev pub marked : List ℕ → List ℕ → ℕ → Bool
-marked ts l x = dynamic (bare ts) x && not (eqb (getD l x none) none)
+-- a body is in an island: it is dynamic and constrained
+abbrev pub inIslandBy : List ℕ → List ℕ → ℕ → Bool
+inIslandBy ts l x = dynamic (bare ts) x && not (eqb (getD l x none) none)
 
 -- it is the lowest of its set
 abbrev pub leadsBy : (ℕ → Bool) → (ℕ → ℕ) → ℕ → Bool
 leadsBy m low x = m x && eqb (low x) x
 
--- bodies of one set are marked or not together
+-- bodies of one set are constrained or not together
 unfoldable pub Together : (ℕ → Bool) → (ℕ → ℕ) → Type 0
 Together m low = (x y : ℕ) → low x ≡ low y → m x ≡ m y
 
@@ -45,7 +45,7 @@ pub record Stepped (p l : List ℕ) (b n : ℕ) (l′ : List ℕ) (n′ : ℕ) :
   pub count : n′ ≡ n + getD l b 0
   pub labels : l′ ≡ set (own l b n) b (getD (own l b n) (getD p b 0) 0)
 
--- the marked bodies have the number of marked lowest bodies below their own, any other has none
+-- the constrained bodies have the number of constrained lowest bodies below their own, any other has none
 pub record Numbered (m : ℕ → Bool) (low : ℕ → ℕ) (size islands : ℕ) (l : List ℕ) : Type 0 where
   pub islands-are : islands ≡ count (leadsBy m low) (range size)
   pub labels-are : (x : ℕ) → getD l x none ≡ cond (m x) (count (leadsBy m low) (range (low x))) none

@@ -1,4 +1,4 @@
-// The labels of bodies and constraints, once the bodies are joined and marked. Internal: stages of an islands call.
+// The labels of bodies and constraints, once the constraints are joined. Internal: stages of an islands call.
 ghost use mathlib.Core.Path.{_≡_};
 ghost use mathlib.Core.Bool.{true, cond};
 ghost use mathlib.Core.List.{map};
@@ -7,7 +7,7 @@ ghost use lib.ListN.{length, getD};
 ghost use Rattle.lists.specs.Basics.{one, all};
 ghost use Rattle.frame.specs.Frames.{constraint, constraintsOf, sound};
 ghost use Rattle.island_sets.specs.Sets.{rootOf, Falls};
-ghost use Rattle.island_labels.specs.Labels.{Fit, marked, Together, LeadersFlagged, Stepped, Numbered, labelBy};
+ghost use Rattle.island_labels.specs.Labels.{Fit, inIslandBy, Together, LeadersFlagged, Stepped, Numbered, labelBy};
 
 // The label of what has no island.
 pub const NONE: u16 = 65535;
@@ -30,16 +30,17 @@ fn bit(test: bool) -> u16
     0
 }
 
-// 1 for each body that leads an island: it is dynamic, marked and its own parent. 0 for any other.
+// 1 for each body that leads an island: it is dynamic, constrained and its own parent. 0 for any other.
 fn flag_leaders(body_types: &[u8], parents: &[u16], body_islands: &mut [u16])
     requires { ⌜ Fit (now «body_types») (now parents) (now «body_islands») × (length (now «body_types») ≤ 4096) ⌝ }
-    ensures { λ _. ⌜ LeadersFlagged (marked (now («body_types» .entry)) (now («body_islands» .entry))) (rootOf (now (parents .entry)))
+    ensures { λ _. ⌜ LeadersFlagged (inIslandBy (now («body_types» .entry)) (now («body_islands» .entry))) (rootOf (now (parents .entry)))
         (length (now («body_types» .entry))) (now («body_islands» .exit)) ⌝ }
 {
     let mut body = 0;
+    // The bodies passed are flagged, and the others have the labels that they had.
     while body < body_islands.len() {
-        let marked = (body_types[body] == 2) & (body_islands[body] != NONE);
-        body_islands[body] = bit(marked & (parents[body] == body as u16));
+        let in_island = (body_types[body] == 2) & (body_islands[body] != NONE);
+        body_islands[body] = bit(in_island & (parents[body] == body as u16));
         body += 1;
     }
 }
@@ -57,17 +58,18 @@ fn number_one(parents: &[u16], body_islands: &mut [u16], body: usize, count: u16
     count + leads
 }
 
-// The marked dynamic bodies get their island's number, in rising order: a parent is lower, so it has its number already.
+// The constrained dynamic bodies get their island's number, in rising order: a parent is lower, so it has its number already.
 // Answers how many islands there are.
 pub fn number(body_types: &[u8], parents: &[u16], body_islands: &mut [u16]) -> u16
     requires { ⌜ Fit (now «body_types») (now parents) (now «body_islands») × (length (now «body_types») ≤ 4096)
-        × Together (marked (now «body_types») (now «body_islands»)) (rootOf (now parents)) ⌝ }
-    ensures { λ r. ⌜ Numbered (marked (now («body_types» .entry)) (now («body_islands» .entry))) (rootOf (now (parents .entry)))
+        × Together (inIslandBy (now «body_types») (now «body_islands»)) (rootOf (now parents)) ⌝ }
+    ensures { λ r. ⌜ Numbered (inIslandBy (now («body_types» .entry)) (now («body_islands» .entry))) (rootOf (now (parents .entry)))
         (length (now («body_types» .entry))) r (now («body_islands» .exit)) ⌝ }
 {
     flag_leaders(body_types, parents, body_islands);
     let mut islands: u16 = 0;
     let mut next = 0;
+    // The bodies below `next` have their labels, and `islands` of them lead; the others have their flags.
     while next < body_islands.len() {
         islands = number_one(parents, body_islands, next, islands);
         next += 1;
@@ -100,6 +102,7 @@ pub fn label_all(pairs: &[u16], enabled: &[u8], body_islands: &[u16], labels: &m
 {
     let mut k: usize = 0;
     let mut i: usize = 0;
+    // The first i constraints, up to entry k, have their labels.
     while k + 1 < pairs.len() {
         let live = frame::live_at(enabled, i);
         labels[i] = label_one(body_islands, live, pairs[k], pairs[k + 1]);

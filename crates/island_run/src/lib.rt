@@ -1,6 +1,7 @@
 // The islands of the run, internal: one after another, each with its part of the sorted constraint numbers.
 use turn_table::Tally;
 ghost use mathlib.Core.List.{_++_};
+ghost use Rattle.plan_questions.specs.Plans.{tablesOf};
 ghost use Rattle.colored_bodies.specs.Bindings.{Known};
 ghost use Rattle.turn_table.specs.Turns.{none, Room, Appended};
 ghost use Rattle.group_run.specs.Appends.{addedBy};
@@ -31,7 +32,11 @@ pub fn run_islands(
     constraint_body_positions: &mut [u16],
     turns: &mut [u16],
 ) -> Tally
-    requires { ⌜ Prepared islands (now flags) (now pairs) (now «manifold_islands» ++ now «joint_islands») (now numbers) (now «island_pairs») (record { dynamic-bodies = now «dynamic_bodies»; endpoints = now endpoints; body-offsets = now «body_offsets»; body-constraints = now «body_constraints»; scratch-offsets = now «scratch_offsets»; constraint-colors = now «constraint_colors»; color-stamps = now «color_stamps»; body-stamps = now «body_stamps»; color-offsets = now «color_offsets»; colored-constraints = now «colored_constraints»; color-body-offsets = now «color_body_offsets»; color-bodies = now «color_bodies»; constraint-body-positions = now «constraint_body_positions» }) ⌝ }
+    requires { ⌜ Prepared islands (now flags) (now pairs) (now «manifold_islands» ++ now «joint_islands») (now numbers) (now «island_pairs»)
+        (tablesOf (now «dynamic_bodies») (now endpoints) (now «body_offsets»)
+        (now «body_constraints») (now «scratch_offsets») (now «constraint_colors»)
+        (now «color_stamps») (now «body_stamps») (now «color_offsets»)
+        (now «colored_constraints») (now «color_body_offsets») (now «color_bodies») (now «constraint_body_positions»)) ⌝ }
     requires { ⌜ Room (addedBy (callsOf (now types) (now flags) (now pairs) (now «manifold_islands» ++ now «joint_islands») islands)) (now turns) none ⌝ }
     requires { ⌜ Known (now types) ⌝ }
     ensures { λ r. ⌜ Appended (addedBy (callsOf (now (types .entry)) (now (flags .entry)) (now (pairs .entry)) (now («manifold_islands» .entry) ++ now («joint_islands» .entry)) islands)) (now (turns .entry)) none (now (turns .exit)) r ⌝ }
@@ -39,6 +44,7 @@ pub fn run_islands(
     let mut tally = turn_table::no_turns();
     let mut start = 0;
     let mut island = 0;
+    // The islands below `island` are run, and the numbers of this one begin at `start`.
     while island < islands {
         let end = island_numbers::part_end(manifold_islands, joint_islands, numbers, island, start);
         tally = one_island::run_island(

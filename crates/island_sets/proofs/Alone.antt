@@ -1,20 +1,14 @@
 -- A table in which every body is its own parent: each body is its own root.
-use Prim.Native.Nat.{ℕ, suc, _+_, _-_, _<_}
+use Prim.Native.Nat.{ℕ, _<_}
 use native.Mathlib.Omega.{arith}
 use native.Mathlib.Decide.{decLt}
-use native.Mathlib.Numerals.{add-one}
 use mathlib.Core.Path.{_≡_, refl, _∙_}
-use mathlib.Core.List.{_∷_}
 use lib.ListN.{List·getD-eq-default}
-use Rattle.lists.specs.Basics.{rangeFrom, range}
+use Rattle.lists.specs.Basics.{range}
 use Rattle.lists.proofs.Laws.{length-range, getD-any}
 use Rattle.lists.proofs.Ranges.{range-at}
 use Rattle.island_sets.specs.Sets.{link, rootOf, Falls}
 use Rattle.island_sets.proofs.Roots.{roots-are}
-
--- the bodies still to come in a table of n places that is filled up to body i
-pub self-next : (n i : ℕ) → i < n → rangeFrom i (n - i) ≡ i ∷ rangeFrom (i + 1) (n - (i + 1))
-self-next n i h = let e : n - i ≡ suc (n - (i + 1)) = omega arith in rw (e, add-one)
 
 link-self : (n x : ℕ) → link (range n) x ≡ x
 link-self n x = go (decLt x n)

@@ -1,5 +1,6 @@
 // Sets of bodies by union-find: each body links to a body of its set that is not higher, and the links end at the lowest, the set's root.
-// Internal: what an islands call joins its bodies with.
+// Internal: what an islands call joins its bodies with. Lookups compress their way (Tarjan 1975); the lower root wins whatever the sizes of
+// the sets, so m lookups among B bodies follow at most some m log B links.
 ghost use mathlib.Core.Path.{_≡_};
 ghost use Prim.Native.Nat.{_<_, _≤_};
 ghost use lib.ListN.{length};
@@ -12,6 +13,7 @@ fn root_of(parents: &[u16], body: u16) -> u16
     ensures { λ r. ⌜ r ≡ rootOf (now (parents .entry)) body ⌝ }
 {
     let mut root = body;
+    // The links from `body` lead through `root`; none rises, so they end.
     loop {
         let parent = parents[root as usize];
         if parent == root {
@@ -28,6 +30,7 @@ fn compress(parents: &mut [u16], start: u16, root: u16)
     ensures { λ _. ⌜ Falls (now (parents .exit)) × (rootOf (now (parents .exit)) ≡ rootOf (now (parents .entry))) ⌝ }
 {
     let mut body = start;
+    // Every body has the root that it had; those on the way before `body` are linked to it.
     while body != root {
         let parent = parents[body as usize];
         parents[body as usize] = root;

@@ -45,6 +45,7 @@ fn number_at(text: &[u8], at: usize) -> Number
     let mut value = 0;
     let mut end = at;
     let mut read: usize = 0;
+    // `value` is the number of the first `read` digits, which end at `end`.
     while read < 19 {
         let byte = byte_at(text, end);
         if !is_digit(byte) {

@@ -15,7 +15,7 @@ use Rattle.lists.proofs.Puts.{put-first}
 use Rattle.generator.specs.declared.Generated.{Generated}
 use Rattle.generator.specs.declared.Generated.the-variants.{Frame, Refused}
 use Rattle.generator.specs.Draws.{generatedBytes}
-use Rattle.generator.specs.Calls.{generateRefusal, generatedNumber, generatedLength, CaseTold, Made}
+use Rattle.generator.specs.Calls.{generateRefusal, Makes}
 use Rattle.generator.proofs.Calls.{all-yes}
 use Rattle.generator.proofs.Lifts.{generated-long}
 use Rattle.lift_print.specs.Prints.{liftOf, Printed}
@@ -24,9 +24,10 @@ over-long : (text old new : List ℕ) → new ≡ over text old → length text 
 over-long text old new e h = ap length e ∙ length-append text (drop (length text) old) ∙ omega (arith, length-drop (length text) old)
 
 module _ (seed b m j : ℕ) (old new : List ℕ) (room : length old ≡ 40971) where
-  frame-printed : (n : ℕ) → Made seed b m j old new (generatedNumber (Frame n)) (generatedLength (Frame n)) → Printed (liftOf seed b m j) old new n
+  frame-printed : (n : ℕ) → Makes seed b m j old new (Frame n) → Printed (liftOf seed b m j) old new n
   unfolding liftOf
-  frame-printed n made =
+  frame-printed n makes =
+      let made = makes .made in
       let none : generateRefusal b m j 40971 ≡ 0 = ap (generateRefusal b m j) (sym room) ∙ sym (made .refusal) in
       let yes = all-yes b m j 40971 none in
       let size : length (generatedBytes seed b m j) ≡ fileLength b m j = generated-long seed b m j (yes .0) (yes .1) in
@@ -37,11 +38,12 @@ module _ (seed b m j : ℕ) (old new : List ℕ) (room : length old ≡ 40971) w
         as-long = made .as-long ∙ rw (room, none) (sym size);
       }
 
-  refusal-printed : (k : ℕ) (out : List ℕ) (r : ℕ) → Made seed b m j old new (generatedNumber (Refused k)) (generatedLength (Refused k)) → CaseTold (Refused k)
+  refusal-printed : (k : ℕ) (out : List ℕ) (r : ℕ) → Makes seed b m j old new (Refused k)
       → Put (ifRoom (length new) 0 (refusalLine k)) new 0 out r → Printed (liftOf seed b m j) old out r
   unfolding liftOf ifRoom
-  refusal-printed k out r made told put′ =
-      let some : eqb k 0 ≡ false = not-true (eqb k 0) (sym told) in
+  refusal-printed k out r makes put′ =
+      let made = makes .made in
+      let some : eqb k 0 ≡ false = ap (λ (n : ℕ). eqb n 0) (made .refusal) ∙ not-true _ (sym (makes .refused)) in
       let is : generateRefusal b m j 40971 ≡ k = ap (generateRefusal b m j) (sym room) ∙ sym (made .refusal) in
       let kept : new ≡ old = made .bytes ∙ rw (room, is, some) in
       let fits : leb (0 + longest) (length new) ≡ true = le-leb (0 + longest) (length new) (omega (arith, ap length kept, room)) in
@@ -54,12 +56,9 @@ module _ (seed b m j : ℕ) (old new : List ℕ) (room : length old ≡ 40971) w
       }
 
 -- the same, as the code finds the answer
-module _ (seed b m j : ℕ) (old new : List ℕ) (room : length old ≡ 40971) (g : Generated) (made : Made seed b m j old new (generatedNumber g) (generatedLength g) × CaseTold g) where
-  abbrev As : Generated → Type 0
-  As a = Made seed b m j old new (generatedNumber a) (generatedLength a) × CaseTold a
-
+module _ (seed b m j : ℕ) (old new : List ℕ) (room : length old ≡ 40971) (g : Generated) (makes : Makes seed b m j old new g) where
   pub made-printed : (n : ℕ) → g ≡ Frame n → Printed (liftOf seed b m j) old new n
-  made-printed n e = frame-printed seed b m j old new room n (subst As e made .0)
+  made-printed n e = frame-printed seed b m j old new room n (subst (Makes seed b m j old new) e makes)
 
   pub refused-printed : (k : ℕ) (out : List ℕ) (r : ℕ) → g ≡ Refused k → Put (ifRoom (length new) 0 (refusalLine k)) new 0 out r → Printed (liftOf seed b m j) old out r
-  refused-printed k out r e = let told = subst As e made in refusal-printed seed b m j old new room k out r (told .0) (told .1)
+  refused-printed k out r e = refusal-printed seed b m j old new room k out r (subst (Makes seed b m j old new) e makes)

@@ -36,12 +36,6 @@ pub one-true : (b : Bool) → eqb (one b) 1 ≡ b
 one-true true = refl
 one-true false = refl
 
-pub or-one : (a b : Bool) → cond b 1 (one a) ≡ one (a || b)
-or-one true true = refl
-or-one true false = refl
-or-one false true = refl
-or-one false false = refl
-
 pub one-le : (b : Bool) → one b ≤ 1
 one-le true = omega arith
 one-le false = omega arith

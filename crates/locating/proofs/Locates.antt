@@ -16,14 +16,14 @@ use Rattle.lists.proofs.Ranges.{all-joinMap}
 use Rattle.parts.specs.Parts.{partAt, Present}
 use Rattle.parts.specs.Steps.{startAt}
 use Rattle.parts.proofs.Gapless.{written, written-long, part-inside, part-written, part-kept}
-use Rattle.locating.specs.Locates.{Laid, MembersLocated}
+use Rattle.locating.specs.Locates.{Arranged, MembersLocated}
 
 -- ---- the first i members are located
 pub record Locating (bounds es ms bodies positions₀ table : List ℕ) (i : ℕ) : Type 0 where
   pub inside : i ≤ length ms
   pub size : length table ≡ length positions₀
   pub done : (r : ℕ) → mem r (take i ms) ≡ true → partAt bounds table r ≡ map (λ b. place b bodies) (partAt bounds es r)
-  pub kept : (w : Laid bounds es ms positions₀) (r : ℕ) → r < w .many → mem r (take i ms) ≡ false → partAt bounds table r ≡ partAt bounds positions₀ r
+  pub kept : (w : Arranged bounds es ms positions₀) (r : ℕ) → r < w .many → mem r (take i ms) ≡ false → partAt bounds table r ≡ partAt bounds positions₀ r
 
 pub locating-none : (bounds es ms bodies positions₀ : List ℕ) → Locating bounds es ms bodies positions₀ positions₀ 0
 locating-none bounds es ms bodies positions₀ = record { inside = omega arith; size = refl; done = λ r m. clashes false m refl; kept = λ w r h m. refl }
@@ -33,7 +33,7 @@ locating-done {ms} {i} v h =
     let e : take i ms ≡ ms = take-all i ms h in
     record { done = rw e at (v .done); kept = rw e at (v .kept) }
 
-module _ {bounds es ms positions₀ : List ℕ} (w : Laid bounds es ms positions₀) where
+module _ {bounds es ms positions₀ : List ℕ} (w : Arranged bounds es ms positions₀) where
   member-low : (r : ℕ) → mem r ms ≡ true → r < w .many
   member-low r m = ltb-true r (w .many) (all-in (λ r. ltb r (w .many)) r ms m (w .below))
 

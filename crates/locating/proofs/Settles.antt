@@ -19,7 +19,7 @@ use Rattle.parts.specs.Steps.{Gapless}
 use Rattle.parts.proofs.Parts.{parts-at}
 use Rattle.parts.proofs.Gapless.{parts-whole}
 use Rattle.parts.proofs.Groups.{group-cut, group-is}
-use Rattle.locating.specs.Locates.{Locatable, Laid, Findable, MembersLocated}
+use Rattle.locating.specs.Locates.{Locatable, Arranged, Findable, MembersLocated}
 
 -- a group's bodies have all endpoints of its constraints
 bodies-all : (nb : ℕ) (cs : List (List ℕ)) (colors : List ℕ) (k : ℕ) → all (λ bs. all (λ b. ltb b nb) bs) cs ≡ true → (r : ℕ) → mem r (members colors k) ≡ true → all (λ b. mem b (groupBodies nb cs colors k)) (getD cs r []) ≡ true
@@ -64,8 +64,8 @@ module _ {nb n : ℕ} {bounds es colors offsets constraints starts bodies places
       (v .size ∙ w .2)
 
   module _ (h : k < n) {ms bs : List ℕ} (m : ms ≡ cut constraints offsets k (k + 1)) (b : bs ≡ cut bodies starts k (k + 1)) where
-    pub group-laid : Laid bounds es ms table
-    group-laid =
+    pub group-arranged : Arranged bounds es ms table
+    group-arranged =
         record {
           many = length colors;
           few = p .few;
@@ -92,7 +92,7 @@ module _ {nb n : ℕ} {bounds es colors offsets constraints starts bodies places
     group-low = rw (bodies-are p k h b) (bodies-exist nb (partsAt (length colors) bounds es) colors k (length places) (omega (arith, v .places-size, p .by-body)))
 
     pub settling-more : {places′ table′ : List ℕ} → length places′ ≡ length places → length table′ ≡ length table → MembersLocated bounds es ms bs table table′ → Settling nb bounds es colors n places₀ positions₀ places′ table′ (k + 1)
-    unfolding positions group-laid
+    unfolding positions group-arranged
     settling-more lp lt u =
         record {
           inside = omega arith;
@@ -107,5 +107,5 @@ module _ {nb n : ℕ} {bounds es colors offsets constraints starts bodies places
               (λ e.
               let q : k ≡ getD colors r 0 → ⊥ = eqb-false k (getD colors r 0) e in
               let l : getD colors r 0 < k = omega (arith, q) in
-              u .kept group-laid r i (rw (members-are p k h m) (member-at colors k r i ∙ e)) ∙ v .located r i l);
+              u .kept group-arranged r i (rw (members-are p k h m) (member-at colors k r i ∙ e)) ∙ v .located r i l);
         }

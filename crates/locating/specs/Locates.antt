@@ -23,7 +23,7 @@ pub record Locatable (body-count : ℕ) (cs : List (List ℕ)) (colors : List �
   pub by-body : body-count ≤ length places
 
 -- a number of constraints whose endpoints fill the list, with a position for each endpoint; the constraints ms are among them
-pub record Laid (bounds es ms positions : List ℕ) : Type 0 where
+pub record Arranged (bounds es ms positions : List ℕ) : Type 0 where
   pub many : ℕ
   pub few : many ≤ 8192
   pub bounded : Bounded many bounds es
@@ -49,4 +49,4 @@ pub record PlacesKnown (bodies places : List ℕ) : Type 0 where
 -- the constraints ms have the positions of their endpoints among the bodies, and the others keep theirs
 pub record MembersLocated (bounds es ms bodies positions positions′ : List ℕ) : Type 0 where
   pub done : (r : ℕ) → mem r ms ≡ true → partAt bounds positions′ r ≡ map (λ b. place b bodies) (partAt bounds es r)
-  pub kept : (w : Laid bounds es ms positions) (r : ℕ) → r < w .many → mem r ms ≡ false → partAt bounds positions′ r ≡ partAt bounds positions r
+  pub kept : (w : Arranged bounds es ms positions) (r : ℕ) → r < w .many → mem r ms ≡ false → partAt bounds positions′ r ≡ partAt bounds positions r

@@ -10,7 +10,7 @@ ghost use Rattle.lists.specs.Basics.{all, mem, place, rises, joinMap};
 ghost use Rattle.groups.specs.Groups.{positions, flatten};
 ghost use Rattle.parts.specs.Parts.{partAt, partsAt, Bounded};
 ghost use Rattle.parts.specs.Steps.{Gapless};
-ghost use Rattle.locating.specs.Locates.{Locatable, Laid, Findable, PlacesListed, PlacesKnown, MembersLocated};
+ghost use Rattle.locating.specs.Locates.{Locatable, Arranged, Findable, PlacesListed, PlacesKnown, MembersLocated};
 
 // In a list of this many bodies or fewer a place is searched; of a longer one it is read from the table of places.
 const FEW: usize = 4;
@@ -21,6 +21,7 @@ fn list_places(bodies: &[u16], places: &mut [u16])
     ensures { λ _. ⌜ PlacesListed (now (bodies .entry)) (now (places .exit)) ⌝ }
 {
     let mut i = 0;
+    // The first i bodies have their places.
     while i < bodies.len() {
         let body = bodies[i] as usize;
         places[body] = i as u16;
@@ -45,6 +46,7 @@ fn locate_part(ends: &[u16], bodies: &[u16], places: &[u16], positions: &mut [u1
     ensures { λ _. ⌜ now (positions .exit) ≡ map (λ b. place b (now (bodies .entry))) (now (ends .entry)) ⌝ }
 {
     let mut i = 0;
+    // The first i positions are found.
     while i < ends.len() {
         positions[i] = place_of(bodies, places, ends[i]);
         i += 1;
@@ -60,7 +62,7 @@ fn locate_members(
     places: &mut [u16],
     constraint_body_positions: &mut [u16],
 )
-    requires { ⌜ Laid (now bounds) (now endpoints) (now members) (now «constraint_body_positions») ⌝ }
+    requires { ⌜ Arranged (now bounds) (now endpoints) (now members) (now «constraint_body_positions») ⌝ }
     requires { ⌜ Findable (joinMap (partAt (now bounds) (now endpoints)) (now members)) (now bodies) × (all (λ b. ltb b (length (now places))) (now bodies) ≡ true) ⌝ }
     ensures { λ _. ⌜ MembersLocated (now (bounds .entry)) (now (endpoints .entry)) (now (members .entry)) (now (bodies .entry)) (now («constraint_body_positions» .entry)) (now («constraint_body_positions» .exit)) ⌝ }
 {
@@ -68,6 +70,7 @@ fn locate_members(
         list_places(bodies, places);
     }
     let mut i = 0;
+    // The first i members have their positions, and the others what they had.
     while i < members.len() {
         let member = members[i] as usize;
         let ends = parts::part(endpoints, bounds, member);
@@ -102,6 +105,7 @@ pub fn locate(
     ensures { λ _. ⌜ now («constraint_body_positions» .exit) ≡ flatten (positions «body_count» (partsAt (length (now («constraint_colors» .entry))) (now (bounds .entry)) (now (endpoints .entry))) (now («constraint_colors» .entry))) (length (now («constraint_colors» .entry))) ⌝ }
 {
     let mut color = 0;
+    // The members of the groups below `color` have their positions.
     while color < color_count {
         let members = parts::between(colored_constraints, color_offsets, color, color + 1);
         let bodies = parts::between(color_bodies, color_body_offsets, color, color + 1);

@@ -38,7 +38,7 @@ same-plan-calls flags pairs p q lp lq types ns i =
 
 module _ (types flags pairs ns old : List ℕ) (i : ℕ) (t u : Tables) (plan new : ConstraintColoring) (r : Update) (island-pairs : List ℕ)
     (ready : Ready flags pairs ns old t) (collected : island-pairs ≡ pairsAmong pairs ns) (long : length island-pairs ≡ length old)
-    (is-new : new ≡ freshPlan) (updated : Updated new flags island-pairs t u r) (is-plan : plan ≡ planAfter freshPlan r) where
+    (is-new : new ≡ freshPlan) (updated : Updated new flags island-pairs t u r) (is-plan : plan ≡ planAfter new r) where
   accepted : refusalWith t flags island-pairs ≡ 0
   unfolding refusalWith
   accepted =
@@ -55,7 +55,7 @@ module _ (types flags pairs ns old : List ℕ) (i : ℕ) (t u : Tables) (plan ne
   unfolding membersIn bodiesIn takeRank
   lookups =
       let l = updated-lookups flags island-pairs t u r accepted fresh-updated in
-      rw is-plan (record { groups = l .groups; members = l .members; bodies = l .bodies; takes = l .takes })
+      rw (is-plan, is-new) (record { groups = l .groups; members = l .members; bodies = l .bodies; takes = l .takes })
 
   few : length (pairsOf island-pairs) ≤ 8192
   few = few-pairs flags island-pairs t u r accepted fresh-updated

@@ -1,24 +1,11 @@
 // One island of the run, internal: its constraints are colored on a fresh plan and its groups taken in order.
 use constraint_coloring::ConstraintColoring;
-use constraint_coloring::Update;
 use turn_table::Tally;
-ghost use mathlib.Core.Path.{_≡_};
-ghost use Rattle.constraint_coloring.specs.Calls.{freshPlan, planAfter};
+ghost use Rattle.plan_questions.specs.Plans.{tablesOf};
 ghost use Rattle.colored_bodies.specs.Bindings.{Known};
 ghost use Rattle.turn_table.specs.Turns.{Room, Appended};
 ghost use Rattle.group_run.specs.Appends.{addedBy};
 ghost use Rattle.one_island.specs.Island.{islandCalls, Ready};
-
-// The plan after an update of a fresh plan.
-fn plan_of(answer: Update) -> ConstraintColoring
-    ensures { λ r. ⌜ r ≡ planAfter freshPlan answer ⌝ }
-{
-    match answer {
-        Update::Changed(plan) => plan,
-        Update::Unchanged => ConstraintColoring::new(),
-        Update::Refused(_) => ConstraintColoring::new(),
-    }
-}
 
 // One island, whose constraints are `numbers`. The tables of the plan and `island_pairs` are free.
 pub fn run_island(
@@ -44,13 +31,18 @@ pub fn run_island(
     turns: &mut [u16],
     tally: Tally,
 ) -> Tally
-    requires { ⌜ Ready (now flags) (now pairs) (now numbers) (now «island_pairs») (record { dynamic-bodies = now «dynamic_bodies»; endpoints = now endpoints; body-offsets = now «body_offsets»; body-constraints = now «body_constraints»; scratch-offsets = now «scratch_offsets»; constraint-colors = now «constraint_colors»; color-stamps = now «color_stamps»; body-stamps = now «body_stamps»; color-offsets = now «color_offsets»; colored-constraints = now «colored_constraints»; color-body-offsets = now «color_body_offsets»; color-bodies = now «color_bodies»; constraint-body-positions = now «constraint_body_positions» }) ⌝ }
+    requires { ⌜ Ready (now flags) (now pairs) (now numbers) (now «island_pairs»)
+        (tablesOf (now «dynamic_bodies») (now endpoints) (now «body_offsets»)
+        (now «body_constraints») (now «scratch_offsets») (now «constraint_colors»)
+        (now «color_stamps») (now «body_stamps») (now «color_offsets»)
+        (now «colored_constraints») (now «color_body_offsets») (now «color_bodies») (now «constraint_body_positions»)) ⌝ }
     requires { ⌜ Room (addedBy (islandCalls (now types) (now flags) (now pairs) island (now numbers))) (now turns) tally ⌝ }
     requires { ⌜ Known (now types) ⌝ }
     ensures { λ r. ⌜ Appended (addedBy (islandCalls (now (types .entry)) (now (flags .entry)) (now (pairs .entry)) island (now (numbers .entry)))) (now (turns .entry)) tally (now (turns .exit)) r ⌝ }
 {
     island_numbers::collect_pairs(pairs, numbers, island_pairs);
-    let answer = ConstraintColoring::new().update(
+    let fresh = ConstraintColoring::new();
+    let answer = fresh.update(
         flags,
         island_pairs,
         dynamic_bodies,
@@ -67,7 +59,7 @@ pub fn run_island(
         color_bodies,
         constraint_body_positions,
     );
-    let plan = plan_of(answer);
+    let plan = constraint_coloring::plan_after(fresh, answer);
     group_run::run_groups(
         island,
         numbers,

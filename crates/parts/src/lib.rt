@@ -1,6 +1,6 @@
 // Internal: the endpoints of a constraint are a part of the endpoint list, and a group is a part of its table. The stages of an update
 // read both here, so that they need not know how many endpoints a constraint has.
-ghost use Prim.Native.Nat.{_*_, _≤_, _<_, max};
+ghost use Prim.Native.Nat.{_*_, _≤_, _<_};
 ghost use mathlib.Core.Path.{_≡_};
 ghost use lib.ListN.{length};
 ghost use Rattle.parts.specs.Parts.{cut, Cut, Present, partAt};
@@ -38,12 +38,6 @@ pub fn start(bounds: &[u16], constraint: usize) -> usize
     bounds[2 * constraint] as usize
 }
 
-fn larger(a: usize, b: usize) -> usize
-    ensures { λ r. ⌜ r ≡ max a b ⌝ }
-{
-    if a < b { b } else { a }
-}
-
 // The size of the largest part that lies between two bounds next to each other.
 pub fn largest_part(bounds: &[u16]) -> usize
     requires { ⌜ Ordered (now bounds) ⌝ }
@@ -51,10 +45,11 @@ pub fn largest_part(bounds: &[u16]) -> usize
 {
     let mut largest = 0;
     let mut end: usize = 1;
+    // `largest` is the size of the largest part that ends before `end`.
     while end < bounds.len() {
-        let size = bounds[end] as usize - bounds[end - 1] as usize;
-        largest = larger(largest, size);
+        let size = bounds[end] - bounds[end - 1];
+        largest = tables::larger(largest, size);
         end += 1;
     }
-    largest
+    largest as usize
 }

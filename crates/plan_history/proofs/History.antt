@@ -9,9 +9,9 @@ use lib.Dec.{eqb}
 use lib.ListN.{length, take}
 use lib.Seq.{take-at}
 use borrow.Author.Tests.{eqb-true, eq-eqb}
-use Rattle.lists.specs.Basics.{any, same}
+use Rattle.lists.specs.Basics.{any, over, same}
 use Rattle.lists.proofs.Laws.{and-left, and-right, and-both, by-cases, bool-ext, clashes}
-use Rattle.groups.specs.Groups.{planOf, pairsOf, colorsOf, groupCount, largestGroup, flatten, colorFrom}
+use Rattle.groups.specs.Groups.{planFrom, planOf, pairsOf, colorsOf, groupCount, largestGroup, flatten, colorFrom}
 use Rattle.groups.proofs.Pairs.{pairs-length}
 use Rattle.plan_questions.specs.Plans.{Tables, roomy}
 use Rattle.constraint_coloring.specs.declared.ConstraintColoring.{ConstraintColoring}
@@ -77,7 +77,7 @@ record Remembers (begun : Bool) (m : Memory) (p : ConstraintColoring) (t : Table
   pub even : Even (m .pairs)
 
 stand-new : (ch : Bool) (new old table : List ℕ) → table ≡ written ch new old → ch ≡ true → Stands new table
-stand-new ch new old table e y = ap (take (length new)) (e ∙ sym (written-new ch new old y)) ∙ take-at new _ (length new) refl
+stand-new ch new old table e y = ap (take (length new)) (e ∙ ap (λ (b : Bool). written b new old) y ∙ sym (written-new new old (over new old) refl)) ∙ take-at new _ (length new) refl
 
 stand-old : (ch : Bool) (s new old table : List ℕ) → table ≡ written ch new old → ch ≡ false → Stands s old → Stands s table
 stand-old ch s new old table e n h = ap (take (length s)) (e ∙ sym (written-not ch new old n)) ∙ h
@@ -91,7 +91,7 @@ module _ (begun : Bool) (m : Memory) (p : ConstraintColoring) (t u : Tables) (fl
 
   -- with equal counts and lists where they stand, the test is the definition's
   holds-is : Even pairs → holds p t flags pairs ≡ (same flags (m .flags) && same pairs (m .pairs))
-  unfolding holds planOf
+  unfolding holds planFrom
   holds-is even =
       ap (λ (q : ConstraintColoring). eqb (length flags) (q .«body_count») && eqb (length pairs / 2) (q .«constraint_count») && same flags (take (length flags) (t .dynamic-bodies)) && same pairs (take (length pairs) (t .endpoints))) (h .standing .plan)
       ∙ test-is flags pairs (m .flags) (m .pairs) (t .dynamic-bodies) (t .endpoints) (h .standing .dynamic-bodies) (h .standing .endpoints) even (h .even)
@@ -116,14 +116,14 @@ module _ (begun : Bool) (m : Memory) (p : ConstraintColoring) (t u : Tables) (fl
         standing =
             record {
               plan = w .plan ∙ rw y;
-              dynamic-bodies = stand-new ch flags _ _ (w .dynamic-bodies) y;
-              endpoints = stand-new ch pairs _ _ (w .endpoints) y;
-              constraint-colors = stand-new ch (d .colors) _ _ (w .constraint-colors) y;
-              color-offsets = λ b. stand-new ch (d .color-offsets) _ _ (w .color-offsets) y;
-              colored-constraints = stand-new ch (d .colored-constraints) _ _ (w .colored-constraints) y;
-              color-body-offsets = λ b. stand-new ch (d .color-body-offsets) _ _ (w .color-body-offsets) y;
-              color-bodies = stand-new ch (d .color-bodies) _ _ (w .color-bodies) y;
-              constraint-body-positions = stand-new ch (d .positions) _ _ (w .constraint-body-positions) y;
+              dynamic-bodies = stand-new ch flags _ _ (w .tables .dynamic-bodies) y;
+              endpoints = stand-new ch pairs _ _ (w .tables .endpoints) y;
+              constraint-colors = stand-new ch (d .colors) _ _ (w .tables .constraint-colors) y;
+              color-offsets = λ b. stand-new ch (d .color-offsets) _ _ (w .tables .color-offsets) y;
+              colored-constraints = stand-new ch (d .colored-constraints) _ _ (w .tables .colored-constraints) y;
+              color-body-offsets = λ b. stand-new ch (d .color-body-offsets) _ _ (w .tables .color-body-offsets) y;
+              color-bodies = stand-new ch (d .color-bodies) _ _ (w .tables .color-bodies) y;
+              constraint-body-positions = stand-new ch (d .positions) _ _ (w .tables .constraint-body-positions) y;
             };
         even = changed-even y;
       }
@@ -135,14 +135,14 @@ module _ (begun : Bool) (m : Memory) (p : ConstraintColoring) (t u : Tables) (fl
         standing =
             record {
               plan = w .plan ∙ rw n (s .plan);
-              dynamic-bodies = stand-old ch _ _ _ _ (w .dynamic-bodies) n (s .dynamic-bodies);
-              endpoints = stand-old ch _ _ _ _ (w .endpoints) n (s .endpoints);
-              constraint-colors = stand-old ch _ _ _ _ (w .constraint-colors) n (s .constraint-colors);
-              color-offsets = λ b. stand-old ch _ _ _ _ (w .color-offsets) n (s .color-offsets b);
-              colored-constraints = stand-old ch _ _ _ _ (w .colored-constraints) n (s .colored-constraints);
-              color-body-offsets = λ b. stand-old ch _ _ _ _ (w .color-body-offsets) n (s .color-body-offsets b);
-              color-bodies = stand-old ch _ _ _ _ (w .color-bodies) n (s .color-bodies);
-              constraint-body-positions = stand-old ch _ _ _ _ (w .constraint-body-positions) n (s .constraint-body-positions);
+              dynamic-bodies = stand-old ch _ _ _ _ (w .tables .dynamic-bodies) n (s .dynamic-bodies);
+              endpoints = stand-old ch _ _ _ _ (w .tables .endpoints) n (s .endpoints);
+              constraint-colors = stand-old ch _ _ _ _ (w .tables .constraint-colors) n (s .constraint-colors);
+              color-offsets = λ b. stand-old ch _ _ _ _ (w .tables .color-offsets) n (s .color-offsets b);
+              colored-constraints = stand-old ch _ _ _ _ (w .tables .colored-constraints) n (s .colored-constraints);
+              color-body-offsets = λ b. stand-old ch _ _ _ _ (w .tables .color-body-offsets) n (s .color-body-offsets b);
+              color-bodies = stand-old ch _ _ _ _ (w .tables .color-bodies) n (s .color-bodies);
+              constraint-body-positions = stand-old ch _ _ _ _ (w .tables .constraint-body-positions) n (s .constraint-body-positions);
             };
         even = h .even;
       }
@@ -173,7 +173,7 @@ history-from {p} {q} {t} {v} begun m h (step {u = u} {ins = ins} {outs = outs} f
     (ap₂ (λ (a : Answered) (as′ : List Answered). a ∷ as′) (answer-is begun m p t u flags pairs r h w) (rest-is .0), rw or-assoc at (rest-is .1))
 
 fresh-remembers : (t : Tables) → Remembers false fresh freshPlan t
-unfolding planOf colorsOf groupCount largestGroup flatten colorFrom
+unfolding planFrom colorsOf groupCount largestGroup flatten colorFrom
 fresh-remembers t =
     record {
       standing =

@@ -10,9 +10,9 @@ use native.Mathlib.Numerals.{add-one}
 use lib.ListN.{length-append, List·getD-append, length-drop, length, getD, drop}
 use lib.Seq.{drop-append-le, take-append-le, getD-take, getD-drop}
 use borrow.Author.Tests.{le-leb, lt-ltb}
-use Rattle.groups.specs.Groups.{flatten, offsets}
+use Rattle.groups.specs.Groups.{pairAt, flatten, offsets}
 use Rattle.groups.proofs.Tables.{flatten-part, flatten-twos, start-suc, start-mono, length-offsets, offsets-at}
-use Rattle.plan_questions.specs.Plans.{groupPart, positionsRefusal, positionsAt}
+use Rattle.plan_questions.specs.Plans.{groupPart, positionsRefusal}
 
 -- a table's used places, with whatever stands behind them
 module _ (g : ℕ → List ℕ) (n : ℕ) (x y : List ℕ) where
@@ -57,7 +57,7 @@ module _ (g : ℕ → List ℕ) (n : ℕ) (two : (r : ℕ) → r < n → length 
       ∙ ap (λ (xs : List ℕ). getD xs j 0) (flatten-part g r n h)
 
   -- and the two positions
-  pub positions-found : (r : ℕ) → r < n → positionsAt (flatten g n ++ y) r ≡ g r
+  pub positions-found : (r : ℕ) → r < n → pairAt (flatten g n ++ y) r ≡ g r
   positions-found r h =
       let z : 2 * r ≡ 2 * r + 0 = omega arith in
       ap₂ (λ (a b : ℕ). a ∷ b ∷ []) (ap (λ (i : ℕ). getD (flatten g n ++ y) i 0) z ∙ at-piece r 0 h (omega arith)) (at-piece r 1 h (omega arith)) ∙ whole (g r) (two r h)

@@ -11,19 +11,50 @@ use Rattle.groups.specs.Groups.{pairsOf}
 
 -- ---- the thirteen tables, and question 6
 pub record Tables : Type 0 where
+  -- the remembered flags, one a body
   pub dynamic-bodies : List ℕ
+  -- the remembered endpoint pairs
   pub endpoints : List ℕ
+  -- free: the Rust's adjacency, where each body's constraints start; not used
   pub body-offsets : List ℕ
+  -- free: the constraints on each body; not used
   pub body-constraints : List ℕ
+  -- free: the uncolored constraints, then the sort's copy, then each body's place in its group
   pub scratch-offsets : List ℕ
+  -- the color of each constraint
   pub constraint-colors : List ℕ
+  -- free: not used
   pub color-stamps : List ℕ
+  -- free: which bodies are busy in the open color, then the group in which each was last met
   pub body-stamps : List ℕ
+  -- where each group's members start, with the end
   pub color-offsets : List ℕ
+  -- the members, group after group
   pub colored-constraints : List ℕ
+  -- where each group's bodies start, with the end
   pub color-body-offsets : List ℕ
+  -- the bodies, group after group
   pub color-bodies : List ℕ
+  -- the two places of each constraint among its group's bodies
   pub constraint-body-positions : List ℕ
+
+-- these tables, in the order in which a call lends them
+abbrev pub tablesOf : List ℕ → List ℕ → List ℕ → List ℕ → List ℕ → List ℕ → List ℕ → List ℕ → List ℕ → List ℕ → List ℕ → List ℕ → List ℕ → Tables
+tablesOf dynamic-bodies endpoints body-offsets body-constraints scratch-offsets constraint-colors color-stamps body-stamps color-offsets colored-constraints color-body-offsets color-bodies constraint-body-positions = record {
+  dynamic-bodies = dynamic-bodies;
+  endpoints = endpoints;
+  body-offsets = body-offsets;
+  body-constraints = body-constraints;
+  scratch-offsets = scratch-offsets;
+  constraint-colors = constraint-colors;
+  color-stamps = color-stamps;
+  body-stamps = body-stamps;
+  color-offsets = color-offsets;
+  colored-constraints = colored-constraints;
+  color-body-offsets = color-body-offsets;
+  color-bodies = color-bodies;
+  constraint-body-positions = constraint-body-positions;
+}
 
 -- room for b bodies and c constraints
 unfoldable pub roomy : ℕ → ℕ → Tables → Bool
@@ -62,6 +93,3 @@ positionsRefusal n table r = asked
     ∷ question 6 (leb (2 * n) (length table))
     ∷ question 12 (ltb r n)
     ∷ [])
-
-abbrev pub positionsAt : List ℕ → ℕ → List ℕ
-positionsAt table r = getD table (2 * r) 0 ∷ getD table (2 * r + 1) 0 ∷ []

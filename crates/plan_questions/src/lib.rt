@@ -50,22 +50,22 @@ pub fn roomy(
 }
 
 // Questions 3 to 7, where `room` answers 6; 0 where all get a "yes".
-pub fn update_refusal(dynamic_bodies: &[u8], endpoints: &[u16], room: bool) -> u8
-    ensures { λ r. ⌜ r ≡ updateRefusal (now («dynamic_bodies» .entry)) (now (endpoints .entry)) room ⌝ }
+pub fn update_refusal(flags: &[u8], pairs: &[u16], room: bool) -> u8
+    ensures { λ r. ⌜ r ≡ updateRefusal (now (flags .entry)) (now (pairs .entry)) room ⌝ }
 {
-    if !((dynamic_bodies.len() <= Frame::MAX_BODIES) & (endpoints.len() / 2 <= Frame::MAX_PAIRS)) {
+    if !((flags.len() <= Frame::MAX_BODIES) & (pairs.len() / 2 <= Frame::MAX_PAIRS)) {
         return 3;
     }
-    if endpoints.len() % 2 != 0 {
+    if pairs.len() % 2 != 0 {
         return 4;
     }
-    if !frame::at_most(dynamic_bodies, 1) {
+    if !frame::at_most(flags, 1) {
         return 5;
     }
     if !room {
         return 6;
     }
-    if !frame::all_sound(dynamic_bodies.len(), endpoints, &[]) {
+    if !frame::all_sound(flags.len(), pairs, &[]) {
         return 7;
     }
     0
@@ -77,6 +77,7 @@ fn same_flags(a: &[u8], b: &[u8]) -> bool
     ensures { λ r. ⌜ r ≡ same (now (a .entry)) (now (b .entry)) ⌝ }
 {
     let mut body = 0;
+    // The flags passed are the same.
     while body < a.len() {
         if a[body] != b[body] {
             return false;
@@ -92,6 +93,7 @@ fn same_pairs(a: &[u16], b: &[u16]) -> bool
     ensures { λ r. ⌜ r ≡ same (now (a .entry)) (now (b .entry)) ⌝ }
 {
     let mut entry = 0;
+    // The entries passed are the same.
     while entry < a.len() {
         if a[entry] != b[entry] {
             return false;

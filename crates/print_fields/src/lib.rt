@@ -20,6 +20,7 @@ fn width(n: usize) -> usize
 {
     let mut digits = 1;
     let mut rest = n;
+    // n has `digits` - 1 digits more than `rest`.
     while 10 <= rest {
         rest /= 10;
         digits += 1;
@@ -35,6 +36,7 @@ fn put_decimal(out: &mut [u8], at: usize, n: usize) -> usize
     let end = at + width(n);
     let mut i = end;
     let mut rest = n;
+    // The digits of n behind those of `rest` stand from i on.
     while 10 <= rest {
         i -= 1;
         out[i] = digit(rest % 10);

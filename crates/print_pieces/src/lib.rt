@@ -44,7 +44,7 @@ fn answer_to(frame: &[u8], turns: &mut [u16]) -> Answer
     if Frame::MAX_BYTES < frame.len() {
         return Answer::Refused(3);
     }
-    own_tables::run_file(frame, turns)
+    standalone_run::run_file(frame, turns)
 }
 
 // The line that comes first for an answer.
@@ -101,7 +101,7 @@ pub fn first_piece(frame: &[u8], turns: &mut [u16; TURNS], out: &mut [u8; OUTPUT
     ensures { λ r. ⌜ FirstPiece (now (frame .entry)) (now (turns .entry)) (now (out .entry)) (now (turns .exit)) (now (out .exit)) r ⌝ }
 {
     let answer = answer_to(frame, turns);
-    let count = run_answer::reported(answer).turns;
+    let count = run_answer::report_of(answer).turns;
     let line = put_first_line(out, answer);
     put_lines(frame, turns, count, 0, out, line)
 }

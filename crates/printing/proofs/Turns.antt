@@ -13,11 +13,11 @@ use borrow.Author.Tests.{lt-ltb, le-ltb, ltb-true, ltb-false, leb-true}
 use Rattle.lists.proofs.Laws.{by-cases, and-left, and-right}
 use Rattle.lists.proofs.Puts.{put-none}
 use Rattle.frame.specs.Frames.{Constraint, Frame, nothing, constraintsOf, constraintAt}
-use Rattle.frame.specs.Files.{half, countB, countM, countJ, pairsAt, jointsAt, pairsFrom, manifoldsIn, jointsIn, enabledIn, decode}
+use Rattle.frame.specs.Files.{half, countM, countJ, pairsAt, jointsAt, endsAt, pairsFrom, manifoldsIn, jointsIn, enabledIn, decode}
 use Rattle.frame.proofs.Files.{manifolds-count}
 use Rattle.schedules.specs.Print.{decimal, spaced, turnLine, turnLines}
 use Rattle.print_fields.specs.Puts.{Put, longest, ifRoom}
-use Rattle.printing.specs.Turns.{endsAt, lineOf, ready, ifReady, gathered, turnsFrom, linesOf, Lines}
+use Rattle.printing.specs.Turns.{lineOf, ready, ifReady, gathered, turnsFrom, linesOf, Lines}
 use Rattle.print_fields.proofs.Puts.{put-nothing, wrote-then}
 use Rattle.printing.proofs.Lines.{turn-short}
 
@@ -42,14 +42,6 @@ module _ (bs : List ℕ) (step : ℕ) where
   pair-at s (suc m) (e ∷ es) zero h = first-pair s
   pair-at s (suc m) [] (suc n) h = pair-at (s + step) m [] n (omega arith) ∙ next-pair s n
   pair-at s (suc m) (e ∷ es) (suc n) h = pair-at (s + step) m es n (omega arith) ∙ next-pair s n
-
--- where the code finds a manifold's endpoints, and a joint's
-module _ (bs : List ℕ) (n m p : ℕ) (em : m ≡ countM bs) (ep : p ≡ countB bs) where
-  pub manifold-ends : n < m → 11 + p + 4 * n ≡ endsAt bs n
-  manifold-ends h = rw (lt-ltb n (countM bs) (omega arith)) (omega arith)
-
-  pub joint-ends : m ≤ n → 11 + p + 4 * m + 5 * (n - m) ≡ endsAt bs n
-  joint-ends h = rw (le-ltb n (countM bs) (omega arith)) (omega arith)
 
 -- the endpoints of constraint n
 ends-at : (bs : List ℕ) (n : ℕ) → n < countM bs + countJ bs → constraintAt (decode bs) n .ends ≡ half bs (endsAt bs n) ∷ half bs (endsAt bs n + 2) ∷ []

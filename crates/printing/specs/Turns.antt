@@ -1,19 +1,15 @@
 -- The lines of a turn table, gathered in a lent buffer as far as there is room.
-use Prim.Native.Nat.{ℕ, suc, _+_, _-_, _*_}
+use Prim.Native.Nat.{ℕ, suc, _+_, _*_}
 use mathlib.Core.Path.{_≡_}
 use mathlib.Core.Bool.{Bool, _&&_, cond}
 use mathlib.Core.List.{List, [], _∷_}
 use lib.Dec.{leb, ltb}
 use lib.ListN.{length, take, drop}
 use Rattle.frame.specs.Frames.{constraintAt}
-use Rattle.frame.specs.Files.{countM, countJ, pairsAt, jointsAt, decode}
+use Rattle.frame.specs.Files.{countM, countJ, decode}
 use Rattle.schedules.specs.Print.{turnLine, turnLines}
 use Rattle.print_fields.specs.Puts.{Put, longest}
 use Rattle.printing.specs.declared.Gathered.{Gathered}
-
--- where the file bs has the endpoints of constraint n: manifolds first, then joints
-abbrev pub endsAt : List ℕ → ℕ → ℕ
-endsAt bs n = cond (ltb n (countM bs)) (pairsAt bs + 4 * n) (jointsAt bs + 5 * (n - countM bs))
 
 -- the line of a turn
 unfoldable pub lineOf : List ℕ → ℕ → ℕ → ℕ → List ℕ

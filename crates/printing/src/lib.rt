@@ -3,13 +3,12 @@
 // fewer than `MAX_LINE` bytes are left they write nothing. Each answers the place after what it wrote.
 ghost use mathlib.Core.Path.{_≡_};
 ghost use mathlib.Core.List.{_∷_, []};
-ghost use Prim.Native.Nat.{_+_, _*_, _<_};
+ghost use Prim.Native.Nat.{_+_};
 ghost use lib.Dec.{leb};
 ghost use lib.ListN.{length};
-ghost use Rattle.frame.specs.Files.{byte, half};
 ghost use Rattle.schedules.specs.Print.{headOf, turnLine, refusalLine};
 ghost use Rattle.print_fields.specs.Puts.{Put, longest, ifRoom};
-ghost use Rattle.printing.specs.Turns.{endsAt, ifReady, Lines};
+ghost use Rattle.printing.specs.Turns.{ifReady, Lines};
 
 // No line is longer.
 pub const MAX_LINE: usize = 111;
@@ -20,14 +19,8 @@ pub struct Gathered {
     pub turn: usize,
 }
 
-fn wide(x: u16) -> usize
-    ensures { λ r. ⌜ r ≡ x ⌝ }
-{
-    x as usize
-}
-
 // Are MAX_LINE bytes left from a place on?
-fn roomy(size: usize, at: usize) -> bool
+fn line_fits(size: usize, at: usize) -> bool
     ensures { λ r. ⌜ r ≡ leb (at + longest) size ⌝ }
 {
     if size < MAX_LINE {
@@ -47,7 +40,7 @@ pub fn put_head(
 ) -> usize
     ensures { λ r. ⌜ Put (ifRoom (length (now (out .entry))) at (headOf islands turns takes degree)) (now (out .entry)) at (now (out .exit)) r ⌝ }
 {
-    if !roomy(out.len(), at) {
+    if !line_fits(out.len(), at) {
         return at;
     }
     let with_islands = print_fields::put_field(out, at, b"islands", islands, b' ');
@@ -68,7 +61,7 @@ pub fn put_turn_line(
 ) -> usize
     ensures { λ r. ⌜ Put (ifRoom (length (now (out .entry))) at (turnLine island group constraint (a ∷ b ∷ []))) (now (out .entry)) at (now (out .exit)) r ⌝ }
 {
-    if !roomy(out.len(), at) {
+    if !line_fits(out.len(), at) {
         return at;
     }
     let with_island = print_fields::put_number(out, at, island, b' ');
@@ -82,41 +75,10 @@ pub fn put_turn_line(
 pub fn put_refusal(out: &mut [u8], at: usize, number: usize) -> usize
     ensures { λ r. ⌜ Put (ifRoom (length (now (out .entry))) at (refusalLine number)) (now (out .entry)) at (now (out .exit)) r ⌝ }
 {
-    if !roomy(out.len(), at) {
+    if !line_fits(out.len(), at) {
         return at;
     }
     print_fields::put_field(out, at, b"refused", number, b'\n')
-}
-
-// The byte at a place of a file, and 0 past its end.
-fn byte_at(frame: &[u8], i: usize) -> usize
-    ensures { λ r. ⌜ (r ≡ byte (now (frame .entry)) i) × (r < 256) ⌝ }
-{
-    if i < frame.len() {
-        return frame[i] as usize;
-    }
-    0
-}
-
-// The 16-bit number at a place of a file, big-endian.
-fn half_at(frame: &[u8], i: usize) -> usize
-    requires { ⌜ i < 1048576 ⌝ }
-    ensures { λ r. ⌜ (r ≡ half (now (frame .entry)) i) × (r < 65536) ⌝ }
-{
-    byte_at(frame, i) * 256 + byte_at(frame, i + 1)
-}
-
-// Where a file has the endpoints of a constraint: manifolds first, then joints.
-fn ends_at(frame: &[u8], constraint: usize) -> usize
-    requires { ⌜ constraint < 131072 ⌝ }
-    ensures { λ r. ⌜ (r ≡ endsAt (now (frame .entry)) constraint) × (r + 2 < 1048576) ⌝ }
-{
-    let manifolds = half_at(frame, 7);
-    let pairs = 11 + half_at(frame, 5);
-    if constraint < manifolds {
-        return pairs + 4 * constraint;
-    }
-    pairs + 4 * manifolds + 5 * (constraint - manifolds)
 }
 
 // The line of a turn, with its constraint's endpoints out of the file; nothing where there is no such constraint.
@@ -130,12 +92,12 @@ fn put_turn(
 ) -> usize
     ensures { λ r. ⌜ Put (ifReady (now (frame .entry)) (length (now (out .entry))) at island group constraint) (now (out .entry)) at (now (out .exit)) r ⌝ }
 {
-    if half_at(frame, 7) + half_at(frame, 9) <= constraint {
+    if frame::constraint_count(frame) <= constraint {
         return at;
     }
-    let ends = ends_at(frame, constraint);
-    let a = half_at(frame, ends);
-    let b = half_at(frame, ends + 2);
+    let ends = frame::ends_at(frame, constraint);
+    let a = frame::half_or_zero(frame, ends);
+    let b = frame::half_or_zero(frame, ends + 2);
     put_turn_line(out, at, island, group, constraint, a, b)
 }
 
@@ -145,10 +107,11 @@ pub fn put_turns(out: &mut [u8], at: usize, turns: &[u16], first: usize, frame: 
 {
     let mut place = at;
     let mut turn = first;
+    // The lines of the turns from `first` to `turn` stand up to `place`.
     while turn < turns.len() / 3 {
-        let island = wide(turns[3 * turn]);
-        let group = wide(turns[3 * turn + 1]);
-        let constraint = wide(turns[3 * turn + 2]);
+        let island = turns[3 * turn] as usize;
+        let group = turns[3 * turn + 1] as usize;
+        let constraint = turns[3 * turn + 2] as usize;
         let next = put_turn(out, place, island, group, constraint, frame);
         if next == place {
             break;

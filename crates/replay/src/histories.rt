@@ -54,14 +54,6 @@ fn first_stage() -> Stage {
     }
 }
 
-fn plan_after(plan: ConstraintColoring, answer: Update) -> ConstraintColoring {
-    match answer {
-        Update::Changed(changed) => changed,
-        Update::Unchanged => plan,
-        Update::Refused(_) => plan,
-    }
-}
-
 // 1 for "changed", 2 for "unchanged", else 0 and the refusal.
 fn put_update(answer: Update, out: &mut [u8], at: usize) -> usize {
     match answer {
@@ -172,7 +164,7 @@ fn update_once(stage: Stage, flags: &[u8], pairs: &[u16], out: &mut [u8]) -> Sta
     Stage {
         place: stage.place,
         next: put_update(answer, out, stage.next),
-        plan: plan_after(plan, answer),
+        plan: constraint_coloring::plan_after(plan, answer),
         dynamic_bodies: dynamic_bodies,
         endpoints: endpoints,
         body_offsets: body_offsets,

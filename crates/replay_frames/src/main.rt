@@ -31,10 +31,10 @@ fn put_report(out: &mut [u8], at: usize, report: Report) -> usize {
 
 fn answer_on(question: &[u8], turns: &mut [u16], out: &mut [u8]) -> usize {
     let start = least(2, question.len());
-    let answer = own_tables::run_file(&question[start..], turns);
-    let refused = put(out, 0, run_answer::run_refusal(answer));
-    let reported = put_report(out, refused, run_answer::reported(answer));
-    put_halves(out, reported, turns)
+    let answer = standalone_run::run_file(&question[start..], turns);
+    let refused = put(out, 0, run_answer::refusal_of(answer));
+    let report_of = put_report(out, refused, run_answer::report_of(answer));
+    put_halves(out, report_of, turns)
 }
 
 fn answer_frame(question: &[u8], out: &mut [u8]) -> usize {

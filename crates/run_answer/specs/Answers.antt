@@ -3,6 +3,7 @@ use Prim.Native.Nat.{ℕ, _/_}
 use mathlib.Core.Path.{_≡_}
 use mathlib.Core.Bool.{Bool, true, false, not, cond}
 use lib.Dec.{eqb}
+use Rattle.schedules.specs.Runs as runs
 use Rattle.turn_table.specs.declared.Tally.{Tally}
 use Rattle.frame_tables.specs.declared.Filling.{Filling}
 use Rattle.run_answer.specs.declared.Report.{Report}
@@ -18,14 +19,19 @@ abbrev pub runRefused : Answer → Bool
 runRefused (answer.Ran r) = false
 runRefused (answer.Refused n) = true
 
+-- the four numbers that a run carries
+abbrev pub carried : runs.Report → Report
+carried r = record { islands = r .islands; turns = r .turns; takes = r .takes; degree = r .degree }
+
+-- those of an answer
 abbrev pub runReport : Answer → Report
 runReport (answer.Ran r) = r
-runReport (answer.Refused n) = record { islands = 0; turns = 0; takes = 0; degree = 0 }
+runReport (answer.Refused n) = carried (runs.refused n)
 
--- the report of a filling and a tally, three entries a turn
-pub record Told (f : Filling) (t : Tally) (r : Answer) : Type 0 where
+-- the answer by a filling and a tally, three entries a turn
+pub record AnswerOf (f : Filling) (t : Tally) (r : Answer) : Type 0 where
   pub refusal : runNumber r ≡ f .refusal
   pub refused : runRefused r ≡ not (eqb (f .refusal) 0)
   pub report : runReport r ≡ cond (eqb (f .refusal) 0)
       (record { islands = f .islands; turns = t .place / 3; takes = t .takes; degree = f .degree })
-      (record { islands = 0; turns = 0; takes = 0; degree = 0 })
+      (carried (runs.refused (f .refusal)))

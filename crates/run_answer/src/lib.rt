@@ -6,7 +6,7 @@ ghost use Prim.Native.Nat.{_+_, _*_, _≤_};
 ghost use mathlib.Core.Path.{_≡_};
 ghost use mathlib.Core.Bool.{_&&_, cond};
 ghost use lib.Dec.{leb, eqb};
-ghost use Rattle.run_answer.specs.Answers.{runNumber, runReport, Told};
+ghost use Rattle.run_answer.specs.Answers.{runNumber, runReport, AnswerOf};
 
 // What a run carries: islands, turns, takes of dynamic bodies, and the largest number of constraints on one dynamic body.
 pub struct Report {
@@ -23,7 +23,7 @@ pub enum Answer {
 }
 
 // The number of an answer: the refusal, or 0.
-pub fn run_refusal(answer: Answer) -> u8
+pub fn refusal_of(answer: Answer) -> u8
     ensures { λ r. ⌜ r ≡ runNumber answer ⌝ }
 {
     match answer {
@@ -33,7 +33,7 @@ pub fn run_refusal(answer: Answer) -> u8
 }
 
 // Its values: the report, or four zeros.
-pub fn reported(answer: Answer) -> Report
+pub fn report_of(answer: Answer) -> Report
     ensures { λ r. ⌜ r ≡ runReport answer ⌝ }
 {
     match answer {
@@ -48,7 +48,7 @@ pub fn reported(answer: Answer) -> Report
 }
 
 // Question 6 for a frame of `b` bodies, `m` manifolds and `j` joints in tables of these lengths, where `plan` answers it for the plan's.
-pub fn room_for(
+pub fn roomy_for(
     b: usize,
     m: usize,
     j: usize,
@@ -98,8 +98,8 @@ pub fn first_refusal(read: u8, room: bool) -> u8
 }
 
 // The report of a frame that was not refused.
-pub fn told(filling: Filling, tally: Tally) -> Answer
-    ensures { λ r. ⌜ Told filling tally r ⌝ }
+pub fn answer_of(filling: Filling, tally: Tally) -> Answer
+    ensures { λ r. ⌜ AnswerOf filling tally r ⌝ }
 {
     if filling.refusal != 0 {
         return Answer::Refused(filling.refusal);

@@ -66,19 +66,21 @@ module _ (f : Frame) (t : ℕ → Tables) where
         (λ same. rw same (updates.unchanged freshPlan fs ps (t i) e same))
         (λ new. rw new (updates.changed freshPlan fs ps (t i) (rewritten fs ps (t i)) (carried (planOf fs ps)) e new (record {
           plan = refl;
-          dynamic-bodies = refl;
-          endpoints = refl;
-          body-offsets = refl;
-          body-constraints = refl;
-          scratch-offsets = refl;
-          constraint-colors = refl;
-          color-stamps = refl;
-          body-stamps = refl;
-          color-offsets = refl;
-          colored-constraints = refl;
-          color-body-offsets = refl;
-          color-bodies = refl;
-          constraint-body-positions = refl;
+          tables = record {
+            dynamic-bodies = updates.written-new _ _ _ refl;
+            endpoints = updates.written-new _ _ _ refl;
+            body-offsets = updates.free-new refl;
+            body-constraints = updates.free-new refl;
+            scratch-offsets = updates.free-new refl;
+            constraint-colors = updates.written-new _ _ _ refl;
+            color-stamps = updates.free-new refl;
+            body-stamps = updates.free-new refl;
+            color-offsets = updates.written-new _ _ _ refl;
+            colored-constraints = updates.written-new _ _ _ refl;
+            color-body-offsets = updates.written-new _ _ _ refl;
+            color-bodies = updates.written-new _ _ _ refl;
+            constraint-body-positions = updates.written-new _ _ _ refl;
+          };
         })))
 
     planned : (i : ℕ) → i < islandCount f → Planned f i (plansOf i)

@@ -1,6 +1,6 @@
 -- The takes of one group, in any order: two members share no dynamic body, since their colors are equal, so every take finds its bodies there.
 use mathlib.Core.Bool.{cond, Bool, true, false, not, _||_}
-use Rattle.schedules.specs.Runs.{takeRank, Call, flags, membersIn, bodiesIn, callsFrom}
+use Rattle.schedules.specs.Runs.{takeRank, Call, flags, endsOf, membersIn, bodiesIn, callsFrom}
 use Prim.Native.Nat.{ℕ, _≤_, _<_}
 use mathlib.Core.Path.{_≡_, refl, sym, ap, _∙_, subst}
 use mathlib.Core.List.{List, [], _∷_, map}
@@ -19,7 +19,7 @@ use Rattle.colored_bodies.specs.Bindings.{lastBelow, bindRefusal, bindOf, Hande
 use Rattle.colored_bodies.proofs.Takes.{typed, leftOf, left-first, take-left}
 use Rattle.schedules.specs.Condition.{SameNumbers, due}
 use Rattle.schedules.proofs.Accepted.{Accepted, Live, flag-dynamic}
-use Rattle.schedules.proofs.Plans.{endsAt, pairsAt, colorsAt, of-island, touch-live, length-pairs, length-colors, ends-are, Stands}
+use Rattle.schedules.proofs.Plans.{endsAt, colorsAt, of-island, touch-live, length-pairs, length-colors, ends-are, Stands}
 
 last-inside : (n : ℕ) (xs : List ℕ) → all (λ b. ltb b n) xs ≡ true → lastBelow n xs ≡ true
 last-inside n [] h = refl
@@ -38,19 +38,19 @@ module _ (f : Frame) (ok : Accepted f) (i : ℕ) (l : i < islandCount f) (p : Pl
   at r = getD (ofIsland f i) r 0
 
   bs : List ℕ
-  bs = groupBodies nb (pairsAt f i) colors k
+  bs = groupBodies nb (endsOf f i) colors k
 
   rising : rises bs ≡ true
   unfolding bs
-  rising = bodies-rise nb (pairsAt f i) colors k
+  rising = bodies-rise nb (endsOf f i) colors k
 
   few : length bs ≤ 4096
   unfolding bs
-  few = omega (arith, bodies-few nb (pairsAt f i) colors k, ok .few-bodies)
+  few = omega (arith, bodies-few nb (endsOf f i) colors k, ok .few-bodies)
 
   inside : all (λ b. ltb b nb) bs ≡ true
   unfolding bs
-  inside = bodies-exist nb (pairsAt f i) colors k nb (omega arith)
+  inside = bodies-exist nb (endsOf f i) colors k nb (omega arith)
 
   -- the bind is accepted, and nothing is gone at first
   bound-first : bindOf (f .types) (bodiesIn p k) ≡ leftOf (f .types) (λ b. false) bs
@@ -61,7 +61,7 @@ module _ (f : Frame) (ok : Accepted f) (i : ℕ) (l : i < islandCount f) (p : Pl
   record Member (r : ℕ) : Type 0 where
     color : getD colors r 0 ≡ k
     ranked : r < length (ofIsland f i)
-    ends-of : getD (pairsAt f i) r [] ≡ endsAt f (at r)
+    ends-of : getD (endsOf f i) r [] ≡ endsAt f (at r)
     is-live : Live f ok (at r)
 
   know : (r : ℕ) → mem r (members colors k) ≡ true → Member r
@@ -74,7 +74,7 @@ module _ (f : Frame) (ok : Accepted f) (i : ℕ) (l : i < islandCount f) (p : Pl
   unfolding bs
   within r m b h =
       let q = know r m in
-      has-body nb (pairsAt f i) colors k r b m (rw (q .ends-of) h) (ltb-true b nb (all-in (λ x. ltb x nb) b (endsAt f (at r)) h (q .is-live .inside)))
+      has-body nb (endsOf f i) colors k r b m (rw (q .ends-of) h) (ltb-true b nb (all-in (λ x. ltb x nb) b (endsAt f (at r)) h (q .is-live .inside)))
 
   -- two members share no dynamic body
   pub disjoint : (r s b : ℕ) → mem r (members colors k) ≡ true → mem s (members colors k) ≡ true → eqb r s ≡ false → typed (f .types) b ≡ true
@@ -84,10 +84,10 @@ module _ (f : Frame) (ok : Accepted f) (i : ℕ) (l : i < islandCount f) (p : Pl
       let p = know r m in
       let q = know s n in
       by-cases (ltb r s)
-      (λ x. proper (flags f) (pairsAt f i) r s b (ltb-true r s x) (omega (arith, length-pairs f ok i l, q .ranked)) (flag-dynamic f b ∙ t) (rw (p .ends-of) h) (rw (q .ends-of) j) (p .color ∙ sym (q .color)))
-      (λ x. proper (flags f) (pairsAt f i) s r b (omega (arith, ltb-false r s x, eqb-false r s e)) (omega (arith, length-pairs f ok i l, p .ranked)) (flag-dynamic f b ∙ t) (rw (q .ends-of) j) (rw (p .ends-of) h) (q .color ∙ sym (p .color)))
+      (λ x. proper (flags f) (endsOf f i) r s b (ltb-true r s x) (omega (arith, length-pairs f ok i l, q .ranked)) (flag-dynamic f b ∙ t) (rw (p .ends-of) h) (rw (q .ends-of) j) (p .color ∙ sym (q .color)))
+      (λ x. proper (flags f) (endsOf f i) s r b (omega (arith, ltb-false r s x, eqb-false r s e)) (omega (arith, length-pairs f ok i l, p .ranked)) (flag-dynamic f b ∙ t) (rw (q .ends-of) j) (rw (p .ends-of) h) (q .color ∙ sym (p .color)))
 
-  positions-are : (r : ℕ) → mem r (members colors k) ≡ true → positions nb (pairsAt f i) colors r ≡ map (λ b. place b bs) (endsAt f (at r))
+  positions-are : (r : ℕ) → mem r (members colors k) ≡ true → positions nb (endsOf f i) colors r ≡ map (λ b. place b bs) (endsAt f (at r))
   unfolding positions bs
   positions-are r m = let q = know r m in rw (q .color, q .ends-of)
 
@@ -106,7 +106,7 @@ module _ (f : Frame) (ok : Accepted f) (i : ℕ) (l : i < islandCount f) (p : Pl
       let q = know r m in
       let not-in : mem r rs ≡ false = not-true (mem r rs) (and-left (not (mem r rs)) (distinct rs) d) in
       let b₀ = leftOf (f .types) gone bs in
-      let asked : takeRank p b₀ r ≡ takeOf b₀ (positions nb (pairsAt f i) colors r) = st .takes b₀ r ∙ ap (λ (t : Bool). cond t (takeOf b₀ (positions nb (pairsAt f i) colors r)) (record { refusal = 12; handed = []; after = b₀ })) (lt-ltb r (length (ofIsland f i)) (q .ranked)) in
+      let asked : takeRank p b₀ r ≡ takeOf b₀ (positions nb (endsOf f i) colors r) = st .takes b₀ r ∙ ap (λ (t : Bool). cond t (takeOf b₀ (positions nb (endsOf f i) colors r)) (record { refusal = 12; handed = []; after = b₀ })) (lt-ltb r (length (ofIsland f i)) (q .ranked)) in
       let taken = asked ∙ ap (takeOf (leftOf (f .types) gone bs)) (positions-are r m)
       ∙ take-left (f .types) gone bs (endsAt f n) (within r m) (rises-distinct bs rising) (q .is-live .apart) few (λ b h t. fresh r b (mem-self r rs) h t) in
       let rest = calls-right rs (λ b. mem b (endsAt f n) || gone b)

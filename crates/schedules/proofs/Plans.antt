@@ -24,19 +24,24 @@ use Rattle.connected_sets.proofs.Theorem.{dynamic-below, islands-few, island-to
 use Rattle.groups.proofs.Colors.{color-few, colors-length}
 use Rattle.plan_history.proofs.Memory.{remembers}
 use Rattle.colored_bodies.specs.declared.BodyBinding.{BodyBinding}
-use Rattle.schedules.specs.Runs.{flags, pairsFor, planAt, membersIn, bodiesIn, takeRank}
+use Rattle.schedules.specs.Runs.{flags, endsOf, pairsFor, planAt, membersIn, bodiesIn, takeRank}
 use Rattle.schedules.proofs.Accepted.{Accepted, Live, live, flag-dynamic}
 use Rattle.schedules.proofs.Standing.{Lookups, plan-lookups, updated-lookups}
 
 abbrev pub endsAt : Frame → ℕ → List ℕ
 endsAt f n = constraintAt f n .ends
 
--- the endpoints of an island's constraints, one by one
-unfoldable pub pairsAt : Frame → ℕ → List (List ℕ)
-pairsAt f i = map (endsAt f) (ofIsland f i)
+-- one list after another
+pub pairs-joined : (f : Frame) (i : ℕ) → pairsFor f i ≡ joinMap (endsAt f) (ofIsland f i)
+unfolding pairsFor endsOf
+pairs-joined f i = go (ofIsland f i)
+  where
+    go : (ns : List ℕ) → joinMap (λ (ends : List ℕ). ends) (map (endsAt f) ns) ≡ joinMap (endsAt f) ns
+    go [] = refl
+    go (n ∷ ns) = ap (λ (xs : List ℕ). endsAt f n ++ xs) (go ns)
 
 unfoldable pub colorsAt : Frame → ℕ → List ℕ
-colorsAt f i = colorsOf (flags f) (pairsAt f i)
+colorsAt f i = colorsOf (flags f) (endsOf f i)
 
 -- pairs that stand one after another, taken apart again
 twos : (g : ℕ → List ℕ) (ns : List ℕ) → ((n : ℕ) → mem n ns ≡ true → length (g n) ≡ 2) → (pairsOf (joinMap g ns) ≡ map g ns) × (length (joinMap g ns) ≡ 2 * length ns)
@@ -81,7 +86,7 @@ module _ (f : Frame) (ok : Accepted f) where
 
   module _ (i : ℕ) (l : i < islandCount f) where
     abbrev cs : List (List ℕ)
-    cs = pairsAt f i
+    cs = endsOf f i
 
     abbrev colors : List ℕ
     colors = colorsAt f i
@@ -93,19 +98,18 @@ module _ (f : Frame) (ok : Accepted f) where
     ends-two n m = let t = touch-live n (of-island i n l m .2) in omega (arith, t .least, t .two)
 
     pairs-apart : pairsOf (pairsFor f i) ≡ cs
-    unfolding pairsFor pairsAt
-    pairs-apart = twos (endsAt f) (ofIsland f i) ends-two .0
+    unfolding endsOf
+    pairs-apart = rw (pairs-joined f i) (twos (endsAt f) (ofIsland f i) ends-two .0)
 
     pairs-long : length (pairsFor f i) ≡ 2 * length (ofIsland f i)
-    unfolding pairsFor
-    pairs-long = twos (endsAt f) (ofIsland f i) ends-two .1
+    pairs-long = rw (pairs-joined f i) (twos (endsAt f) (ofIsland f i) ends-two .1)
 
     pub few-here : length (ofIsland f i) ≤ 8192
     unfolding ofIsland
     few-here = omega (arith, filter-length-le (λ m. eqb i (label f (constraintAt f m))) (numbers f), length-range 0 (length (constraints f)), ok .few-constraints)
 
     pub length-pairs : length cs ≡ length (ofIsland f i)
-    unfolding pairsAt
+    unfolding endsOf
     length-pairs = length-map (ofIsland f i) (endsAt f)
 
     pub length-colors : length colors ≡ length (ofIsland f i)
@@ -117,7 +121,7 @@ module _ (f : Frame) (ok : Accepted f) where
     length-flags = length-map (f .types) flagOf
 
     all-fit : all (fits (length (flags f))) (pairsOf (pairsFor f i)) ≡ true
-    unfolding pairsAt
+    unfolding endsOf
     all-fit = rw (pairs-apart, length-flags) (all-map (fits nb) (endsAt f) (ofIsland f i) ∙ all-intro (λ n. fits nb (endsAt f n)) (ofIsland f i) (λ n m. touch-live n (of-island i n l m .2) .fitting))
 
     -- so the update of an island is accepted
@@ -138,7 +142,7 @@ module _ (f : Frame) (ok : Accepted f) where
 
     -- the endpoints of the constraint of rank r
     pub ends-are : (r : ℕ) → r < length (ofIsland f i) → getD cs r [] ≡ endsAt f (getD (ofIsland f i) r 0)
-    unfolding pairsAt
+    unfolding endsOf
     ends-are r h = getD-map-lt (endsAt f) (ofIsland f i) r [] 0 h
 
     -- what a plan says, as it stands in its tables: groups, members, bodies, and the take of a rank
@@ -193,7 +197,7 @@ module _ (f : Frame) (ok : Accepted f) where
         (λ e. rw e (omega arith))
 
     island-degree : (b : ℕ) → count (mem b) cs ≤ count (on b) (constraints f)
-    unfolding pairsAt ofIsland constraintAt
+    unfolding endsOf ofIsland constraintAt
     island-degree b =
         omega (
           arith,
@@ -204,7 +208,7 @@ module _ (f : Frame) (ok : Accepted f) where
         )
 
     ends-flagged : all (λ bs. leb (length bs) most && any (flagged (flags f)) bs) cs ≡ true
-    unfolding pairsAt touches
+    unfolding endsOf touches
     ends-flagged = all-map (λ bs. leb (length bs) most && any (flagged (flags f)) bs) (endsAt f) (ofIsland f i) ∙ all-intro (λ n. leb (length (endsAt f n)) most && any (flagged (flags f)) (endsAt f n)) (ofIsland f i)
         (λ n m. let t = of-island i n l m .2 in
         let o = any-out (dynamic f) (endsAt f n) (and-right (constraintAt f n .live) (any (dynamic f) (endsAt f n)) t) in

@@ -9,10 +9,10 @@ use lib.Dec.{ltb, eqb}
 use lib.ListN.{length, getD, drop, length-map}
 use borrow.Author.Tests.{le-ltb, eqb-true, ltb-true, le-leb}
 use Rattle.lists.proofs.Laws.{and-left, and-right, by-cases, no-length}
-use Rattle.groups.specs.Groups.{Plan, pairsOf, colorsOf, colorFrom, groupCount, members, groupBodies, positions, flatten, planOf}
+use Rattle.groups.specs.Groups.{pairAt, Plan, pairsOf, colorsOf, colorFrom, groupCount, members, groupBodies, positions, flatten, planFrom, planOf}
 use Rattle.groups.proofs.Pairs.{pairs-length, two-ends}
 use Rattle.constraint_coloring.specs.declared.Update.{Update}
-use Rattle.plan_questions.specs.Plans.{Tables, positionsRefusal, positionsAt}
+use Rattle.plan_questions.specs.Plans.{Tables, positionsRefusal}
 use Rattle.constraint_coloring.specs.Calls.{freshPlan, planAfter, carried, holds, refusalWith, changesWith, written, Updated}
 use Rattle.constraint_coloring.proofs.Accepted.{accepted}
 use Rattle.plan_questions.proofs.Lookups.{group-part, positions-asked, positions-found}
@@ -59,7 +59,7 @@ module _ (flags pairs : List ℕ) where
     two-positions r h = length-map (getD cs r []) _ ∙ two-ends pairs r h
 
     behind : (p : Plan) → Behind p → Lookups p
-    unfolding membersIn bodiesIn takeRank planOf
+    unfolding membersIn bodiesIn takeRank planFrom
     behind p h = record {
       groups = h .groups;
       members = λ k l. rw (h .groups, h .color-offsets, h .colored-constraints) (group-part (members colors) (groupCount colors) (h .v) (h .w) k (subst (λ (n : ℕ). k < n) (h .groups) l));
@@ -69,7 +69,7 @@ module _ (flags pairs : List ℕ) where
       where
         take : (b : BodyBinding) (r : ℕ) (z : List ℕ) →
             (let q = positionsRefusal (length cs) (flatten (positions nb cs colors) (length cs) ++ z) r in
-            cond (eqb q 0) (takeOf b (positionsAt (flatten (positions nb cs colors) (length cs) ++ z) r)) (record { refusal = q; handed = []; after = b }))
+            cond (eqb q 0) (takeOf b (pairAt (flatten (positions nb cs colors) (length cs) ++ z) r)) (record { refusal = q; handed = []; after = b }))
             ≡ cond (ltb r (length cs)) (takeOf b (positions nb cs colors r)) (record { refusal = 12; handed = []; after = b })
         take b r z =
             let g = positions nb cs colors in
@@ -128,9 +128,9 @@ module _ (flags pairs : List ℕ) where
           x = drop (length (planOf flags pairs .color-body-offsets)) (t .color-body-offsets);
           y = drop (length (planOf flags pairs .color-bodies)) (t .color-bodies);
           z = drop (length (planOf flags pairs .positions)) (t .constraint-body-positions);
-          color-offsets = rw (ok, new) at (up .color-offsets);
-          colored-constraints = rw (ok, new) at (up .colored-constraints);
-          color-body-offsets = rw (ok, new) at (up .color-body-offsets);
-          color-bodies = rw (ok, new) at (up .color-bodies);
-          positions = rw (ok, new) at (up .constraint-body-positions);
+          color-offsets = rw (ok, new) at (up .tables .color-offsets);
+          colored-constraints = rw (ok, new) at (up .tables .colored-constraints);
+          color-body-offsets = rw (ok, new) at (up .tables .color-body-offsets);
+          color-bodies = rw (ok, new) at (up .tables .color-bodies);
+          positions = rw (ok, new) at (up .tables .constraint-body-positions);
         })))

@@ -13,7 +13,7 @@ use Rattle.groups.specs.Groups.{Plan}
 use Rattle.constraint_coloring.specs.declared.ConstraintColoring.{ConstraintColoring}
 use Rattle.constraint_coloring.specs.declared.Update.{Update}
 use Rattle.plan_questions.specs.Plans.{Tables, roomy}
-use Rattle.constraint_coloring.specs.Calls.{freshPlan, planAfter, Updated}
+use Rattle.constraint_coloring.specs.Calls.{freshPlan, planAfter, planWith, Updated}
 use Rattle.colored_bodies.specs.Bindings.{Handed}
 use Rattle.schedules.specs.Runs.{Call, Plans, Orders, flags, pairsFor, planAt, membersIn, schedule, rising, runCalls, turnOf, turnsOf, takesOf, runOf}
 
@@ -25,18 +25,7 @@ SameNumbers xs ys = (n : ℕ) → count (eqb n) xs ≡ count (eqb n) ys
 
 -- a plan as it stands after an update: what it carries, and its tables
 abbrev pub standing : ConstraintColoring → Tables → Plan
-standing p t = record {
-  bodies = p .«body_count»;
-  constraints = p .«constraint_count»;
-  groups = p .«color_count»;
-  largest = p .«max_color_constraint_count»;
-  colors = t .constraint-colors;
-  color-offsets = t .color-offsets;
-  colored-constraints = t .colored-constraints;
-  color-body-offsets = t .color-body-offsets;
-  color-bodies = t .color-bodies;
-  positions = t .constraint-body-positions;
-}
+standing p t = planWith p (t .constraint-colors) (t .color-offsets) (t .colored-constraints) (t .color-body-offsets) (t .color-bodies) (t .constraint-body-positions)
 
 -- the update of island i on a fresh plan, whatever its tables held before, as the contract of `update` says
 pub record Planned (f : Frame) (i : ℕ) (p : Plan) : Type 0 where

@@ -9,20 +9,24 @@ use Rattle.frame.specs.Frames.{Frame, constraintAt, flagOf, allSound, degreeMax
 use Rattle.frame.specs.Questions.{question, asked}
 use Rattle.frame.specs.Files.{decode, fileQuestions}
 use Rattle.connected_sets.specs.Islands.{islandCount, ofIsland}
-use Rattle.groups.specs.Groups.{Plan}
-use Rattle.plan_questions.specs.Plans.{groupPart, positionsRefusal, positionsAt}
+use Rattle.groups.specs.Groups.{pairAt, Plan}
+use Rattle.plan_questions.specs.Plans.{groupPart, positionsRefusal}
 use Rattle.plan_history.specs.Memory.{fresh, remembered, planFor}
 use Rattle.colored_bodies.specs.declared.BodyBinding.{BodyBinding}
 use Rattle.colored_bodies.specs.Bindings.{Handed, Taking, bindOf, takeOf}
 
 -- ---- the calls of a schedule
 
--- the frame's dynamic flags, and the endpoint pairs of an island's constraints in rising number
+-- the frame's dynamic flags
 unfoldable pub flags : Frame → List ℕ
 flags f = map flagOf (f .types)
 
+-- the endpoint lists of an island's constraints in rising number, and these one after another
+unfoldable pub endsOf : Frame → ℕ → List (List ℕ)
+endsOf f i = map (λ n. constraintAt f n .ends) (ofIsland f i)
+
 unfoldable pub pairsFor : Frame → ℕ → List ℕ
-pairsFor f i = joinMap (λ n. constraintAt f n .ends) (ofIsland f i)
+pairsFor f i = joinMap (λ ends. ends) (endsOf f i)
 
 -- the definition's plan of island i: what an update of a fresh plan leaves in the used places
 unfoldable pub planAt : Frame → ℕ → Plan
@@ -39,7 +43,7 @@ bodiesIn p k = groupPart (p .groups) (p .color-body-offsets) (p .color-bodies) k
 unfoldable pub takeRank : Plan → BodyBinding → ℕ → Taking
 takeRank p b r =
     let q = positionsRefusal (p .constraints) (p .positions) r in
-    cond (eqb q 0) (takeOf b (positionsAt (p .positions) r)) (record { refusal = q; handed = []; after = b })
+    cond (eqb q 0) (takeOf b (pairAt (p .positions) r)) (record { refusal = q; handed = []; after = b })
 
 -- a take that was made: for which island, group and constraint, its refusal or 0, and the bodies it answered
 pub record Call : Type 0 where

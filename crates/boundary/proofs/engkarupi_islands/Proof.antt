@@ -1,6 +1,7 @@
 -- The tables are as the call leaves them; its answer is taken apart into the refusal and the count.
 use borrow.Author.Needs.{needs}
-use Rattle.island.proofs.Entry.{built-by}
+use mathlib.Core.Path.{sym}
+use Rattle.island.proofs.Built.{built-as}
 use Rattle.boundary.proofs.engkarupi_islands.Statement.{statement}
 use Rattle.boundary.proofs.engkarupi_islands.Tie as tie
 
@@ -27,8 +28,8 @@ same-length-4 c = search needs
 
 returns : tie.Need-returns
 returns c =
-    let built = c .before .before .before .before .before .before .before .before .before .before .build-with-joints .ensures .0 in
-    built-by built (c .refusal-of .ensures) (c .before .islands-of .ensures)
+    let built = c .before .before .before .before .before .before .before .before .before .before .build-with-joints .ensures .built in
+    built-as (sym (c .refusal-of .ensures)) (sym (c .before .islands-of .ensures)) built
 
 pub engkarupi-islands-spec : {M : Type 1} → statement M
 engkarupi-islands-spec =

@@ -16,8 +16,8 @@ plan-after-requires c κs = search needs
 is-changed-requires : tie.Need-is-changed-requires
 is-changed-requires c κs = search needs
 
-update-refusal-requires : tie.Need-update-refusal-requires
-update-refusal-requires c κs = search needs
+refusal-of-requires : tie.Need-refusal-of-requires
+refusal-of-requires c κs = search needs
 
 same-length : tie.Need-same-length
 same-length c = search needs
@@ -59,7 +59,7 @@ same-length-13 : tie.Need-same-length-13
 same-length-13 c = search needs
 
 returns : tie.Need-returns
-returns c = updated-by (c .before .before .before .before .before .before .before .before .before .before .before .before .before .before .before .before .before .before .before .before .before .before .before .before .before .before .before .before .before .before .before .before .before .before .before .before .before .before .before .before .before .before .before .before .plan-from .ensures) (c .before .before .before .before .before .before .before .before .before .before .before .before .before .before .before .before .before .before .before .before .before .before .before .before .before .before .before .before .before .before .update .ensures) (c .update-refusal .ensures) (c .before .is-changed .ensures) (c .before .before .before .plan-after .ensures)
+returns c = updated-by (c .before .before .before .before .before .before .before .before .before .before .before .before .before .before .before .before .before .before .before .before .before .before .before .before .before .before .before .before .before .before .before .before .before .before .before .before .before .before .before .before .before .before .before .before .plan-from .ensures) (c .before .before .before .before .before .before .before .before .before .before .before .before .before .before .before .before .before .before .before .before .before .before .before .before .before .before .before .before .before .before .update .ensures) (c .refusal-of .ensures) (c .before .is-changed .ensures) (c .before .before .before .plan-after .ensures)
 
 pub engkarupi-update-spec : {M : Type 1} → statement M
 engkarupi-update-spec =
@@ -69,7 +69,7 @@ engkarupi-update-spec =
     update-requires
     plan-after-requires
     is-changed-requires
-    update-refusal-requires
+    refusal-of-requires
     same-length
     same-length-2
     same-length-3

@@ -12,9 +12,10 @@ use Rattle.parts.specs.Steps.{widest}
 use Rattle.parts.proofs.Parts.{pairs-bounded}
 use Rattle.parts.proofs.Gapless.{pairs-gapless}
 use Rattle.parts.proofs.Groups.{offsets-rise}
-use Rattle.painting.specs.Painting.{Painted}
+use Rattle.coloring.specs.Coloring.{Colored}
 use Rattle.plan_questions.specs.Plans.{Tables}
-use Rattle.constraint_coloring.proofs.Tables.{front-over, part-over}
+use Rattle.constraint_coloring.proofs.Tables.{copy-over, front-over, part-over}
+use Rattle.constraint_coloring.proofs.Updates.{written-new, free-new}
 use Rattle.constraint_coloring.proofs.Accepted.{Accepted, accepted}
 use Rattle.constraint_coloring.proofs.Rebuilds.{largest-is, starts-front, promised, parts-are, ready, groups-few, gatherable, plan-is, colors-planned, starts-planned, constraints-planned, body-starts-planned, bodies-planned, positions-planned}
 use Rattle.constraint_coloring.proofs.rebuild.Statement.{statement}
@@ -63,11 +64,11 @@ module _ (p : tie.After-color-constraints) where
   o : Accepted (now (start p .args .flags)) (now (start p .args .pairs)) (entry (start p))
   o = ok (start p)
 
-  painted : Painted (now (start p .args .flags)) (pairsOf (now (start p .args .pairs))) (take (length (now (start p .args .pairs)) / 2 + 1) (now (start p .args .color-offsets))) (p .color-constraints .last .1 .1 .1 .1 .0) (p .color-constraints .last .1 .1 .1 .1 .1 .0) (p .color-constraints .last .1 .1 .1 .1 .1 .1 .0) (p .color-constraints .last .1 .1 .1 .1 .1 .1 .1 .0) (p .color-constraints .result)
-  painted = rw (parts-are o (length (take (length (now (start p .args .pairs)) / 2) (now (start p .args .constraint-colors)))) (length-take-le _ _ (o .constraint-colors))) at (p .color-constraints .ensures)
+  colored : Colored (now (start p .args .flags)) (pairsOf (now (start p .args .pairs))) (take (length (now (start p .args .pairs)) / 2 + 1) (now (start p .args .color-offsets))) (p .color-constraints .last .1 .1 .1 .1 .0) (p .color-constraints .last .1 .1 .1 .1 .1 .0) (p .color-constraints .last .1 .1 .1 .1 .1 .1 .0) (p .color-constraints .last .1 .1 .1 .1 .1 .1 .1 .0) (p .color-constraints .result)
+  colored = rw (parts-are o (length (take (length (now (start p .args .pairs)) / 2) (now (start p .args .constraint-colors)))) (length-take-le _ _ (o .constraint-colors))) at (p .color-constraints .ensures)
 
   few : p .color-constraints .result ≤ length (now (start p .args .pairs)) / 2
-  few = groups-few o (p .color-constraints .result) (painted .count-is)
+  few = groups-few o (p .color-constraints .result) (colored .count-is)
 
   -- the tables come back as long as they were
   colors-kept : length (p .color-constraints .last .1 .1 .1 .1 .0 ++ drop (length (now (start p .args .pairs)) / 2) (now (start p .args .constraint-colors))) ≡ length (now (start p .args .constraint-colors))
@@ -97,13 +98,13 @@ module _ (p : tie.After-color-constraints) where
 
   -- and these places hold what the walks left
   colors-are : take (length (now (start p .args .pairs)) / 2) (p .color-constraints .last .1 .1 .1 .1 .0 ++ drop (length (now (start p .args .pairs)) / 2) (now (start p .args .constraint-colors))) ≡ promised o
-  colors-are = take-at _ _ (length (now (start p .args .pairs)) / 2) (p .color-constraints .kept .1 .1 .1 .1 .0 ∙ length-take-le _ _ (o .constraint-colors)) ∙ painted .colors-are
+  colors-are = take-at _ _ (length (now (start p .args .pairs)) / 2) (p .color-constraints .kept .1 .1 .1 .1 .0 ∙ length-take-le _ _ (o .constraint-colors)) ∙ colored .colors-are
 
   starts-are : take (p .color-constraints .result + 1) (p .color-constraints .last .1 .1 .1 .1 .1 .0 ++ drop (length (now (start p .args .pairs)) / 2 + 1) (now (start p .args .color-offsets))) ≡ offsets (members (promised o)) (p .color-constraints .result)
-  starts-are = starts-front (members (promised o)) (p .color-constraints .result) (length (now (start p .args .pairs)) / 2 + 1) _ _ _ (painted .starts-are) (p .color-constraints .kept .1 .1 .1 .1 .1 .0 ∙ length-take-le _ _ (o .color-offsets)) (omega (arith, few))
+  starts-are = starts-front (members (promised o)) (p .color-constraints .result) (length (now (start p .args .pairs)) / 2 + 1) _ _ _ (colored .starts-are) (p .color-constraints .kept .1 .1 .1 .1 .1 .0 ∙ length-take-le _ _ (o .color-offsets)) (omega (arith, few))
 
   members-are : take (length (now (start p .args .pairs)) / 2) (p .color-constraints .last .1 .1 .1 .1 .1 .1 .0 ++ drop (length (now (start p .args .pairs)) / 2) (now (start p .args .colored-constraints))) ≡ flatten (members (promised o)) (p .color-constraints .result)
-  members-are = take-at _ _ (length (now (start p .args .pairs)) / 2) (p .color-constraints .kept .1 .1 .1 .1 .1 .1 .0 ∙ length-take-le _ _ (o .colored-constraints)) ∙ painted .members-are
+  members-are = take-at _ _ (length (now (start p .args .pairs)) / 2) (p .color-constraints .kept .1 .1 .1 .1 .1 .1 .0 ∙ length-take-le _ _ (o .colored-constraints)) ∙ colored .members-are
 
   stamps-are : take (length (now (start p .args .flags))) (p .color-constraints .last .1 .1 .1 .1 .1 .1 .1 .0 ++ drop (length (now (start p .args .flags))) (now (start p .args .body-stamps))) ≡ p .color-constraints .last .1 .1 .1 .1 .1 .1 .1 .0
   stamps-are = take-at _ _ (length (now (start p .args .flags))) (p .color-constraints .kept .1 .1 .1 .1 .1 .1 .1 .0 ∙ length-take-le _ _ (o .body-stamps))
@@ -111,8 +112,8 @@ module _ (p : tie.After-color-constraints) where
 copy-flags-requires : tie.Need-copy-flags-requires
 copy-flags-requires c κs = ok (c .before .before .before .before .before .before .before .before .before .before .before .before .before .before .before .before) .dynamic-bodies
 
-copy-pairs-requires : tie.Need-copy-pairs-requires
-copy-pairs-requires c κs = let o = ok (c .before .before .before .before .before .before .before .before .before .before .before .before .before .before .before .before .before .before .before .before) in omega (arith, o .even, o .endpoints)
+copy-requires : tie.Need-copy-requires
+copy-requires c κs = let o = ok (c .before .before .before .before .before .before .before .before .before .before .before .before .before .before .before .before .before .before .before .before) in (omega arith, omega (arith, o .even, o .endpoints))
 
 slice-aggregate-color-constraints : tie.Need-slice-aggregate-color-constraints
 slice-aggregate-color-constraints c = refl
@@ -211,7 +212,7 @@ slice-aggregate-list-groups-8 c = sym (length-take-le _ _ (o (before-list (c .be
 list-groups-requires : tie.Need-list-groups-requires
 list-groups-requires c κs =
     let p = before-list (c .before .before .before .before .before .before .before .before) in
-    let q = painted p in
+    let q = colored p in
     let long = length-take-le (length (now (start p .args .pairs)) / 2) (p .color-constraints .last .1 .1 .1 .1 .0 ++ drop (length (now (start p .args .pairs)) / 2) (now (start p .args .constraint-colors))) (colors-room p) in
     let whole : length (now (start p .args .pairs)) ≡ 2 * length (take (length (now (start p .args .pairs)) / 2) (p .color-constraints .last .1 .1 .1 .1 .0 ++ drop (length (now (start p .args .pairs)) / 2) (now (start p .args .constraint-colors)))) = omega (arith, o p .even, long) in (
       (pairs-bounded _ _ whole, pairs-gapless _ _ whole, length-take-le _ _ (o p .constraint-body-positions) ∙ sym (o p .even)),
@@ -235,7 +236,7 @@ same-length : tie.Need-same-length
 same-length c = let p = after-colors (after-list (c .before)) in p .before .before .before .before .before .before .before .before .before .before .before .before .before .copy-flags .kept .1 .0
 
 same-length-2 : tie.Need-same-length-2
-same-length-2 c = let p = after-colors (after-list (c .before)) in p .before .before .before .before .before .before .before .before .before .copy-pairs .kept .1 .0
+same-length-2 c = let p = after-colors (after-list (c .before)) in p .before .before .before .before .before .before .before .before .before .copy .kept .1 .1 .0
 
 same-length-3 : tie.Need-same-length-3
 same-length-3 c =
@@ -280,24 +281,26 @@ returns : tie.Need-returns
 returns c =
     let l = after-list (c .before) in
     let p = after-colors l in
-    let q = painted p in
+    let q = colored p in
     let k = p .color-constraints .result in
     let s = colors-are p in
     record {
       plan = plan-is (o p) k (c .largest-part .result) (q .count-is) (c .largest-part .ensures ∙ ap widest (starts-are p) ∙ largest-is (promised (o p)) k (q .count-is));
-      dynamic-bodies = p .before .before .before .before .before .before .before .before .before .before .before .before .before .copy-flags .ensures;
-      endpoints = p .before .before .before .before .before .before .before .before .before .copy-pairs .ensures;
-      body-offsets = refl;
-      body-constraints = refl;
-      scratch-offsets = same-length-3 c;
-      constraint-colors = front-over _ _ _ _ (q .colors-are ∙ sym (colors-planned (o p))) (p .color-constraints .kept .1 .1 .1 .1 .0) (o p .constraint-colors);
-      color-stamps = refl;
-      body-stamps = same-length-5 c;
-      color-offsets = rw (starts-planned (o p) k (q .count-is)) (part-over _ (offsets (members (promised (o p))) k) (now (start p .args .color-offsets)) (length (now (start p .args .pairs)) / 2 + 1) (q .starts-are) (p .color-constraints .kept .1 .1 .1 .1 .1 .0));
-      colored-constraints = front-over _ _ _ _ (q .members-are ∙ sym (constraints-planned (o p) k (q .count-is))) (p .color-constraints .kept .1 .1 .1 .1 .1 .1 .0) (o p .colored-constraints);
-      color-body-offsets = front-over _ _ (now (start p .args .color-body-offsets)) (k + 1) (body-starts-planned (o p) s (q .count-is) (l .list-groups .ensures)) (l .list-groups .kept .1 .1 .1 .1 .1 .1 .1 .1 .1 .0) (omega (arith, few p, o p .color-body-offsets));
-      color-bodies = part-over _ (planOf (now (start p .args .flags)) (now (start p .args .pairs)) .color-bodies) (now (start p .args .color-bodies)) (2 * (length (now (start p .args .pairs)) / 2)) (bodies-planned (o p) s (q .count-is) (l .list-groups .ensures)) (l .list-groups .kept .1 .1 .1 .1 .1 .1 .1 .1 .1 .1 .0);
-      constraint-body-positions = front-over _ _ _ _ (positions-planned (o p) s (q .count-is) (l .list-groups .ensures)) (l .list-groups .kept .1 .1 .1 .1 .1 .1 .1 .1 .1 .1 .1 .0) (o p .constraint-body-positions);
+      tables = record {
+        dynamic-bodies = written-new _ _ _ (p .before .before .before .before .before .before .before .before .before .before .before .before .before .copy-flags .ensures);
+        endpoints = written-new _ _ _ (copy-over (now (start p .args .pairs)) (now (start p .args .endpoints)) _ (p .before .before .before .before .before .before .before .before .before .copy .ensures));
+        body-offsets = free-new refl;
+        body-constraints = free-new refl;
+        scratch-offsets = free-new (same-length-3 c);
+        constraint-colors = written-new _ _ _ (front-over _ _ _ _ (q .colors-are ∙ sym (colors-planned (o p))) (p .color-constraints .kept .1 .1 .1 .1 .0) (o p .constraint-colors));
+        color-stamps = free-new refl;
+        body-stamps = free-new (same-length-5 c);
+        color-offsets = written-new _ _ _ (rw (starts-planned (o p) k (q .count-is)) (part-over _ (offsets (members (promised (o p))) k) (now (start p .args .color-offsets)) (length (now (start p .args .pairs)) / 2 + 1) (q .starts-are) (p .color-constraints .kept .1 .1 .1 .1 .1 .0)));
+        colored-constraints = written-new _ _ _ (front-over _ _ _ _ (q .members-are ∙ sym (constraints-planned (o p) k (q .count-is))) (p .color-constraints .kept .1 .1 .1 .1 .1 .1 .0) (o p .colored-constraints));
+        color-body-offsets = written-new _ _ _ (front-over _ _ (now (start p .args .color-body-offsets)) (k + 1) (body-starts-planned (o p) s (q .count-is) (l .list-groups .ensures)) (l .list-groups .kept .1 .1 .1 .1 .1 .1 .1 .1 .1 .0) (omega (arith, few p, o p .color-body-offsets)));
+        color-bodies = written-new _ _ _ (part-over _ (planOf (now (start p .args .flags)) (now (start p .args .pairs)) .color-bodies) (now (start p .args .color-bodies)) (2 * (length (now (start p .args .pairs)) / 2)) (bodies-planned (o p) s (q .count-is) (l .list-groups .ensures)) (l .list-groups .kept .1 .1 .1 .1 .1 .1 .1 .1 .1 .1 .0));
+        constraint-body-positions = written-new _ _ _ (front-over _ _ _ _ (positions-planned (o p) s (q .count-is) (l .list-groups .ensures)) (l .list-groups .kept .1 .1 .1 .1 .1 .1 .1 .1 .1 .1 .1 .0) (o p .constraint-body-positions));
+      };
     }
 
 pub rebuild-spec : {M : Type 1} → statement M
@@ -305,7 +308,7 @@ rebuild-spec =
     tie.close
     (tie.spec
     copy-flags-requires
-    copy-pairs-requires
+    copy-requires
     slice-aggregate-color-constraints
     slice-relend-prefix-color-constraints
     slice-aggregate-color-constraints-2

@@ -1,7 +1,8 @@
 -- `build`: the front and the rest of the pairs are the two lists of an islands call.
 use mathlib.Core.Path.{sym}
 use lib.Seq.{length-take-le}
-use Rattle.frame_parts.proofs.Decoding.{rest-part, built-by}
+use Rattle.frame.proofs.Whole.{rest-part}
+use Rattle.frame_parts.proofs.Parts.{built-by}
 use borrow.Author.Needs.{needs}
 use Rattle.frame_parts.proofs.build.Statement.{statement}
 use Rattle.frame_parts.proofs.build.Tie as tie
@@ -40,7 +41,7 @@ same-length-4 : tie.Need-same-length-4
 same-length-4 c = c .before .before .before .before .before .before .before .before .build-with-joints .kept .1 .1 .1 .1 .1 .1 .1 .0
 
 returns : tie.Need-returns
-returns c = built-by _ _ _ _ _ _ _ _ _ _ _ _ _ _ _ _ (rest-part _ (c .before .before .before .before .before .before .before .before .before .before .before .before .before .before .before .before .before .before .before .before .before .before .args .pairs .now)) (c .before .before .before .before .before .before .before .before .build-with-joints .ensures .0)
+returns c = built-by _ _ _ _ _ _ _ _ _ _ _ _ _ _ _ _ (rest-part _ (c .before .before .before .before .before .before .before .before .before .before .before .before .before .before .before .before .before .before .before .before .before .before .args .pairs .now)) (c .before .before .before .before .before .before .before .before .build-with-joints .ensures .built)
 
 pub build-spec : {M : Type 1} → statement M
 build-spec =

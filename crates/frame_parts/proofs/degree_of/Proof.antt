@@ -3,7 +3,7 @@ use mathlib.Core.Path.{sym}
 use lib.ListN.{length}
 use lib.Seq.{length-take-le, length-front}
 use borrow.Author.Tests.{ne-eqb}
-use Rattle.frame_parts.proofs.Decoding.{degree-ready, degree-rest}
+use Rattle.frame_parts.proofs.Parts.{degree-ready, degree-rest}
 use borrow.Author.Needs.{needs}
 use Rattle.frame_parts.proofs.degree_of.Statement.{statement}
 use Rattle.frame_parts.proofs.degree_of.Tie as tie

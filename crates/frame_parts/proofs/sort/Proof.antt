@@ -1,7 +1,7 @@
 -- `sort`: the fronts of the label tables are as many labels as there are constraints.
 use mathlib.Core.Path.{sym}
 use lib.Seq.{length-take-le, length-paste-head}
-use Rattle.frame_parts.proofs.Decoding.{sortable-by}
+use Rattle.frame_parts.proofs.Parts.{sortable-by}
 use borrow.Author.Needs.{needs}
 use Rattle.frame_parts.proofs.sort.Statement.{statement}
 use Rattle.frame_parts.proofs.sort.Tie as tie

@@ -13,7 +13,7 @@ use Rattle.frame.specs.Files.{countB, countM, countJ, fileQuestions}
 use Rattle.frame.specs.Answers.{readSizes, sizesOf, Read}
 use Rattle.plan_questions.specs.Plans.{roomy}
 use Rattle.plan_questions.proofs.Rooms.{Fitted}
-use Rattle.frame_run.specs.Calls.{Lent, roomIn}
+use Rattle.frame_run.specs.Calls.{Lent, roomyIn}
 use Rattle.frame_run.proofs.Entry.{few-constraints, sizes-read, room-read, file-passed, room-passed, stopped, wanted, wanted-fit, spacious, sized-ran}
 use Rattle.frame_run.proofs.run.Statement.{statement}
 use Rattle.frame_run.proofs.run.Tie as tie
@@ -63,22 +63,22 @@ abbrev bytes : tie.After-first-refusal → List ℕ
 bytes w = start w .args .frame .now
 
 abbrev sized : tie.After-first-refusal → Frame
-sized w = w .before .before .before .before .read-sizes .result
+sized w = w .before .before .before .before .sizes-of .result
 
 was-read : (w : tie.After-first-refusal) → Read (bytes w) (w .before .before .before .before .before .read .result)
 was-read w = w .before .before .before .before .before .read .ensures
 
 sizes : (w : tie.After-first-refusal) → sized w ≡ readSizes (w .before .before .before .before .before .read .result)
-sizes w = w .before .before .before .before .read-sizes .ensures
+sizes w = w .before .before .before .before .sizes-of .ensures
 
-roomed : (w : tie.After-first-refusal) → asked (fileQuestions (bytes w)) ≡ 0 → w .before .before .room-for .result ≡ roomIn (bytes w) (lent (start w))
+roomed : (w : tie.After-first-refusal) → asked (fileQuestions (bytes w)) ≡ 0 → w .before .before .roomy-for .result ≡ roomyIn (bytes w) (lent (start w))
 unfolding roomy
 roomed w q = room-read (bytes w) _ (was-read w) q (lent (start w)) _ _ _ (w .before .before .before .roomy .result) _
     (ap (λ (f : Frame). f .bodies) (sizes w)) (ap (λ (f : Frame). f .manifolds) (sizes w)) (ap (λ (f : Frame). f .joints) (sizes w))
-    (w .before .before .before .roomy .ensures) (w .before .before .room-for .ensures)
+    (w .before .before .before .roomy .ensures) (w .before .before .roomy-for .ensures)
 
-file : (w : tie.After-first-refusal) → w .before .read-refusal .result ≡ asked (fileQuestions (bytes w))
-file w = w .before .read-refusal .ensures ∙ was-read w .refusal
+file : (w : tie.After-first-refusal) → w .before .refusal-of .result ≡ asked (fileQuestions (bytes w))
+file w = w .before .refusal-of .ensures ∙ was-read w .refusal
 
 -- ---- questions 1 to 6 are passed
 
@@ -86,7 +86,7 @@ module _ (w : tie.After-first-refusal) (z : w .first-refusal .result ≡ 0) wher
   passed : asked (fileQuestions (bytes w)) ≡ 0
   passed = file-passed (bytes w) (lent (start w)) _ _ _ (file w) (roomed w) (w .first-refusal .ensures) z
 
-  room : roomIn (bytes w) (lent (start w)) ≡ true
+  room : roomyIn (bytes w) (lent (start w)) ≡ true
   room = room-passed (bytes w) (lent (start w)) _ _ _ (file w) (roomed w) (w .first-refusal .ensures) z
 
   all-sizes : sized w ≡ sizesOf (bytes w)
@@ -104,11 +104,11 @@ module _ (w : tie.After-first-refusal) (z : w .first-refusal .result ≡ 0) wher
 read-requires : tie.Need-read-requires
 read-requires c κs = search needs
 
-read-sizes-requires : tie.Need-read-sizes-requires
-read-sizes-requires c κs = search needs
+sizes-of-requires : tie.Need-sizes-of-requires
+sizes-of-requires c κs = search needs
 
-few : (w : tie.After-read-sizes) → (w .read-sizes .result .manifolds ≤ 4096) × (w .read-sizes .result .joints ≤ 4096)
-few w = rw (w .read-sizes .ensures) (few-constraints _ _ (w .before .read .ensures))
+few : (w : tie.After-sizes-of) → (w .sizes-of .result .manifolds ≤ 4096) × (w .sizes-of .result .joints ≤ 4096)
+few w = rw (w .sizes-of .ensures) (few-constraints _ _ (w .before .read .ensures))
 
 add-constraints : tie.Need-add-constraints
 add-constraints c = omega (arith, few c .0, few c .1)
@@ -116,11 +116,11 @@ add-constraints c = omega (arith, few c .0, few c .1)
 roomy-requires : tie.Need-roomy-requires
 roomy-requires c κs = search needs
 
-room-for-requires : tie.Need-room-for-requires
-room-for-requires c κs = few (c .before)
+roomy-for-requires : tie.Need-roomy-for-requires
+roomy-for-requires c κs = few (c .before)
 
-read-refusal-requires : tie.Need-read-refusal-requires
-read-refusal-requires c κs = search needs
+refusal-of-requires : tie.Need-refusal-of-requires
+refusal-of-requires c κs = search needs
 
 first-refusal-requires : tie.Need-first-refusal-requires
 first-refusal-requires c κs = search needs
@@ -318,11 +318,11 @@ run-spec =
     tie.close
     (tie.spec
     read-requires
-    read-sizes-requires
+    sizes-of-requires
     add-constraints
     roomy-requires
-    room-for-requires
-    read-refusal-requires
+    roomy-for-requires
+    refusal-of-requires
     first-refusal-requires
     returns
     slice-relend-prefix-run-sized

@@ -19,10 +19,10 @@ abbrev started : tie.After-fill-arg13 → tie.Start
 started c = c .before .before .before .before .before .before .before .before .before .before .before .before .before .before .before .before .before .before .before .before .before .before .before .before .before .before .before .before .before .before .before .before .before .before .before .before .before .before
 
 -- the runs of the tables and of the islands, seen from the end
-abbrev filled-at : tie.After-told → tie.After-fill
+abbrev filled-at : tie.After-answer-of → tie.After-fill
 filled-at c = c .before .before .before .before .before .before .before .before .before .before .before .before .before .before .before .before .before .before .before .before .before .before .before .before .before .before .before .before .before .before .before .before .before .before .before .before .before .before .before .before .before .before .before .before .before .before .before .before .before .before .before .before .before .before .before .before .before .before .before .before .before .before .before .before .before .before .before .before .before .before .before .before .before .before .before .before .before .before .before
 
-abbrev ran-at : tie.After-told → tie.After-run-islands
+abbrev ran-at : tie.After-answer-of → tie.After-run-islands
 ran-at c = c .before .before .before .before .before .before .before .before .before .before .before .before .before .before .before .before .before .before .before .before .before .before .before .before .before .before .before .before .before .before .before
 
 -- the plan's tables as they come, and as the filling leaves them
@@ -109,8 +109,8 @@ run-islands-requires c κs =
     let w = c .before .before .before .before .before .before .before .before .before .before .before .before .before .before .before .before .before .before .before .before .before .before .before .before .before .before .before .before .before .before .before .before .before .before .before .before .before .before .before .before .before .before .before .before .before .before .before in
     (prepared-cut (start w .args .frame .now) (start w .pre .0 .file) (w .fill .last .1 .1 .1 .1 .1 .1 .0) (w .fill .last .1 .1 .1 .1 .1 .1 .1 .0) (w .fill .last .1 .1 .1 .1 .1 .1 .1 .1 .0) (w .fill .last .1 .1 .1 .1 .1 .1 .1 .1 .1 .0) (start w .args .parents .now) (start w .args .body-islands .now) (start w .args .manifold-islands .now) (start w .args .joint-islands .now) (w .fill .last .1 .1 .0) (w .fill .last .1 .1 .1 .0) (w .fill .last .1 .1 .1 .1 .0) (w .fill .last .1 .1 .1 .1 .1 .0) (w .fill .last .1 .1 .1 .1 .1 .1 .1 .1 .1 .1 .0) (w .fill .result) (w .fill .ensures) (start w .args .manifolds) (start w .pre .0 .manifolds) _ (entry (start w)) (filled w) (more-manifolds w) (more-joints w) (start w .pre .1 .island-pairs) (start w .pre .1 .tables) (same w), (room-cut (start w .args .frame .now) (start w .pre .0 .file) (w .fill .last .1 .1 .1 .1 .1 .1 .0) (w .fill .last .1 .1 .1 .1 .1 .1 .1 .0) (w .fill .last .1 .1 .1 .1 .1 .1 .1 .1 .0) (w .fill .last .1 .1 .1 .1 .1 .1 .1 .1 .1 .0) (start w .args .parents .now) (start w .args .body-islands .now) (start w .args .manifold-islands .now) (start w .args .joint-islands .now) (w .fill .last .1 .1 .0) (w .fill .last .1 .1 .1 .0) (w .fill .last .1 .1 .1 .1 .0) (w .fill .last .1 .1 .1 .1 .1 .0) (w .fill .last .1 .1 .1 .1 .1 .1 .1 .1 .1 .1 .0) (w .fill .result) (w .fill .ensures) (start w .args .manifolds) (start w .pre .0 .manifolds) _ (start w .pre .1 .turns), types-known (start w .args .frame .now) (start w .pre .0 .file) (w .fill .last .1 .1 .1 .1 .1 .1 .0) (w .fill .last .1 .1 .1 .1 .1 .1 .1 .0) (w .fill .last .1 .1 .1 .1 .1 .1 .1 .1 .0) (w .fill .last .1 .1 .1 .1 .1 .1 .1 .1 .1 .0) (start w .args .parents .now) (start w .args .body-islands .now) (start w .args .manifold-islands .now) (start w .args .joint-islands .now) (w .fill .last .1 .1 .0) (w .fill .last .1 .1 .1 .0) (w .fill .last .1 .1 .1 .1 .0) (w .fill .last .1 .1 .1 .1 .1 .0) (w .fill .last .1 .1 .1 .1 .1 .1 .1 .1 .1 .1 .0) (w .fill .result) (w .fill .ensures)))
 
-told-requires : tie.Need-told-requires
-told-requires c κs = search needs
+answer-of-requires : tie.Need-answer-of-requires
+answer-of-requires c κs = search needs
 
 same-length : tie.Need-same-length
 same-length c = filled-at c .fill .kept .1 .1 .0
@@ -187,7 +187,7 @@ same-length-24 c = ran-at c .run-islands .kept .1 .1 .1 .1 .1 .1 .1 .1 .1 .1 .1 
 returns : tie.Need-returns
 returns c =
     let w = filled-at c in
-    ran (start w .args .frame .now) (start w .pre .0 .file) (w .fill .last .1 .1 .1 .1 .1 .1 .0) (w .fill .last .1 .1 .1 .1 .1 .1 .1 .0) (w .fill .last .1 .1 .1 .1 .1 .1 .1 .1 .0) (w .fill .last .1 .1 .1 .1 .1 .1 .1 .1 .1 .0) (start w .args .parents .now) (start w .args .body-islands .now) (start w .args .manifold-islands .now) (start w .args .joint-islands .now) (w .fill .last .1 .1 .0) (w .fill .last .1 .1 .1 .0) (w .fill .last .1 .1 .1 .1 .0) (w .fill .last .1 .1 .1 .1 .1 .0) (w .fill .last .1 .1 .1 .1 .1 .1 .1 .1 .1 .1 .0) (w .fill .result) (w .fill .ensures) (start w .args .manifolds) (start w .pre .0 .manifolds) _ _ _ _ (ran-at c .run-islands .ensures) (c .told .ensures)
+    ran (start w .args .frame .now) (start w .pre .0 .file) (w .fill .last .1 .1 .1 .1 .1 .1 .0) (w .fill .last .1 .1 .1 .1 .1 .1 .1 .0) (w .fill .last .1 .1 .1 .1 .1 .1 .1 .1 .0) (w .fill .last .1 .1 .1 .1 .1 .1 .1 .1 .1 .0) (start w .args .parents .now) (start w .args .body-islands .now) (start w .args .manifold-islands .now) (start w .args .joint-islands .now) (w .fill .last .1 .1 .0) (w .fill .last .1 .1 .1 .0) (w .fill .last .1 .1 .1 .1 .0) (w .fill .last .1 .1 .1 .1 .1 .0) (w .fill .last .1 .1 .1 .1 .1 .1 .1 .1 .1 .1 .0) (w .fill .result) (w .fill .ensures) (start w .args .manifolds) (start w .pre .0 .manifolds) _ _ _ _ (ran-at c .run-islands .ensures) (c .answer-of .ensures)
 
 pub run-sized-spec : {M : Type 1} → statement M
 run-sized-spec =
@@ -199,7 +199,7 @@ run-sized-spec =
     slice-reshare-prefix-run-islands-2
     slice-aggregate-run-islands-2
     run-islands-requires
-    told-requires
+    answer-of-requires
     same-length
     same-length-2
     same-length-3

@@ -32,8 +32,9 @@ same-length-3 c = search needs
 returns : tie.Need-returns
 returns c =
     let f = c .before .before .before .before .before .before .before .build-with-joints in
-    let w = f .ensures .0 in (
-      record {
+    let w = f .ensures .built in
+    record {
+      built = record {
         refusal = w .refusal;
         count = w .count;
         body-labels = w .body-labels;
@@ -43,9 +44,9 @@ returns c =
         beyond = w .beyond;
         alone = w .alone;
         kept = w .kept;
-      },
-      f .ensures .1,
-    )
+      };
+      refused = f .ensures .refused;
+    }
 
 pub build-spec : {M : Type 1} → statement M
 build-spec =

@@ -1,13 +1,13 @@
--- `island::join_one` meets its contract: a constraint that is not live joins and marks nothing, a live one that passes question 7 has its bodies inside the tables.
+-- `island::join_one` meets its contract: a constraint that is not live joins and constrains nothing, a live one that passes question 7 has its bodies inside the tables.
 use borrow.Author.Needs.{needs}
 use Prim.Native.Nat.{ℕ, _<_}
 use mathlib.Core.Path.{refl, sym, _∙_, subst}
-use mathlib.Core.Bool.{false}
+use mathlib.Core.Bool.{false, and-true}
 use lib.ListN.{length}
 use borrow.Author.Tests.{not-true, not-false}
 use Rattle.lists.proofs.Laws.{clashes}
 use Rattle.frame.proofs.Pairs.{sound-in}
-use Rattle.island_joins.proofs.Joining.{only, joined-dead, joined-live}
+use Rattle.island_joins.proofs.Joining.{joined-dead, joined-live}
 use Rattle.island_joins.proofs.join_one.Statement.{statement}
 use Rattle.island_joins.proofs.join_one.Tie as tie
 
@@ -24,19 +24,19 @@ sound-one-requires : tie.Need-sound-one-requires
 sound-one-requires c κs = search needs
 
 returns : tie.Need-returns
-returns c = record { answer = sym (not-true _ (c .if1 .taken)) ∙ c .before .sound-one .ensures ∙ only _; joined = λ e. clashes false e refl }
+returns c = record { answer = sym (not-true _ (c .if1 .taken)) ∙ c .before .sound-one .ensures ∙ sym (and-true _); joined = λ e. clashes false e refl }
 
 returns-2 : tie.Need-returns-2
 returns-2 c =
     let s = c .before .before .before .before .before .before in
     let a = s .args in
     record {
-      answer = sym (not-false _ (c .before .if1 .left)) ∙ c .before .before .sound-one .ensures ∙ only _;
+      answer = sym (not-false _ (c .before .if1 .left)) ∙ c .before .before .sound-one .ensures ∙ sym (and-true _);
       joined = λ e. joined-dead (a .body-types .now) (a .parents .now) (a .body-islands .now) (a .live) (a .a) (a .b) (s .pre .falls) (not-true _ (c .if2 .taken));
     }
 
-mark-requires : tie.Need-mark-requires
-mark-requires c κs =
+constrain-requires : tie.Need-constrain-requires
+constrain-requires c κs =
     let s = start (c .before) in
     let h = inside (c .before) in
     (subst (λ (n : ℕ). s .args .a < n) (sym (s .pre .long-bodies)) (h .0), subst (λ (n : ℕ). s .args .b < n) (sym (s .pre .long-bodies)) (h .1))
@@ -59,9 +59,9 @@ returns-3 c =
     let a = s .args in
     let h = inside d in
     let j = c .before .before .join-dynamic in
-    let m = c .before .before .before .before .before .before .mark in
+    let m = c .before .before .before .before .before .before .constrain in
     record {
-      answer = sym (not-false _ (d .before .if1 .left)) ∙ d .before .before .sound-one .ensures ∙ only _;
+      answer = sym (not-false _ (d .before .if1 .left)) ∙ d .before .before .sound-one .ensures ∙ sym (and-true _);
       joined = λ e. joined-live (a .body-types .now) (a .parents .now) (a .body-islands .now) (a .live) (a .a) (a .b) (j .last .1 .0) (m .last .0) (j .ensures .0) (not-false _ (d .if2 .left))
           (subst (λ (n : ℕ). a .a < n) (sym (s .pre .long-bodies)) (h .0)) (subst (λ (n : ℕ). a .b < n) (sym (s .pre .long-bodies)) (h .1)) (j .ensures .1) (m .ensures);
     }
@@ -73,7 +73,7 @@ join-one-spec =
     sound-one-requires
     returns
     returns-2
-    mark-requires
+    constrain-requires
     join-dynamic-requires
     same-length
     same-length-2

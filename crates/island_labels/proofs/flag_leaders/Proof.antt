@@ -18,14 +18,14 @@ loop-holds c =
     let a = c .before .before .before .args in
     flagging-starts (a .body-types .now) (a .parents .now) (a .body-islands .now)
 
-shared-slice-read-marked : tie.Need-shared-slice-read-marked Inv-loop μ-loop
-shared-slice-read-marked c = search needs
+shared-slice-read-in-island : tie.Need-shared-slice-read-in-island Inv-loop μ-loop
+shared-slice-read-in-island c = search needs
 
-mul-marked : tie.Need-mul-marked Inv-loop μ-loop
-mul-marked c = search needs
+mul-in-island : tie.Need-mul-in-island Inv-loop μ-loop
+mul-in-island c = search needs
 
-slice-read-marked : tie.Need-slice-read-marked Inv-loop μ-loop
-slice-read-marked c = search needs
+slice-read-in-island : tie.Need-slice-read-in-island Inv-loop μ-loop
+slice-read-in-island c = search needs
 
 mul-bit : tie.Need-mul-bit Inv-loop μ-loop
 mul-bit c = search needs
@@ -75,9 +75,9 @@ flag-leaders-spec =
     Inv-loop
     μ-loop
     loop-holds
-    shared-slice-read-marked
-    mul-marked
-    slice-read-marked
+    shared-slice-read-in-island
+    mul-in-island
+    slice-read-in-island
     mul-bit
     shared-slice-read-bit
     cast-bit

@@ -7,7 +7,7 @@ use mathlib.Core.List.{List, _++_}
 use lib.ListN.{length, take, length-set}
 use Rattle.lists.specs.Basics.{rangeFrom, range}
 use Rattle.lists.proofs.Fills.{fill-turn, fill-end}
-use Rattle.island_sets.proofs.Alone.{self-next}
+use Rattle.lists.proofs.Ranges.{range-next}
 use Rattle.island_sets.proofs.fill_self.Statement.{statement}
 use Rattle.island_sets.proofs.fill_self.Tie as tie
 
@@ -42,7 +42,7 @@ loop-again c =
     let t = l .parents in
     let i = l .body in
     let h : i < n = omega arith in
-    (omega arith, length-set t i i ∙ l .inv .1, fill-turn t (rangeFrom (i + 1) (n - (i + 1))) (range n) i i (c .loop-test .taken) (ap (λ (r : List ℕ). take i t ++ r) (sym (self-next n i h)) ∙ l .inv .2))
+    (omega arith, length-set t i i ∙ l .inv .1, fill-turn t (rangeFrom (i + 1) (n - (i + 1))) (range n) i i (c .loop-test .taken) (ap (λ (r : List ℕ). take i t ++ r) (sym (range-next n i h)) ∙ l .inv .2))
 
 same-length : tie.Need-same-length Inv-loop μ-loop
 same-length c = c .before .loop .inv .1

@@ -1,7 +1,7 @@
 -- `locate`: the constraints of the groups before `color` have their positions; the measure is the groups left.
 use borrow.Author.Needs.{needs}
 use Prim.Native.Nat.{_-_}
-use Rattle.locating.proofs.Settles.{Settling, settling-none, settling-done, members-cut, bodies-cut, group-laid, group-findable, group-low, settling-more}
+use Rattle.locating.proofs.Settles.{Settling, settling-none, settling-done, members-cut, bodies-cut, group-arranged, group-findable, group-low, settling-more}
 use Rattle.locating.proofs.locate.Statement.{statement}
 use Rattle.locating.proofs.locate.Tie as tie
 
@@ -39,7 +39,7 @@ locate-members-requires c κs =
     let h = d .before .before .loop-test .taken in
     let m = d .before .between .ensures in
     let b = d .between2 .ensures in
-    (group-laid (s .pre .0) (s .pre .1) (l .loop .inv) h m b, (group-findable (s .pre .0) (s .pre .1) (l .loop .inv) h m b, group-low (s .pre .0) (s .pre .1) (l .loop .inv) h m b))
+    (group-arranged (s .pre .0) (s .pre .1) (l .loop .inv) h m b, (group-findable (s .pre .0) (s .pre .1) (l .loop .inv) h m b, group-low (s .pre .0) (s .pre .1) (l .loop .inv) h m b))
 
 add-color : tie.Need-add-color Inv-loop μ-loop
 add-color c = search needs

@@ -34,14 +34,14 @@ new-requires c κs = search needs
 update-requires : tie.Need-update-requires
 update-requires c κs = search needs
 
-plan-of-requires : tie.Need-plan-of-requires
-plan-of-requires c κs = search needs
+plan-after-requires : tie.Need-plan-after-requires
+plan-after-requires c κs = search needs
 
 run-groups-requires : tie.Need-run-groups-requires
 run-groups-requires c κs =
     let u = c .before .before .before .before .before .before .before .before .before .before .before .before .before .before .before .before .before .before .before .before .before .before .before .before .before .before .before .before .before .before .before .before .before in
     let q = c .before .before .before .before .before .before in
-    (groups-few (start u .args .types .now) (start u .args .flags .now) (start u .args .pairs .now) (start u .args .numbers .now) _ (start u .args .island) (entry (start u)) (after u) _ _ _ _ (start u .pre .0) (collected u .collect-pairs .ensures) (collected u .collect-pairs .kept .1 .1 .0) (fresh u .new .ensures) (u .update .ensures) (q .plan-of .ensures), (room-by (ap addedBy (sym (island-is (start u .args .types .now) (start u .args .flags .now) (start u .args .pairs .now) (start u .args .numbers .now) _ (start u .args .island) (entry (start u)) (after u) _ _ _ _ (start u .pre .0) (collected u .collect-pairs .ensures) (collected u .collect-pairs .kept .1 .1 .0) (fresh u .new .ensures) (u .update .ensures) (q .plan-of .ensures)))) (start u .pre .1 .0), start u .pre .1 .1))
+    (groups-few (start u .args .types .now) (start u .args .flags .now) (start u .args .pairs .now) (start u .args .numbers .now) _ (start u .args .island) (entry (start u)) (after u) _ _ _ _ (start u .pre .0) (collected u .collect-pairs .ensures) (collected u .collect-pairs .kept .1 .1 .0) (fresh u .new .ensures) (u .update .ensures) (q .plan-after .ensures), (room-by (ap addedBy (sym (island-is (start u .args .types .now) (start u .args .flags .now) (start u .args .pairs .now) (start u .args .numbers .now) _ (start u .args .island) (entry (start u)) (after u) _ _ _ _ (start u .pre .0) (collected u .collect-pairs .ensures) (collected u .collect-pairs .kept .1 .1 .0) (fresh u .new .ensures) (u .update .ensures) (q .plan-after .ensures)))) (start u .pre .1 .0), start u .pre .1 .1))
 
 same-length : tie.Need-same-length
 same-length c = c .before .before .before .before .before .before .before .before .before .before .before .before .before .before .before .before .before .before .before .before .before .before .before .before .before .before .before .before .before .before .before .before .before .before .before .before .before .before .before .before .before .before .before .before .before .before .before .before .before .before .before .before .before .before .collect-pairs .kept .1 .1 .0
@@ -92,7 +92,7 @@ returns : tie.Need-returns
 returns c =
     let u = c .before .before .before .before .before .before .before .before .before .before .before .before .before .before .before .before .before .before .before .before .before .before .before .before .before .before .before .before .before .before .before .before .before .before .before .before in
     let q = c .before .before .before .before .before .before .before .before .before in
-    appended-by (ap addedBy (island-is (start u .args .types .now) (start u .args .flags .now) (start u .args .pairs .now) (start u .args .numbers .now) _ (start u .args .island) (entry (start u)) (after u) _ _ _ _ (start u .pre .0) (collected u .collect-pairs .ensures) (collected u .collect-pairs .kept .1 .1 .0) (fresh u .new .ensures) (u .update .ensures) (q .plan-of .ensures))) (c .before .before .run-groups .ensures)
+    appended-by (ap addedBy (island-is (start u .args .types .now) (start u .args .flags .now) (start u .args .pairs .now) (start u .args .numbers .now) _ (start u .args .island) (entry (start u)) (after u) _ _ _ _ (start u .pre .0) (collected u .collect-pairs .ensures) (collected u .collect-pairs .kept .1 .1 .0) (fresh u .new .ensures) (u .update .ensures) (q .plan-after .ensures))) (c .before .before .run-groups .ensures)
 
 pub run-island-spec : {M : Type 1} → statement M
 run-island-spec =
@@ -101,7 +101,7 @@ run-island-spec =
     collect-pairs-requires
     new-requires
     update-requires
-    plan-of-requires
+    plan-after-requires
     run-groups-requires
     same-length
     same-length-2

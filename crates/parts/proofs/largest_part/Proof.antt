@@ -17,7 +17,7 @@ abbrev width : List ℕ → ℕ → ℕ
 width bounds k = getD bounds (suc k) 0 - getD bounds k 0
 
 abbrev Inv-loop : tie.InvT-loop
-Inv-loop bounds largest₀ end₀ largest end = (1 ≤ end) × (end - 1 ≤ length bounds - 1) × (largest ≡ maxOf (width bounds) (range (end - 1)))
+Inv-loop bounds largest₀ end₀ largest end = (1 ≤ end) × (end - 1 ≤ length bounds - 1) × (largest ≤ 65535) × (largest ≡ maxOf (width bounds) (range (end - 1)))
 
 abbrev μ-loop : tie.MeasureT-loop
 μ-loop bounds largest₀ end₀ largest end = length bounds - end
@@ -37,16 +37,13 @@ module _ (bounds : List ℕ) (largest end : ℕ) (first : 1 ≤ end) where
   done h i v = let e : end - 1 ≡ length bounds - 1 = omega arith in v ∙ ap (λ (n : ℕ). maxOf (width bounds) (range n)) e
 
 loop-holds : tie.Need-loop-holds Inv-loop μ-loop
-loop-holds c = (omega arith, omega arith, refl)
+loop-holds c = (omega arith, omega arith, omega arith, refl)
 
 mul-size : tie.Need-mul-size Inv-loop μ-loop
 mul-size c = search needs
 
 shared-slice-read-size : tie.Need-shared-slice-read-size Inv-loop μ-loop
 shared-slice-read-size c = search needs
-
-cast-size : tie.Need-cast-size Inv-loop μ-loop
-cast-size c = omega (arith, c .shared-slice-known2 .given (c .before .before .loop .end))
 
 sub-size : tie.Need-sub-size Inv-loop μ-loop
 sub-size c = search needs
@@ -56,9 +53,6 @@ mul-size-2 c = search needs
 
 shared-slice-read-size-2 : tie.Need-shared-slice-read-size-2 Inv-loop μ-loop
 shared-slice-read-size-2 c = search needs
-
-cast-size-2 : tie.Need-cast-size-2 Inv-loop μ-loop
-cast-size-2 c = omega (arith, c .shared-slice-known3 .given (c .before .before .before .loop .end - 1))
 
 sub-size-2 : tie.Need-sub-size-2 Inv-loop μ-loop
 sub-size-2 c = let l = c .before .before .before in low (now (l .before .before .args .bounds)) (l .loop .largest) (l .loop .end) (l .loop .inv .0) (l .before .before .pre) (omega arith)
@@ -75,12 +69,15 @@ loop-less c = search needs
 loop-again : tie.Need-loop-again Inv-loop μ-loop
 loop-again c =
     let l = c .before .before .before .before in
-    (omega arith, omega arith, more (now (l .before .before .args .bounds)) (l .loop .largest) (l .loop .end) (l .loop .inv .0) (c .larger .result) (l .loop .inv .2) (c .larger .ensures))
+    (omega arith, omega arith, omega (arith, c .larger .ok), more (now (l .before .before .args .bounds)) (l .loop .largest) (l .loop .end) (l .loop .inv .0) (c .larger .result) (l .loop .inv .3) (c .larger .ensures))
+
+cast-result : tie.Need-cast-result Inv-loop μ-loop
+cast-result c = omega (arith, c .before .loop .inv .2)
 
 returns : tie.Need-returns Inv-loop μ-loop
 returns c =
     let l = c .before in
-    done (now (l .before .before .args .bounds)) (l .loop .largest) (l .loop .end) (l .loop .inv .0) (omega arith) (l .loop .inv .1) (l .loop .inv .2)
+    done (now (l .before .before .args .bounds)) (l .loop .largest) (l .loop .end) (l .loop .inv .0) (omega arith) (l .loop .inv .1) (l .loop .inv .3)
 
 pub largest-part-spec : {M : Type 1} → statement M
 largest-part-spec =
@@ -91,14 +88,13 @@ largest-part-spec =
     loop-holds
     mul-size
     shared-slice-read-size
-    cast-size
     sub-size
     mul-size-2
     shared-slice-read-size-2
-    cast-size-2
     sub-size-2
     larger-requires
     add-end
     loop-less
     loop-again
+    cast-result
     returns)

@@ -19,13 +19,13 @@ use Rattle.plan_questions.proofs.update_refusal.Tie as tie
 abbrev at-3 : tie.Else1 → tie.Start
 at-3 c = c .before .before .before
 
-passed-3 : (c : tie.Else1) → few (at-3 c .args .dynamic-bodies .now) (at-3 c .args .endpoints .now) ≡ true
-passed-3 c = not-false (few (at-3 c .args .dynamic-bodies .now) (at-3 c .args .endpoints .now)) (c .if1 .left)
+passed-3 : (c : tie.Else1) → few (at-3 c .args .flags .now) (at-3 c .args .pairs .now) ≡ true
+passed-3 c = not-false (few (at-3 c .args .flags .now) (at-3 c .args .pairs .now)) (c .if1 .left)
 
-passed-4 : (c : tie.Else2) → eqb (length (at-3 (c .before) .args .endpoints .now) % 2) 0 ≡ true
+passed-4 : (c : tie.Else2) → eqb (length (at-3 (c .before) .args .pairs .now) % 2) 0 ≡ true
 passed-4 c = eq-eqb _ _ (c .if2 .left)
 
-passed-5 : (c : tie.Else3) → bits (at-3 (c .before .before .before) .args .dynamic-bodies .now) ≡ true
+passed-5 : (c : tie.Else3) → bits (at-3 (c .before .before .before) .args .flags .now) ≡ true
 passed-5 c = sym (c .before .at-most .ensures) ∙ not-false (c .before .at-most .result) (c .if3 .left)
 
 passed-6 : (c : tie.Else4) → at-3 (c .before .before .before .before) .args .room ≡ true
@@ -35,12 +35,12 @@ passed-6 c = not-false _ (c .if4 .left)
 abbrev at-7 : tie.After-all-sound → tie.Else4
 at-7 c = c .before .before
 
-asked-7 : (c : tie.After-all-sound) → all (fits (length (at-3 (at-7 c .before .before .before .before) .args .dynamic-bodies .now))) (pairsOf (at-3 (at-7 c .before .before .before .before) .args .endpoints .now)) ≡ c .all-sound .result
-asked-7 c = sym (c .all-sound .ensures ∙ sound-pairs (length (at-3 (at-7 c .before .before .before .before) .args .dynamic-bodies .now)) (at-3 (at-7 c .before .before .before .before) .args .endpoints .now))
+asked-7 : (c : tie.After-all-sound) → all (fits (length (at-3 (at-7 c .before .before .before .before) .args .flags .now))) (pairsOf (at-3 (at-7 c .before .before .before .before) .args .pairs .now)) ≡ c .all-sound .result
+asked-7 c = sym (c .all-sound .ensures ∙ sound-pairs (length (at-3 (at-7 c .before .before .before .before) .args .flags .now)) (at-3 (at-7 c .before .before .before .before) .args .pairs .now))
 
 returns : tie.Need-returns
 unfolding updateRefusal
-returns c = rw (not-true (few (c .before .before .before .args .dynamic-bodies .now) (c .before .before .before .args .endpoints .now)) (c .if1 .taken))
+returns c = rw (not-true (few (c .before .before .before .args .flags .now) (c .before .before .before .args .pairs .now)) (c .if1 .taken))
 
 returns-2 : tie.Need-returns-2
 unfolding updateRefusal

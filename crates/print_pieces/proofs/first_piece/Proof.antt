@@ -11,8 +11,8 @@ use Rattle.print_pieces.proofs.first_piece.Tie as tie
 answer-to-requires : tie.Need-answer-to-requires
 answer-to-requires c κs = search needs
 
-reported-requires : tie.Need-reported-requires
-reported-requires c κs = search needs
+report-of-requires : tie.Need-report-of-requires
+report-of-requires c κs = search needs
 
 put-first-line-requires : tie.Need-put-first-line-requires
 put-first-line-requires c κs = search needs
@@ -24,7 +24,7 @@ returns : tie.Need-returns
 returns c =
     let l = c .put-lines in
     let f = c .before .before .before .before .put-first-line in
-    let n = c .before .before .before .before .before .before .reported in
+    let n = c .before .before .before .before .before .before .report-of in
     let a = c .before .before .before .before .before .before .before .answer-to in
     let s = c .before .before .before .before .before .before .before .before .before .before .args in
     first-stands (s .frame .now) (s .turns .now) (a .last .1 .0) (s .out .now) (f .last .0) (l .last .1 .1 .1 .1 .0) (a .result) (n .result .turns) (f .result) (l .result)
@@ -35,7 +35,7 @@ first-piece-spec =
     tie.close
     (tie.spec
     answer-to-requires
-    reported-requires
+    report-of-requires
     put-first-line-requires
     put-lines-requires
     returns)

@@ -17,7 +17,7 @@ use Rattle.printing.proofs.put_head.Statement.{statement}
 use Rattle.printing.proofs.put_head.Tie as tie
 
 room : (c : tie.Else1) → leb (c .before .before .before .args .at + longest) (length (c .before .before .before .args .out .now)) ≡ true
-room c = sym (c .before .roomy .ensures) ∙ not-false (c .before .roomy .result) (c .if1 .left)
+room c = sym (c .before .line-fits .ensures) ∙ not-false (c .before .line-fits .result) (c .if1 .left)
 
 -- the function's entry, from the first call
 abbrev entry : tie.After-put-field → tie.Start
@@ -54,13 +54,13 @@ degree c =
     wrote-then (field islandsWord (a .islands) 32 ++ field turnsWord (a .turns) 32 ++ field takesWord (a .takes) 32) (field degreeWord (a .degree) 10) (a .out .now) (d .put-field3 .last .0) (c .put-field4 .last .0) (a .at) (d .put-field3 .result) (c .put-field4 .result) 28 0
     (takes d) (c .put-field4 .ensures) (field-short degreeWord (a .degree) 10)
 
-roomy-requires : tie.Need-roomy-requires
-roomy-requires c κs = search needs
+line-fits-requires : tie.Need-line-fits-requires
+line-fits-requires c κs = search needs
 
 returns : tie.Need-returns
 returns c =
     let a = c .before .before .before .args in
-    no-room (headOf (a .islands) (a .turns) (a .takes) (a .degree)) (a .out .now) (a .at) (sym (c .before .roomy .ensures) ∙ not-true (c .before .roomy .result) (c .if1 .taken))
+    no-room (headOf (a .islands) (a .turns) (a .takes) (a .degree)) (a .out .now) (a .at) (sym (c .before .line-fits .ensures) ∙ not-true (c .before .line-fits .result) (c .if1 .taken))
 
 slice-aggregate-put-field : tie.Need-slice-aggregate-put-field
 slice-aggregate-put-field c = search needs
@@ -103,7 +103,7 @@ pub put-head-spec : {M : Type 1} → statement M
 put-head-spec =
     tie.close
     (tie.spec
-    roomy-requires
+    line-fits-requires
     returns
     slice-aggregate-put-field
     put-field-requires

@@ -15,15 +15,15 @@ use Rattle.printing.proofs.put_refusal.Statement.{statement}
 use Rattle.printing.proofs.put_refusal.Tie as tie
 
 room : (c : tie.Else1) → leb (c .before .before .before .args .at + longest) (length (c .before .before .before .args .out .now)) ≡ true
-room c = sym (c .before .roomy .ensures) ∙ not-false (c .before .roomy .result) (c .if1 .left)
+room c = sym (c .before .line-fits .ensures) ∙ not-false (c .before .line-fits .result) (c .if1 .left)
 
-roomy-requires : tie.Need-roomy-requires
-roomy-requires c κs = search needs
+line-fits-requires : tie.Need-line-fits-requires
+line-fits-requires c κs = search needs
 
 returns : tie.Need-returns
 returns c =
     let a = c .before .before .before .args in
-    no-room (refusalLine (a .number)) (a .out .now) (a .at) (sym (c .before .roomy .ensures) ∙ not-true (c .before .roomy .result) (c .if1 .taken))
+    no-room (refusalLine (a .number)) (a .out .now) (a .at) (sym (c .before .line-fits .ensures) ∙ not-true (c .before .line-fits .result) (c .if1 .taken))
 
 slice-aggregate-put-field : tie.Need-slice-aggregate-put-field
 slice-aggregate-put-field c = search needs
@@ -43,4 +43,4 @@ returns-2 c =
     with-room (field refusedWord (a .number) 10) (refusalLine (a .number)) (a .out .now) (a .at) (p .last .0) (p .result) (room (c .before .before .before .before .before)) (refusal-field (a .number)) (p .ensures)
 
 pub put-refusal-spec : {M : Type 1} → statement M
-put-refusal-spec = tie.close (tie.spec roomy-requires returns slice-aggregate-put-field put-field-requires same-length returns-2)
+put-refusal-spec = tie.close (tie.spec line-fits-requires returns slice-aggregate-put-field put-field-requires same-length returns-2)

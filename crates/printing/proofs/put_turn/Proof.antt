@@ -8,31 +8,25 @@ use borrow.Author.Needs.{needs}
 use Rattle.printing.proofs.put_turn.Statement.{statement}
 use Rattle.printing.proofs.put_turn.Tie as tie
 
-half-at-requires : tie.Need-half-at-requires
-half-at-requires c κs = search needs
-
-half-at-requires-2 : tie.Need-half-at-requires-2
-half-at-requires-2 c κs = search needs
-
-add-if1 : tie.Need-add-if1
-add-if1 c = search needs
+constraint-count-requires : tie.Need-constraint-count-requires
+constraint-count-requires c κs = search needs
 
 returns : tie.Need-returns
 returns c =
-    let a = c .before .before .before .before .before .args in
-    no-pair (a .frame .now) (a .out .now) (a .at) (a .island) (a .group) (a .constraint) (omega (arith, c .before .before .half-at .ensures .0, c .before .half-at2 .ensures .0, c .if1 .taken))
+    let a = c .before .before .before .before .args in
+    no-pair (a .frame .now) (a .out .now) (a .at) (a .island) (a .group) (a .constraint) (omega (arith, c .before .constraint-count .ensures .0, c .if1 .taken))
 
 ends-at-requires : tie.Need-ends-at-requires
 ends-at-requires c κs = search needs
 
-half-at-requires-3 : tie.Need-half-at-requires-3
-half-at-requires-3 c κs = search needs
+half-or-zero-requires : tie.Need-half-or-zero-requires
+half-or-zero-requires c κs = search needs
 
-add-half-at : tie.Need-add-half-at
-add-half-at c = search needs
+add-half-or-zero : tie.Need-add-half-or-zero
+add-half-or-zero c = search needs
 
-half-at-requires-4 : tie.Need-half-at-requires-4
-half-at-requires-4 c κs = search needs
+half-or-zero-requires-2 : tie.Need-half-or-zero-requires-2
+half-or-zero-requires-2 c κs = search needs
 
 put-turn-line-requires : tie.Need-put-turn-line-requires
 put-turn-line-requires c κs = search needs
@@ -42,25 +36,23 @@ same-length c = search needs
 
 returns-2 : tie.Need-returns-2
 returns-2 c =
-    let a = c .before .before .before .before .before .before .before .before .before .before .before .before .args in
+    let a = c .before .before .before .before .before .before .before .before .before .before .before .args in
     let p = c .before .before .put-turn-line in
     let e = c .before .before .before .before .before .before .ends-at in
-    with-pair (a .frame .now) (a .out .now) (a .at) (a .island) (a .group) (a .constraint) (c .before .before .before .before .before .half-at3 .result) (c .before .before .before .before .half-at4 .result) (p .last .0) (p .result)
-    (omega (arith, c .before .before .before .before .before .before .before .before .before .half-at .ensures .0, c .before .before .before .before .before .before .before .before .half-at2 .ensures .0, c .before .before .before .before .before .before .before .if1 .left))
-    (c .before .before .before .before .before .half-at3 .ensures .0 ∙ ap (half (a .frame .now)) (e .ensures .0)) (c .before .before .before .before .half-at4 .ensures .0 ∙ ap (λ (m : ℕ). half (a .frame .now) (m + 2)) (e .ensures .0)) (p .ensures)
+    with-pair (a .frame .now) (a .out .now) (a .at) (a .island) (a .group) (a .constraint) (c .before .before .before .before .before .half-or-zero .result) (c .before .before .before .before .half-or-zero2 .result) (p .last .0) (p .result)
+    (omega (arith, c .before .before .before .before .before .before .before .before .constraint-count .ensures .0, c .before .before .before .before .before .before .before .if1 .left))
+    (c .before .before .before .before .before .half-or-zero .ensures .0 ∙ ap (half (a .frame .now)) (e .ensures .0)) (c .before .before .before .before .half-or-zero2 .ensures .0 ∙ ap (λ (m : ℕ). half (a .frame .now) (m + 2)) (e .ensures .0)) (p .ensures)
 
 pub put-turn-spec : {M : Type 1} → statement M
 put-turn-spec =
     tie.close
     (tie.spec
-    half-at-requires
-    half-at-requires-2
-    add-if1
+    constraint-count-requires
     returns
     ends-at-requires
-    half-at-requires-3
-    add-half-at
-    half-at-requires-4
+    half-or-zero-requires
+    add-half-or-zero
+    half-or-zero-requires-2
     put-turn-line-requires
     same-length
     returns-2)

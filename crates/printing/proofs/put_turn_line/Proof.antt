@@ -17,7 +17,7 @@ use Rattle.printing.proofs.put_turn_line.Statement.{statement}
 use Rattle.printing.proofs.put_turn_line.Tie as tie
 
 room : (c : tie.Else1) → leb (c .before .before .before .args .at + longest) (length (c .before .before .before .args .out .now)) ≡ true
-room c = sym (c .before .roomy .ensures) ∙ not-false (c .before .roomy .result) (c .if1 .left)
+room c = sym (c .before .line-fits .ensures) ∙ not-false (c .before .line-fits .result) (c .if1 .left)
 
 -- the function's entry, from the first call
 abbrev entry : tie.After-put-number → tie.Start
@@ -62,13 +62,13 @@ end-b c =
     wrote-then (number (a .island) 32 ++ number (a .group) 32 ++ number (a .constraint) 32 ++ number (a .a) 32) (number (a .b) 10) (a .out .now) (d .put-number4 .last .0) (c .put-number5 .last .0) (a .at) (d .put-number4 .result) (c .put-number5 .result) 21 0
     (end-a d) (c .put-number5 .ensures) (number-short (a .b) 10)
 
-roomy-requires : tie.Need-roomy-requires
-roomy-requires c κs = search needs
+line-fits-requires : tie.Need-line-fits-requires
+line-fits-requires c κs = search needs
 
 returns : tie.Need-returns
 returns c =
     let a = c .before .before .before .args in
-    no-room (turnLine (a .island) (a .group) (a .constraint) (a .a ∷ a .b ∷ [])) (a .out .now) (a .at) (sym (c .before .roomy .ensures) ∙ not-true (c .before .roomy .result) (c .if1 .taken))
+    no-room (turnLine (a .island) (a .group) (a .constraint) (a .a ∷ a .b ∷ [])) (a .out .now) (a .at) (sym (c .before .line-fits .ensures) ∙ not-true (c .before .line-fits .result) (c .if1 .taken))
 
 put-number-requires : tie.Need-put-number-requires
 put-number-requires c κs =
@@ -102,7 +102,7 @@ pub put-turn-line-spec : {M : Type 1} → statement M
 put-turn-line-spec =
     tie.close
     (tie.spec
-    roomy-requires
+    line-fits-requires
     returns
     put-number-requires
     put-number-requires-2

@@ -1,7 +1,7 @@
 -- `printing::put_turns` meets its contract. The invariant is `Gathering`: the lines so far stand in the buffer, and the rest is still to be gathered.
 use native.Mathlib.Omega.{arith}
-use Prim.Native.Nat.{_-_, _/_}
-use mathlib.Core.Path.{_∙_}
+use Prim.Native.Nat.{_+_, _-_, _*_, _/_}
+use mathlib.Core.Path.{refl, _∙_}
 use lib.ListN.{length}
 use Rattle.printing.proofs.Turns.{Gathering, gather-first, gather-turn, gather-stop, gather-all}
 use borrow.Author.Needs.{needs}
@@ -19,47 +19,47 @@ loop-holds c =
     let a = c .before .before .before .args in
     gather-first (a .frame .now) (a .turns .now) (a .first) (a .out .now) (a .at)
 
-mul-wide : tie.Need-mul-wide Inv-loop μ-loop
-mul-wide c = search needs
+mul-island : tie.Need-mul-island Inv-loop μ-loop
+mul-island c = search needs
 
-mul-wide-2 : tie.Need-mul-wide-2 Inv-loop μ-loop
-mul-wide-2 c = search needs
+mul-island-2 : tie.Need-mul-island-2 Inv-loop μ-loop
+mul-island-2 c = search needs
 
-shared-slice-read-wide : tie.Need-shared-slice-read-wide Inv-loop μ-loop
-shared-slice-read-wide c = search needs
+shared-slice-read-island : tie.Need-shared-slice-read-island Inv-loop μ-loop
+shared-slice-read-island c = search needs
 
-wide-requires : tie.Need-wide-requires Inv-loop μ-loop
-wide-requires c κs = search needs
+cast-island : tie.Need-cast-island Inv-loop μ-loop
+cast-island c = omega (arith, c .shared-slice-known3 .given (3 * c .before .before .loop .turn))
 
-mul-wide-3 : tie.Need-mul-wide-3 Inv-loop μ-loop
-mul-wide-3 c = search needs
+mul-group : tie.Need-mul-group Inv-loop μ-loop
+mul-group c = search needs
 
-add-wide : tie.Need-add-wide Inv-loop μ-loop
-add-wide c = search needs
+add-group : tie.Need-add-group Inv-loop μ-loop
+add-group c = search needs
 
-mul-wide-4 : tie.Need-mul-wide-4 Inv-loop μ-loop
-mul-wide-4 c = search needs
+mul-group-2 : tie.Need-mul-group-2 Inv-loop μ-loop
+mul-group-2 c = search needs
 
-shared-slice-read-wide-2 : tie.Need-shared-slice-read-wide-2 Inv-loop μ-loop
-shared-slice-read-wide-2 c = search needs
+shared-slice-read-group : tie.Need-shared-slice-read-group Inv-loop μ-loop
+shared-slice-read-group c = search needs
 
-wide-requires-2 : tie.Need-wide-requires-2 Inv-loop μ-loop
-wide-requires-2 c κs = search needs
+cast-group : tie.Need-cast-group Inv-loop μ-loop
+cast-group c = omega (arith, c .shared-slice-known4 .given (3 * c .before .before .before .loop .turn + 1))
 
-mul-wide-5 : tie.Need-mul-wide-5 Inv-loop μ-loop
-mul-wide-5 c = search needs
+mul-constraint : tie.Need-mul-constraint Inv-loop μ-loop
+mul-constraint c = search needs
 
-add-wide-2 : tie.Need-add-wide-2 Inv-loop μ-loop
-add-wide-2 c = search needs
+add-constraint : tie.Need-add-constraint Inv-loop μ-loop
+add-constraint c = search needs
 
-mul-wide-6 : tie.Need-mul-wide-6 Inv-loop μ-loop
-mul-wide-6 c = search needs
+mul-constraint-2 : tie.Need-mul-constraint-2 Inv-loop μ-loop
+mul-constraint-2 c = search needs
 
-shared-slice-read-wide-3 : tie.Need-shared-slice-read-wide-3 Inv-loop μ-loop
-shared-slice-read-wide-3 c = search needs
+shared-slice-read-constraint : tie.Need-shared-slice-read-constraint Inv-loop μ-loop
+shared-slice-read-constraint c = search needs
 
-wide-requires-3 : tie.Need-wide-requires-3 Inv-loop μ-loop
-wide-requires-3 c κs = search needs
+cast-constraint : tie.Need-cast-constraint Inv-loop μ-loop
+cast-constraint c = omega (arith, c .shared-slice-known5 .given (3 * c .before .before .before .before .loop .turn + 2))
 
 put-turn-requires : tie.Need-put-turn-requires Inv-loop μ-loop
 put-turn-requires c κs = search needs
@@ -72,11 +72,11 @@ loop-less c = search needs
 
 loop-again : tie.Need-loop-again Inv-loop μ-loop
 loop-again c =
-    let a = c .before .before .before .before .before .before .before .before .before .before .before .before .before .before .before .before .args in
-    let l = c .before .before .before .before .before .before .before .before .before .before .before .before .loop in
+    let a = c .before .before .before .before .before .before .before .before .before .before .before .before .before .args in
+    let l = c .before .before .before .before .before .before .before .before .before .loop in
     let p = c .before .before .before .put-turn in
-    gather-turn (a .frame .now) (a .turns .now) (a .first) (a .out .now) (a .at) (l .out) (l .place) (l .turn) (l .inv) (omega (arith, c .before .before .before .before .before .before .before .before .before .before .before .loop-test .taken))
-    (c .before .before .before .before .before .before .before .before .before .wide .result) (c .before .before .before .before .before .before .before .wide2 .result) (c .before .before .before .before .before .wide3 .result) (c .before .before .before .before .before .before .before .before .before .wide .ensures) (c .before .before .before .before .before .before .before .wide2 .ensures) (c .before .before .before .before .before .wide3 .ensures) (p .last .0) (p .result) (p .ensures) (c .if1 .left)
+    gather-turn (a .frame .now) (a .turns .now) (a .first) (a .out .now) (a .at) (l .out) (l .place) (l .turn) (l .inv) (omega (arith, c .before .before .before .before .before .before .before .before .loop-test .taken))
+    _ _ _ refl refl refl (p .last .0) (p .result) (p .ensures) (c .if1 .left)
 
 same-length : tie.Need-same-length Inv-loop μ-loop
 same-length c = c .before .loop .inv .kept
@@ -88,15 +88,15 @@ returns c =
     gather-all (a .frame .now) (a .turns .now) (a .first) (a .out .now) (a .at) (l .out) (l .place) (l .turn) (l .inv) (c .loop-test .left)
 
 same-length-2 : tie.Need-same-length-2 Inv-loop μ-loop
-same-length-2 c = c .before .before .before .put-turn .kept .0 ∙ c .before .before .before .before .before .before .before .before .before .before .before .before .loop .inv .kept
+same-length-2 c = c .before .before .before .put-turn .kept .0 ∙ c .before .before .before .before .before .before .before .before .before .loop .inv .kept
 
 returns-2 : tie.Need-returns-2 Inv-loop μ-loop
 returns-2 c =
-    let a = c .before .before .before .before .before .before .before .before .before .before .before .before .before .before .before .before .args in
-    let l = c .before .before .before .before .before .before .before .before .before .before .before .before .loop in
+    let a = c .before .before .before .before .before .before .before .before .before .before .before .before .before .args in
+    let l = c .before .before .before .before .before .before .before .before .before .loop in
     let p = c .before .before .before .put-turn in
-    gather-stop (a .frame .now) (a .turns .now) (a .first) (a .out .now) (a .at) (l .out) (l .place) (l .turn) (l .inv) (omega (arith, c .before .before .before .before .before .before .before .before .before .before .before .loop-test .taken))
-    (c .before .before .before .before .before .before .before .before .before .wide .result) (c .before .before .before .before .before .before .before .wide2 .result) (c .before .before .before .before .before .wide3 .result) (c .before .before .before .before .before .before .before .before .before .wide .ensures) (c .before .before .before .before .before .before .before .wide2 .ensures) (c .before .before .before .before .before .wide3 .ensures) (p .last .0) (p .result) (p .ensures) (c .if1 .taken)
+    gather-stop (a .frame .now) (a .turns .now) (a .first) (a .out .now) (a .at) (l .out) (l .place) (l .turn) (l .inv) (omega (arith, c .before .before .before .before .before .before .before .before .loop-test .taken))
+    _ _ _ refl refl refl (p .last .0) (p .result) (p .ensures) (c .if1 .taken)
 
 pub put-turns-spec : {M : Type 1} → statement M
 put-turns-spec =
@@ -105,20 +105,20 @@ put-turns-spec =
     Inv-loop
     μ-loop
     loop-holds
-    mul-wide
-    mul-wide-2
-    shared-slice-read-wide
-    wide-requires
-    mul-wide-3
-    add-wide
-    mul-wide-4
-    shared-slice-read-wide-2
-    wide-requires-2
-    mul-wide-5
-    add-wide-2
-    mul-wide-6
-    shared-slice-read-wide-3
-    wide-requires-3
+    mul-island
+    mul-island-2
+    shared-slice-read-island
+    cast-island
+    mul-group
+    add-group
+    mul-group-2
+    shared-slice-read-group
+    cast-group
+    mul-constraint
+    add-constraint
+    mul-constraint-2
+    shared-slice-read-constraint
+    cast-constraint
     put-turn-requires
     add-turn
     loop-less

@@ -6,17 +6,17 @@ use Rattle.boundary.proofs.run.engkarupi_run.Statement.{statement}
 use Rattle.boundary.proofs.run.engkarupi_run.Tie as tie
 
 -- the place after the run, seen from the end
-abbrev ran : tie.After-run-refusal → tie.After-run
+abbrev ran : tie.After-refusal-of → tie.After-run
 ran c = c .before .before .before .before .before .before .before .before .before .before .before .before .before .before .before .before .before .before .before .before .before .before .before .before .before .before .before .before .before .before .before .before .before .before .before .before .before .before .before .before .before .before .before .before .before .before .before .before .before .before .before
 
 run-requires : tie.Need-run-requires
 run-requires c κs = search needs
 
-reported-requires : tie.Need-reported-requires
-reported-requires c κs = search needs
+report-of-requires : tie.Need-report-of-requires
+report-of-requires c κs = search needs
 
-run-refusal-requires : tie.Need-run-refusal-requires
-run-refusal-requires c κs = search needs
+refusal-of-requires : tie.Need-refusal-of-requires
+refusal-of-requires c κs = search needs
 
 same-length : tie.Need-same-length
 same-length c = ran c .run .kept .1 .0
@@ -95,8 +95,8 @@ returns c =
     record {
       answer = _;
       ran = ran c .run .ensures;
-      refusal = c .run-refusal .ensures;
-      numbers = ap reportNumbers (c .before .before .reported .ensures);
+      refusal = c .refusal-of .ensures;
+      numbers = ap reportNumbers (c .before .before .report-of .ensures);
     }
 
 pub engkarupi-run-spec : {M : Type 1} → statement M
@@ -104,8 +104,8 @@ engkarupi-run-spec =
     tie.close
     (tie.spec
     run-requires
-    reported-requires
-    run-refusal-requires
+    report-of-requires
+    refusal-of-requires
     same-length
     same-length-2
     same-length-3

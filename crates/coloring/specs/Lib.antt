@@ -1,0 +1,2 @@
+pub mod Coloring
+pub mod Steps
