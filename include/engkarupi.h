@@ -7,8 +7,9 @@
  * and what the archive asks of the machine and the stack.
  *
  * No call allocates, keeps a pointer or has state of its own: all memory is lent by the caller for the length of the call.
- * No two tables of one call may overlap, and none may overlap what is read. Every pointer must be aligned as its C type. A
- * length is in elements. A table may be longer than asked for; the length asked for is in its comment.
+ * No two tables of one call may overlap, and none may overlap what is read. Every pointer must be aligned as its C type, and
+ * valid for a length of 0 too. A length is in elements. A table may be longer than asked for; the length asked for is in its
+ * comment.
  *
  * B bodies, M manifolds (touching pairs), J joints; C is a number of constraints. Body types: 0 static, 1 kinematic,
  * 2 dynamic. A pair list holds a, b, a, b, ..; a disabled joint (enabled byte 0) may carry any endpoints.
