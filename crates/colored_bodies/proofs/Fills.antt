@@ -1,13 +1,13 @@
--- The loops of a bind fill its tables from the front: after i turns they are the first i bodies and their marks, padded. An accepted
+-- A bind fills its tables from the front: the first bodies and their marks, padded. An accepted
 -- list is no longer than the types and stays below them, so each turn finds its type and its place.
-use Prim.Native.Nat.{ℕ, suc, _+_, _-_, _≤_, _<_}
+use Prim.Native.Nat.{ℕ, zero, suc, _+_, _-_, _≤_, _<_}
 use mathlib.Core.Path.{_≡_, refl, sym, ap, _∙_}
 use mathlib.Core.Bool.{Bool, true, false, _&&_, cond}
 use mathlib.Core.List.{List, [], _∷_, _++_, map, map-append}
 use native.Mathlib.Numerals.{add-one}
 use native.Mathlib.Omega.{arith}
 use lib.Dec.{leb, eqb}
-use lib.ListN.{length, getD, set, take, replicate, length-append, length-map}
+use lib.ListN.{length, getD, set, take, drop, replicate, length-append, length-map}
 use lib.Seq.{take-suc, set-at, take-all, append-snoc, length-take-le}
 use mir.Val.{boolByte}
 use borrow.Author.Tests.{leb-true, eqb-true}
@@ -80,10 +80,21 @@ module _ (types indices : List ℕ) (refusal count : ℕ) (asked : refusal ≡ b
   pub bound-is : filled ≡ bindOf types indices
   bound-is = bound-by (eqb refusal 0) refl
 
--- one body more, and its mark
-pub list-next : (indices : List ℕ) (i : ℕ) → i < length indices → i < 4096 → set (padded (take i indices)) i (getD indices i 0) ≡ padded (take (i + 1) indices)
-list-next indices i h room = pad-step (take i indices) i (getD indices i 0) (length-take-le i indices (omega arith)) room ∙ ap padded (sym (taken-more indices i h))
+-- a list copied over zeros is padded
+zeros : (n m : ℕ) → n ≤ m → drop {A = ℕ} n (replicate m 0) ≡ replicate (m - n) 0
+zeros zero m h =
+    let e : m ≡ m - 0 = omega arith in
+    ap (λ (k : ℕ). replicate k 0) e
+zeros (suc n) zero h = absurd (omega arith)
+zeros (suc n) (suc m) h =
+    let e : m - n ≡ suc m - suc n = omega arith in
+    zeros n m (omega arith) ∙ ap (λ (k : ℕ). replicate k 0) e
 
+pub list-padded : (indices : List ℕ) (count : ℕ) → count ≤ length indices → count ≤ 4096 → take count indices ++ drop count (replicate 4096 0) ≡ padded (take count indices)
+unfolding padded
+list-padded indices count h room = rw (zeros count 4096 room, length-take-le count indices h)
+
+-- one mark more
 pub mark-next : (types indices : List ℕ) (i : ℕ) → i < length indices → i < 4096
     → set (padded (map (markOf types) (take i indices))) i (boolByte (conflicts (getD types (getD indices i 0) 0))) ≡ padded (map (markOf types) (take (i + 1) indices))
 mark-next types indices i h room =

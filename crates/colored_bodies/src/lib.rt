@@ -7,9 +7,9 @@ use frame::Frame;
 ghost use mathlib.Core.Path.{_≡_};
 ghost use mathlib.Core.Bool.{_&&_, cond};
 ghost use mathlib.Core.List.{List, [], _∷_, map};
-ghost use Prim.Native.Nat.{ℕ, _≤_, _<_};
+ghost use Prim.Native.Nat.{ℕ, _<_};
 ghost use lib.Dec.{leb, eqb};
-ghost use lib.ListN.{length, take, replicate};
+ghost use lib.ListN.{take, replicate};
 ghost use Rattle.lists.specs.Basics.{rises};
 ghost use Rattle.colored_bodies.specs.Bindings.{lastBelow, bindRefusal, Known, markOf, padded, bindOf, placed, spend, refusalFrom, marksFrom};
 ghost use Rattle.colored_bodies.specs.Answers.{withBodies, Placed, Fillable, Binds, Takes, Marks};
@@ -102,19 +102,7 @@ fn bound_count(refusal: u8, listed: usize) -> usize
     if refusal == 0 { listed } else { 0 }
 }
 
-// The first bodies of a list, into a table of zeros.
-fn list_bodies(indices: &[u16], count: usize, bodies: &mut [u16; Frame::MAX_BODIES])
-    requires { ⌜ (count ≤ length (now indices)) × (count ≤ 4096) × (now bodies ≡ replicate 4096 0) ⌝ }
-    ensures { λ _. ⌜ now (bodies .exit) ≡ padded (take count (now (indices .entry))) ⌝ }
-{
-    let mut i = 0;
-    while i < count {
-        bodies[i] = indices[i];
-        i += 1;
-    }
-}
-
-// Their marks, into a table of zeros: dynamic bodies are held, others read-only.
+// The marks of the first bodies of a list, into a table of zeros: dynamic bodies are held, others read-only.
 fn mark_bodies(types: &[u8], indices: &[u16], count: usize, marks: &mut [u8; Frame::MAX_BODIES])
     requires { ⌜ Fillable (now types) (now indices) count × (now marks ≡ replicate 4096 0) ⌝ }
     ensures { λ _. ⌜ now (marks .exit) ≡ padded (map (markOf (now (types .entry))) (take count (now (indices .entry)))) ⌝ }
@@ -149,7 +137,7 @@ impl BodyBinding {
         let count = bound_count(refusal, indices.len());
         let mut bodies = [0u16; Frame::MAX_BODIES];
         let mut marks = [0u8; Frame::MAX_BODIES];
-        list_bodies(indices, count, &mut bodies);
+        tables::copy(indices, count, &mut bodies);
         mark_bodies(types, indices, count, &mut marks);
         let binding = BodyBinding {
             bodies: bodies,

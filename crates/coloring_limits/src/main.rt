@@ -68,6 +68,7 @@ fn checksum(table: &[u16], count: usize) -> usize
 {
     let mut sum: usize = 0;
     let mut i = 0;
+    // `sum` is the checksum of the first i places.
     while i < table.len() {
         if count <= i {
             return sum;
@@ -117,6 +118,7 @@ fn fill_pairs(pairs: &mut [u16], a_step: u16, b: u16, b_step: u16)
     let mut first = 0;
     let mut second = b;
     let mut k = 0;
+    // The pairs below entry k are there; (`first`, `second`) is the next.
     while k + 1 < pairs.len() {
         pairs[k] = first;
         pairs[k + 1] = second;
@@ -306,6 +308,7 @@ fn on_tables(mark: u16, flag: u8) {
         constraint_body_positions: [mark; 16384],
     };
     let mut case = 0;
+    // `stage` is the plan and its tables after the cases below `case`.
     while case < 19 {
         stage = next_stage(case, stage);
         case += 1;
@@ -364,6 +367,7 @@ fn main() {
     on_tables(0, 0);
     on_tables(65535, 255);
     let mut short = 0;
+    // The line of each table below `short` is printed, 13 standing for none short.
     while short < 14 {
         exact(short);
         short += 1;

@@ -30,6 +30,7 @@ fn write_answer(name: &[u8], answer: Generated) {
 
 fn write_hex(bytes: &[u8]) {
     let mut i = 0;
+    // The first i bytes are printed.
     while i < bytes.len() {
         io::print_hex(STDOUT_FILENO, wide(bytes[i]) as u64, 2);
         i += 1;
@@ -39,6 +40,7 @@ fn write_hex(bytes: &[u8]) {
 fn sum(bytes: &[u8]) -> u32 {
     let mut total = 0;
     let mut i = 0;
+    // `total` is the sum of the first i bytes, modulo 2^32.
     while i < bytes.len() {
         total = std::num::wrapping_add_u32(total, wide(bytes[i]));
         i += 1;
@@ -49,6 +51,7 @@ fn sum(bytes: &[u8]) -> u32 {
 fn fnv(bytes: &[u8]) -> u32 {
     let mut hash = 2166136261;
     let mut i = 0;
+    // `hash` is the hash of the first i bytes.
     while i < bytes.len() {
         hash = generator::wrapping_mul(hash ^ wide(bytes[i]), 16777619);
         i += 1;

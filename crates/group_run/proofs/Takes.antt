@@ -1,7 +1,7 @@
 -- What a take adds can be seen from its answer on the marks alone: the plan's other tables and the binding's bodies make no difference.
 use Prim.Native.Nat.{ℕ, _+_, _-_, _≤_, _<_}
 use mathlib.Core.Path.{_≡_, refl, sym, ap, _∙_}
-use mathlib.Core.Bool.{cond}
+use mathlib.Core.Bool.{not, cond}
 use mathlib.Core.List.{List, [], _∷_, _++_, map}
 use native.Mathlib.Omega.{arith}
 use native.Mathlib.Numerals.{add-one}
@@ -47,6 +47,7 @@ module _ (p : Plan) (marks : List ℕ) (n r : ℕ) where
       let ps : x ∷ y ∷ [] ≡ pairAt (p .positions) r = sym (ap positionsValues e) ∙ l .values ∙ ap (λ (k : ℕ). cond (eqb k 0) (pairAt (p .positions) r) []) z in
       record {
         refusal = rw z (h .refusal ∙ ap (λ (xs : List ℕ). takeOf b xs .refusal) ps);
+        refused = rw z (h .refused ∙ ap (λ (xs : List ℕ). not (eqb (takeOf b xs .refusal) 0)) ps);
         dynamic = rw z (h .dynamic ∙ ap (λ (xs : List ℕ). map (λ h. h .dynamic) (takeOf b xs .handed)) ps);
         after = rw z (ap (λ (ms : List ℕ). marksOnly ms n) (h .marks ∙ ap (takeMarks b) ps));
       }
@@ -58,7 +59,7 @@ module _ (p : Plan) (marks : List ℕ) (n r : ℕ) where
       let no : [] ≡ cond (eqb refusal 0) (pairAt (p .positions) r) [] = sym (ap positionsValues e) ∙ l .values in
       by-cases (eqb refusal 0)
       (λ t. absurd (let y : 0 ≡ 2 = ap length (rw t at no) in omega arith))
-      (λ t. record { refusal = rw t z; dynamic = rw t; after = rw t })
+      (λ t. record { refusal = rw t z; refused = rw t (ap not (sym t)); dynamic = rw t; after = rw t })
 
 -- ---- what it adds
 

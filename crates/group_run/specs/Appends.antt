@@ -1,7 +1,9 @@
 -- What a part of the run adds to the turn table and to the takes.
 use Prim.Native.Nat.{ℕ}
 use mathlib.Core.Path.{_≡_}
+use mathlib.Core.Bool.{not}
 use mathlib.Core.List.{List, [], _∷_, map}
+use lib.Dec.{eqb}
 use Rattle.lists.specs.Basics.{joinMap, range}
 use Rattle.groups.specs.Groups.{Plan}
 use Rattle.constraint_coloring.specs.declared.ConstraintColoring.{ConstraintColoring}
@@ -9,7 +11,7 @@ use Rattle.constraint_coloring.specs.Calls.{planWith}
 use Rattle.colored_bodies.specs.declared.BodyBinding.{BodyBinding}
 use Rattle.colored_bodies.specs.declared.Marked.{Marked}
 use Rattle.colored_bodies.specs.Bindings.{bindOf}
-use Rattle.colored_bodies.specs.Answers.{markedNumber, markedDynamic}
+use Rattle.colored_bodies.specs.Answers.{markedNumber, markedRefused, markedDynamic}
 use Rattle.schedules.specs.Runs.{Call, membersIn, bodiesIn, takeRank, callsFrom, turnOf, turnsOf, takesOf}
 use Rattle.turn_table.specs.declared.Tally.{Tally}
 use Rattle.turn_table.specs.Turns.{Added, Appended}
@@ -43,6 +45,7 @@ marksOnly marks count = record { bodies = []; marks = marks; count = count }
 -- the take of a rank: its answer, and the marks that it leaves
 pub record RankTaken (p : Plan) (marks : List ℕ) (count rank : ℕ) (r : Marked) (left : List ℕ) : Type 0 where
   pub refusal : markedNumber r ≡ takeRank p (marksOnly marks count) rank .refusal
+  pub refused : markedRefused r ≡ not (eqb (takeRank p (marksOnly marks count) rank .refusal) 0)
   pub dynamic : markedDynamic r ≡ map (λ h. h .dynamic) (takeRank p (marksOnly marks count) rank .handed)
   pub after : marksOnly left count ≡ takeRank p (marksOnly marks count) rank .after
 

@@ -47,6 +47,7 @@ fn sum(labels: &[u16]) -> u64
 {
     let mut total: u64 = 0;
     let mut i = 0;
+    // `total` is the sum of the first i labels.
     while i < labels.len() {
         total += wide(labels[i]);
         i += 1;

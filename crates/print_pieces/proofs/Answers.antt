@@ -22,7 +22,7 @@ use Rattle.run_answer.specs.Answers.{runNumber, runRefused, runReport, carried}
 use Rattle.frame_run.proofs.Runs.{all-asked}
 use Rattle.frame_run.proofs.Frames.{turns-long}
 use Rattle.frame.proofs.Files.{file-sized}
-use Rattle.standalone_run.specs.Runs.{turnsFit, RanAlone}
+use Rattle.standalone_run.specs.Runs.{roomyTurns, RanAlone}
 use Rattle.print_pieces.specs.Pieces.{answerLine, InputAnswered}
 
 pub run-refusal : (bs : List ℕ) (room : Bool) → runOf bs room .refusal ≡ runRefusal bs room
@@ -30,14 +30,14 @@ unfolding runOf
 run-refusal bs room = by-cases (eqb (runRefusal bs room) 0) (λ e. rw e (sym (eqb-true (runRefusal bs room) 0 e))) (λ e. rw e)
 
 -- question 6 is passed where it is put
-same-refusal : (bs ts : List ℕ) → 24576 ≤ length ts → runRefusal bs (turnsFit bs ts) ≡ runRefusal bs true
+same-refusal : (bs ts : List ℕ) → 24576 ≤ length ts → runRefusal bs (roomyTurns bs ts) ≡ runRefusal bs true
 same-refusal bs ts h =
-    rw (all-asked bs (turnsFit bs ts), all-asked bs true)
+    rw (all-asked bs (roomyTurns bs ts), all-asked bs true)
     (by-cases (eqb (asked (fileQuestions bs)) 0)
     (λ t. let s = file-sized bs (eqb-true _ 0 t) in rw (le-leb (3 * (countM bs + countJ bs)) (length ts) (omega (arith, s .manifolds, s .joints))))
     (λ t. rw t))
 
-same-run : (bs ts : List ℕ) → 24576 ≤ length ts → runOf bs (turnsFit bs ts) ≡ runOf bs true
+same-run : (bs ts : List ℕ) → 24576 ≤ length ts → runOf bs (roomyTurns bs ts) ≡ runOf bs true
 unfolding runOf
 same-run bs ts h = rw (same-refusal bs ts h)
 
@@ -65,9 +65,9 @@ long-answer bs many = rw (lt-ltb 40971 (length bs) many)
 
 pub run-answered : (bs ts ts′ : List ℕ) (r : Answer) → 24576 ≤ length ts → length bs ≤ 40971 → RanAlone bs ts ts′ r → InputAnswered bs ts ts′ r
 run-answered bs ts ts′ r room few a =
-    let e : runOf bs (turnsFit bs ts) ≡ answerTo bs = same-run bs ts room ∙ sym (run-answer bs few) in
+    let e : runOf bs (roomyTurns bs ts) ≡ answerTo bs = same-run bs ts room ∙ sym (run-answer bs few) in
     record {
-      line = run-line bs (turnsFit bs ts) r (a .refusal) (a .refused) (a .report) ∙ ap firstLine e;
+      line = run-line bs (roomyTurns bs ts) r (a .refusal) (a .refused) (a .report) ∙ ap firstLine e;
       turns = ap (λ (s : Report). s .turns) (a .report) ∙ ap (λ (s : runs.Report). s .turns) e;
       table = a .turns ∙ ap (λ (s : runs.Report). over (s .table) ts) e;
     }

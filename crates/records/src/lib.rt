@@ -49,6 +49,7 @@ pub fn put_half(out: &mut [u8], at: usize, x: u16) -> usize {
 pub fn put_bytes(out: &mut [u8], at: usize, from: &[u8]) -> usize {
     let mut next = at;
     let mut i = 0;
+    // The first i bytes are written, and `next` is the place after them.
     while i < from.len() {
         next = put(out, next, from[i]);
         i += 1;
@@ -59,6 +60,7 @@ pub fn put_bytes(out: &mut [u8], at: usize, from: &[u8]) -> usize {
 pub fn put_halves(out: &mut [u8], at: usize, from: &[u16]) -> usize {
     let mut next = at;
     let mut i = 0;
+    // The first i numbers are written, and `next` is the place after them.
     while i < from.len() {
         next = put_half(out, next, from[i]);
         i += 1;
@@ -74,6 +76,7 @@ pub fn same(out: &[u8], n: usize, stored: &[u8], m: usize) -> bool {
         return false;
     }
     let mut i = 0;
+    // The first i bytes are equal.
     while i < n {
         if byte_at(out, i) != byte_at(stored, i) {
             return false;
@@ -91,6 +94,7 @@ fn mix(sum: u32, x: u8) -> u32 {
 fn sum_of(bytes: &[u8], start: u32) -> u32 {
     let mut sum = start;
     let mut i = 0;
+    // `sum` is `start` with the first i bytes mixed in.
     while i < bytes.len() {
         sum = mix(sum, bytes[i]);
         i += 1;

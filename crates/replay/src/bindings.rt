@@ -3,6 +3,7 @@ use crate::questions::bytes_at;
 use crate::questions::copy_numbers;
 use colored_bodies::BodyBinding;
 use colored_bodies::Take;
+use frame::Frame;
 use records::after;
 use records::least;
 use records::number_at;
@@ -30,8 +31,8 @@ fn put_take(take: Take, out: &mut [u8], at: usize) -> usize {
 
 // The bodies and marks of the first places of a binding.
 fn put_places(
-    bodies: &[u16; 4096],
-    marks: &[u8; 4096],
+    bodies: &[u16; Frame::MAX_BODIES],
+    marks: &[u8; Frame::MAX_BODIES],
     shown: usize,
     out: &mut [u8],
     at: usize,
@@ -40,6 +41,7 @@ fn put_places(
 {
     let mut next = at;
     let mut i = 0;
+    // The first i places are written, and `next` is the place after them.
     while i < shown {
         next = put_half(out, next, bodies[i]);
         next = put(out, next, marks[i]);
@@ -69,6 +71,7 @@ fn take_all(
     let mut place = from;
     let mut next = at;
     let mut left = takes;
+    // `binding` is what the takes so far leave; `left` of them follow, the first at `place`.
     while 0 < left {
         let a = number_at(question, place);
         let b = number_at(question, after(question, place, 1));

@@ -208,6 +208,7 @@ fn answer_update(stage: Stage, question: &[u8], out: &mut [u8]) -> Stage {
 fn update_all(question: &[u8], out: &mut [u8]) -> Stage {
     let mut stage = first_stage();
     let mut left = number_at(question, 0);
+    // `stage` is the plan and its tables after the updates so far; `left` of them follow.
     while 0 < left {
         stage = answer_update(stage, question, out);
         left -= 1;
@@ -267,6 +268,7 @@ fn put_lookup(stage: Stage, k: usize, out: &mut [u8], at: usize) -> usize {
 fn put_lookups(stage: Stage, out: &mut [u8]) -> usize {
     let mut next = stage.next;
     let mut k = 0;
+    // The first k lookups are written, and `next` is the place after them.
     while k < 16 {
         next = put_lookup(stage, k, out, next);
         k += 1;

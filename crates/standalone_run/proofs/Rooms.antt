@@ -17,7 +17,7 @@ use Rattle.run_answer.specs.declared.Answer.{Answer}
 use Rattle.frame_run.specs.Calls.{Lent, roomyFor, roomyIn, Ran}
 use Rattle.frame_run.proofs.Runs.{all-asked}
 use Rattle.frame.proofs.Files.{file-sized}
-use Rattle.standalone_run.specs.Runs.{turnsFit, RanAlone}
+use Rattle.standalone_run.specs.Runs.{roomyTurns, RanAlone}
 
 -- the largest sizes, but for the turn table
 pub record Ample (l : Lent) : Type 0 where
@@ -50,7 +50,7 @@ module _ (bs : List ℕ) (l : Lent) (h : Ample l) where
   plan-fits b m j = roomy-fitted (countB bs) (countM bs + countJ bs) (l .plan) (omega (arith, b, m, j, h .dynamic-bodies), (omega (arith, b, m, j, h .endpoints), (omega (arith, b, m, j, h .body-offsets), (omega (arith, b, m, j, h .body-constraints), (omega (arith, b, m, j, h .scratch-offsets), (omega (arith, b, m, j, h .scratch-offsets), (omega (arith, b, m, j, h .constraint-colors), (omega (arith, b, m, j, h .color-stamps), (omega (arith, b, m, j, h .body-stamps), (omega (arith, b, m, j, h .color-offsets), (omega (arith, b, m, j, h .colored-constraints), (omega (arith, b, m, j, h .color-body-offsets), (omega (arith, b, m, j, h .color-bodies), (omega (arith, b, m, j, h .constraint-body-positions), tt))))))))))))))
 
   -- every other comparison of question 6 holds
-  room-left : asked (fileQuestions bs) ≡ 0 → roomyIn bs l ≡ turnsFit bs (l .turns)
+  room-left : asked (fileQuestions bs) ≡ 0 → roomyIn bs l ≡ roomyTurns bs (l .turns)
   unfolding roomyIn roomyFor
   room-left q =
       let s = file-sized bs q in
@@ -71,12 +71,12 @@ module _ (bs : List ℕ) (l : Lent) (h : Ample l) where
         and-true,
       )
 
-  refusal-same : runRefusal bs (roomyIn bs l) ≡ runRefusal bs (turnsFit bs (l .turns))
-  refusal-same = rw (all-asked bs (roomyIn bs l), all-asked bs (turnsFit bs (l .turns))) (by-cases (eqb (asked (fileQuestions bs)) 0)
+  refusal-same : runRefusal bs (roomyIn bs l) ≡ runRefusal bs (roomyTurns bs (l .turns))
+  refusal-same = rw (all-asked bs (roomyIn bs l), all-asked bs (roomyTurns bs (l .turns))) (by-cases (eqb (asked (fileQuestions bs)) 0)
       (λ t. rw (room-left (eqb-true _ 0 t)))
       (λ t. rw t))
 
-  run-same : runOf bs (roomyIn bs l) ≡ runOf bs (turnsFit bs (l .turns))
+  run-same : runOf bs (roomyIn bs l) ≡ runOf bs (roomyTurns bs (l .turns))
   unfolding runOf
   run-same = rw refusal-same
 

@@ -12,12 +12,12 @@ use Rattle.run_answer.specs.declared.Answer.{Answer}
 use Rattle.run_answer.specs.Answers.{runNumber, runRefused, runReport, carried}
 
 -- question 6 of the turn table
-abbrev pub turnsFit : List ℕ → List ℕ → Bool
-turnsFit bs ts = leb (3 * (countM bs + countJ bs)) (length ts)
+abbrev pub roomyTurns : List ℕ → List ℕ → Bool
+roomyTurns bs ts = leb (3 * (countM bs + countJ bs)) (length ts)
 
 -- the answer, and the turn table at entry and at exit
 pub record RanAlone (bs ts ts′ : List ℕ) (r : Answer) : Type 0 where
-  pub refusal : runNumber r ≡ runRefusal bs (turnsFit bs ts)
-  pub refused : runRefused r ≡ not (eqb (runRefusal bs (turnsFit bs ts)) 0)
-  pub report : runReport r ≡ carried (runOf bs (turnsFit bs ts))
-  pub turns : ts′ ≡ over (runOf bs (turnsFit bs ts) .table) ts
+  pub refusal : runNumber r ≡ runRefusal bs (roomyTurns bs ts)
+  pub refused : runRefused r ≡ not (eqb (runRefusal bs (roomyTurns bs ts)) 0)
+  pub report : runReport r ≡ carried (runOf bs (roomyTurns bs ts))
+  pub turns : ts′ ≡ over (runOf bs (roomyTurns bs ts) .table) ts

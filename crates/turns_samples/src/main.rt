@@ -23,6 +23,7 @@ fn main() {
     let mut first = [0u8; 1];
     io::read_full(STDIN_FILENO, &mut first);
     let mut left = first[0];
+    // `left` inputs are still to be read and printed.
     while 0 < left {
         let mut length = [0u8; 3];
         io::read_full(STDIN_FILENO, &mut length);
