@@ -106,6 +106,7 @@ fn show(
 
 fn fill_flags(flags: &mut [u8], first: u8) {
     let mut i = 0;
+    // Of the first i flags the first is `first`, the others are 1.
     while i < flags.len() {
         flags[i] = if i == 0 { first } else { 1 };
         i += 1;

@@ -223,6 +223,7 @@ fn flag_bodies(types: &[u8], flags: &mut [u8])
     ensures { λ _. ⌜ now (flags .exit) ≡ map flagOf (now (types .entry)) ⌝ }
 {
     let mut i = 0;
+    // The first i flags are those of their types.
     while i < flags.len() {
         flags[i] = flag_of(types[i]);
         i += 1;

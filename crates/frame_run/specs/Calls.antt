@@ -11,7 +11,7 @@ use Rattle.island.specs.Calls.{Built}
 use Rattle.plan_questions.specs.Plans as plans
 use Rattle.schedules.specs.Runs.{runRefusal, runOf}
 use Rattle.run_answer.specs.declared.Answer.{Answer}
-use Rattle.run_answer.specs.Answers.{runNumber, runRefused, runReport, carried}
+use Rattle.run_answer.specs.Answers.{runNumber, runRefused, runReport, reported}
 
 -- ---- the lent tables
 
@@ -72,7 +72,7 @@ refusalIn bs l = runRefusal bs (roomyIn bs l)
 pub record Ran (bs : List ℕ) (l m : Lent) (r : Answer) : Type 0 where
   pub refusal : runNumber r ≡ refusalIn bs l
   pub refused : runRefused r ≡ not (eqb (refusalIn bs l) 0)
-  pub report : runReport r ≡ carried (runOf bs (roomyIn bs l))
+  pub report : runReport r ≡ reported (runOf bs (roomyIn bs l))
   -- the turns from place 0 on; past them the turn table keeps its content
   pub turns : m .turns ≡ over (runOf bs (roomyIn bs l) .table) (l .turns)
   -- the island tables stand as an islands call leaves them

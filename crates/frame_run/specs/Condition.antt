@@ -7,13 +7,13 @@ use Rattle.frame.specs.Files.{decode}
 use Rattle.schedules.specs.Runs.{Plans, Orders, schedule, reportOf, rising, turnOf}
 use Rattle.schedules.specs.Condition.{Schedule, Condition3}
 use Rattle.run_answer.specs.declared.Answer.{Answer}
-use Rattle.run_answer.specs.Answers.{runReport, carried}
+use Rattle.run_answer.specs.Answers.{runReport, reported}
 use Rattle.frame_run.specs.Calls.{Lent, refusalIn, Ran}
 
 -- the schedule meets condition 3; the run reports its islands, turns and takes, and D, and its turns are those of the rising orders
 pub record Conditioned (bs : List ℕ) (l m : Lent) (r : Answer) (p : Plans) (o : Orders) : Type 0 where
   pub condition : Condition3 bs (decode bs) p o
-  pub report : runReport r ≡ carried (reportOf (decode bs) (schedule (decode bs) p o))
+  pub report : runReport r ≡ reported (reportOf (decode bs) (schedule (decode bs) p o))
   pub turns : m .turns ≡ over (joinMap turnOf (schedule (decode bs) p (rising p))) (l .turns)
 
 -- of every call that the contract of `run` allows and that is accepted, and every schedule of its frame

@@ -12,7 +12,7 @@ use Rattle.plan_questions.specs.Plans.{Tables, roomy}
 use Rattle.schedules.specs.Runs.{runOf}
 use Rattle.frame_tables.specs.Filled.{soundRefusal}
 use Rattle.run_answer.specs.declared.Answer.{Answer}
-use Rattle.run_answer.specs.Answers.{runNumber, runRefused, runReport, carried}
+use Rattle.run_answer.specs.Answers.{runNumber, runRefused, runReport, reported}
 
 -- room in the tables that are not cut to size, and as many numbers as constraints
 pub record RoomySized (bs pa bi mi ji ts ip ns : List ℕ) (t : Tables) : Type 0 where
@@ -29,6 +29,6 @@ pub record RoomySized (bs pa bi mi ji ts ip ns : List ℕ) (t : Tables) : Type 0
 pub record RanSized (bs pa bi mi ji ts pa′ bi′ mi′ ji′ ts′ : List ℕ) (r : Answer) : Type 0 where
   pub refusal : runNumber r ≡ soundRefusal bs
   pub refused : runRefused r ≡ not (eqb (soundRefusal bs) 0)
-  pub report : runReport r ≡ carried (runOf bs true)
+  pub report : runReport r ≡ reported (runOf bs true)
   pub turns : ts′ ≡ over (runOf bs true .table) ts
   pub islands : Built (decode bs) (soundRefusal bs) pa bi mi ji pa′ bi′ mi′ ji′ (runNumber r) (runReport r .islands)

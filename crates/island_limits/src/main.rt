@@ -30,6 +30,7 @@ fn fill(pairs: &mut [u16], shape: Shape)
     requires { ⌜ length (now pairs) ≤ 8192 ⌝ }
 {
     let mut k = 0;
+    // The first k entries are the shape's.
     while k < pairs.len() {
         pairs[k] = entry(shape, k, pairs.len());
         k += 1;

@@ -18,7 +18,7 @@ use Rattle.schedules.specs.Print.{headOf, refusalLine, firstLine, answerTo}
 use Rattle.run_answer.specs.declared.Report.{Report}
 use Rattle.run_answer.specs.declared.Answer.{Answer}
 use Rattle.run_answer.specs.declared.Answer.the-variants as answer
-use Rattle.run_answer.specs.Answers.{runNumber, runRefused, runReport, carried}
+use Rattle.run_answer.specs.Answers.{runNumber, runRefused, runReport, reported}
 use Rattle.frame_run.proofs.Runs.{all-asked}
 use Rattle.frame_run.proofs.Frames.{turns-long}
 use Rattle.frame.proofs.Files.{file-sized}
@@ -43,7 +43,7 @@ same-run bs ts h = rw (same-refusal bs ts h)
 
 -- the line of an answer is the first line of its run
 run-line : (bs : List ℕ) (room : Bool) (r : Answer) → runNumber r ≡ runRefusal bs room → runRefused r ≡ not (eqb (runRefusal bs room) 0)
-    → runReport r ≡ carried (runOf bs room)
+    → runReport r ≡ reported (runOf bs room)
     → answerLine r ≡ firstLine (runOf bs room)
 unfolding firstLine
 run-line bs room (answer.Ran s) n c e =

@@ -52,7 +52,7 @@ fn put_places(
 
 // The count, and the bodies and marks of its places and of the one past them.
 fn put_binding(binding: BodyBinding, out: &mut [u8], at: usize) -> usize {
-    let last = least(binding.count, 4095);
+    let last = least(binding.count, Frame::MAX_BODIES - 1);
     let counted = put_half(out, at, last as u16);
     let bodies = binding.bodies;
     let marks = binding.marks;

@@ -19,14 +19,14 @@ abbrev pub runRefused : Answer → Bool
 runRefused (answer.Ran r) = false
 runRefused (answer.Refused n) = true
 
--- the four numbers that a run carries
-abbrev pub carried : runs.Report → Report
-carried r = record { islands = r .islands; turns = r .turns; takes = r .takes; degree = r .degree }
+-- the four numbers that a run reports
+abbrev pub reported : runs.Report → Report
+reported r = record { islands = r .islands; turns = r .turns; takes = r .takes; degree = r .degree }
 
 -- those of an answer
 abbrev pub runReport : Answer → Report
 runReport (answer.Ran r) = r
-runReport (answer.Refused n) = carried (runs.refused n)
+runReport (answer.Refused n) = reported (runs.refused n)
 
 -- the answer by a filling and a tally, three entries a turn
 pub record AnswerOf (f : Filling) (t : Tally) (r : Answer) : Type 0 where
@@ -34,4 +34,4 @@ pub record AnswerOf (f : Filling) (t : Tally) (r : Answer) : Type 0 where
   pub refused : runRefused r ≡ not (eqb (f .refusal) 0)
   pub report : runReport r ≡ cond (eqb (f .refusal) 0)
       (record { islands = f .islands; turns = t .place / 3; takes = t .takes; degree = f .degree })
-      (carried (runs.refused (f .refusal)))
+      (reported (runs.refused (f .refusal)))

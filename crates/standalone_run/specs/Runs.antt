@@ -9,7 +9,7 @@ use Rattle.lists.specs.Basics.{over}
 use Rattle.frame.specs.Files.{countM, countJ}
 use Rattle.schedules.specs.Runs.{runRefusal, runOf}
 use Rattle.run_answer.specs.declared.Answer.{Answer}
-use Rattle.run_answer.specs.Answers.{runNumber, runRefused, runReport, carried}
+use Rattle.run_answer.specs.Answers.{runNumber, runRefused, runReport, reported}
 
 -- question 6 of the turn table
 abbrev pub roomyTurns : List ℕ → List ℕ → Bool
@@ -19,5 +19,5 @@ roomyTurns bs ts = leb (3 * (countM bs + countJ bs)) (length ts)
 pub record RanAlone (bs ts ts′ : List ℕ) (r : Answer) : Type 0 where
   pub refusal : runNumber r ≡ runRefusal bs (roomyTurns bs ts)
   pub refused : runRefused r ≡ not (eqb (runRefusal bs (roomyTurns bs ts)) 0)
-  pub report : runReport r ≡ carried (runOf bs (roomyTurns bs ts))
+  pub report : runReport r ≡ reported (runOf bs (roomyTurns bs ts))
   pub turns : ts′ ≡ over (runOf bs (roomyTurns bs ts) .table) ts
