@@ -5,7 +5,7 @@ use native.Mathlib.Omega.{arith}
 use native.Mathlib.Decide.{decLe}
 use mathlib.Core.Path.{_≡_, refl, sym, ap, _∙_, subst}
 use mathlib.Core.Logic.{_⊎_, inl, inr, ⊎-elim}
-use mathlib.Core.List.{List, [], _∷_, _++_, List·Memᴰ, List·Memᴰ·head, List·Memᴰ·tail, List·Memᴰ·cases-cons, List·Memᴰ·not-nil}
+use mathlib.Core.List.{List, [], _∷_, List·Memᴰ, List·Memᴰ·head, List·Memᴰ·tail, List·Memᴰ·cases-cons, List·Memᴰ·not-nil}
 use Rattle.island_sets.specs.Sets.{relabel, merge}
 use Rattle.island_sets.proofs.Merges.{relabel-cases, relabel-le, relabel-left, relabel-right}
 use Rattle.connected_sets.specs.Islands.{Edge, join}
@@ -53,7 +53,3 @@ join-edge (d ∷ es) g e m = ⊎-elim
     (relabel-left (g (d .from)) (g (d .to)) ∙ sym (relabel-right (g (d .from)) (g (d .to))))))
     (λ m′. join-edge es (merge g (d .from) (d .to)) e m′)
     (List·Memᴰ·cases-cons m)
-
-pub join-append : (g : ℕ → ℕ) (es ds : List Edge) → join g (es ++ ds) ≡ join (join g es) ds
-join-append g [] ds = refl
-join-append g (e ∷ es) ds = join-append (merge g (e .from) (e .to)) es ds

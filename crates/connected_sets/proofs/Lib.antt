@@ -1,2 +1,3 @@
 pub mod Joins
 pub mod Theorem
+pub mod Weights

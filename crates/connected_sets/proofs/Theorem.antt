@@ -122,7 +122,7 @@ module _ (f : Frame) where
   pub lowest-connected : (x y : ℕ) → lowest f x ≡ lowest f y → Connected f x y
   lowest-connected x y q = connected-on x (lowest f x) y (lowest-in x) (subst (λ (n : ℕ). Connected f n y) (sym q) (connected-back y (lowest f y) (lowest-in y)))
 
-  lowest-le : (x : ℕ) → lowest f x ≤ x
+  pub lowest-le : (x : ℕ) → lowest f x ≤ x
   unfolding lowest
   lowest-le x = join-le (edges f (constraints f)) (λ n. n) (λ y. omega arith) x
 

@@ -1,13 +1,13 @@
--- Islands: which bodies are connected, the lowest body of a connected set, and the labels.
+-- Islands: which bodies are connected, the lowest body of a connected set, its root by weight and its size, and the labels.
 use Prim.Native.Nat.{ℕ}
 use mathlib.Core.Path.{_≡_}
 use mathlib.Core.Bool.{Bool, true, _&&_, cond}
 use mathlib.Core.List.{List, [], _∷_, map, List·Memᴰ}
 use lib.Dec.{eqb}
-use lib.ListN.{getD}
+use lib.ListN.{length, getD}
 use Rattle.lists.specs.Basics.{filter, any, count, range, joinMap}
 use Rattle.frame.specs.Frames.{Constraint, Frame, constraints, numbers, bodies, constraintAt, dynamic, on, touches, none}
-use Rattle.island_sets.specs.Sets.{merge}
+use Rattle.island_sets.specs.Sets.{merge, sizeIn, hang}
 
 -- ---- the relation that islands are made by
 
@@ -52,6 +52,20 @@ join low (e ∷ es) = join (merge low (e .from) (e .to)) es
 -- at first each body is alone; then every constraint joins its bodies
 unfoldable pub lowest : Frame → ℕ → ℕ
 lowest f = join (λ x. x) (edges f (constraints f))
+
+-- ---- the same sets by weight (document 02, request 7): each body's root, and how many bodies its set has
+
+-- the sets of each edge become one among nb bodies, the smaller hung under the larger
+abbrev pub hangAll : ℕ → (ℕ → ℕ) → List Edge → ℕ → ℕ
+hangAll nb root [] = root
+hangAll nb root (e ∷ es) = hangAll nb (hang nb root (e .from) (e .to)) es
+
+-- at first each body is alone; then the constraints join their bodies, in order
+unfoldable pub heaviest : Frame → ℕ → ℕ
+heaviest f = hangAll (length (f .types)) (λ x. x) (edges f (constraints f))
+
+unfoldable pub setSize : Frame → ℕ → ℕ
+setSize f b = sizeIn (length (f .types)) (lowest f) (lowest f b)
 
 -- ---- labels
 

@@ -6,11 +6,12 @@ use mathlib.Core.List.{List, map}
 use lib.ListN.{length, getD, replicate}
 use Rattle.lists.specs.Basics.{any}
 use Rattle.frame.specs.Frames.{Frame, constraints, bodies, on, allSound, none}
-use Rattle.island_sets.specs.Sets.{rootOf, Falls}
-use Rattle.connected_sets.specs.Islands.{lowest, islandCount, bodyLabel, label}
+use Rattle.island_sets.specs.Sets.{rootOf}
+use Rattle.island_sets.specs.Steps.{Balanced}
+use Rattle.connected_sets.specs.Islands.{heaviest, islandCount, bodyLabel, label}
 use Rattle.island.specs.declared.Answer.{Answer}
 use Rattle.island.specs.Answers.{answerNumber, answerRefused, answerIslands}
-use Rattle.island.specs.Calls.{Parents}
+use Rattle.island.specs.Calls.{WeighedSets}
 
 -- ---- a frame on tables of just its sizes
 
@@ -25,8 +26,8 @@ pub record Sized (f : Frame) (p b m j : List ℕ) : Type 0 where
 pub record Ready (f : Frame) (p b m j : List ℕ) : Type 0 where
   pub sized : Sized f p b m j
   pub passed : allSound f ≡ true
-  pub falls : Falls p
-  pub roots : rootOf p ≡ lowest f
+  pub balanced : Balanced p
+  pub roots : rootOf p ≡ heaviest f
   pub constrained : (x : ℕ) → getD b x none ≡ cond (any (on x) (constraints f)) 0 none
 
 -- its labels
@@ -36,17 +37,18 @@ pub record Labelled (f : Frame) (b m j : List ℕ) (islands : ℕ) : Type 0 wher
   pub manifold-labels : m ≡ map (label f) (f .manifolds)
   pub joint-labels : j ≡ map (label f) (f .joints)
 
--- no labels, and each parent itself
-pub record Blank (f : Frame) (p b m j : List ℕ) (islands : ℕ) : Type 0 where
+-- no labels, and each body alone
+pub record Blank (f : Frame) (p s b m j : List ℕ) (islands : ℕ) : Type 0 where
   pub count : islands ≡ 0
-  pub alone : p ≡ bodies f
+  pub parents : p ≡ bodies f
+  pub sizes : s ≡ replicate (length (f .types)) 1
   pub body-labels : b ≡ replicate (length (f .types)) none
   pub manifold-labels : m ≡ replicate (length (f .manifolds)) none
   pub joint-labels : j ≡ replicate (length (f .joints)) none
 
 -- question 7 decides between the two
-pub record BuiltSized (f : Frame) (p b m j : List ℕ) (r : Answer) : Type 0 where
+pub record BuiltSized (f : Frame) (p s b m j : List ℕ) (r : Answer) : Type 0 where
   pub refusal : answerNumber r ≡ cond (allSound f) 0 7
   pub refused : answerRefused r ≡ not (allSound f)
-  pub accepted : allSound f ≡ true → Parents f p × Labelled f b m j (answerIslands r)
-  pub blank : allSound f ≡ false → Blank f p b m j (answerIslands r)
+  pub accepted : allSound f ≡ true → WeighedSets f p s × Labelled f b m j (answerIslands r)
+  pub blank : allSound f ≡ false → Blank f p s b m j (answerIslands r)

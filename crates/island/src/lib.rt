@@ -1,7 +1,7 @@
 // Islands: the sets of dynamic bodies that live constraints connect, and the labels of bodies, manifolds and joints.
 // Every table is lent by the caller; a call that is refused says so by the number of the first question that got a "no".
-// Cost: two lookups for each live constraint between dynamic bodies (crate island_sets, after Tarjan 1975), and else a few passes over the
-// bodies and the constraints.
+// Cost: two lookups for each live constraint between dynamic bodies and one for each body (crate island_sets, after Tarjan 1975), and else
+// a few passes over the bodies and the constraints.
 use island_labels::NONE;
 ghost use mathlib.Core.Path.{_≡_};
 ghost use mathlib.Core.Bool.{_&&_};
@@ -12,7 +12,7 @@ ghost use lib.ListN.{length, replicate};
 ghost use Rattle.lists.specs.Basics.{range};
 ghost use Rattle.frame.specs.Frames.{frameOf, none};
 ghost use Rattle.frame.specs.Questions.{asked};
-ghost use Rattle.island.specs.Calls.{earlyQuestions, islandRefusal, Builds};
+ghost use Rattle.island.specs.Calls.{islandTablesOf, roomsOf, earlyQuestions, islandRefusal, Builds};
 ghost use Rattle.island.specs.Answers.{answerNumber, answerIslands};
 ghost use Rattle.island.specs.Steps.{Sized, Ready, Labelled, BuiltSized};
 
@@ -42,12 +42,13 @@ pub fn islands_of(answer: Answer) -> u16
     }
 }
 
-// Every body its own parent, and no body constrained.
-fn reset(parents: &mut [u16], body_islands: &mut [u16])
+// Every body alone, and no body constrained.
+fn reset(parents: &mut [u16], sizes: &mut [u16], body_islands: &mut [u16])
     requires { ⌜ length (now parents) ≤ 4096 ⌝ }
-    ensures { λ _. ⌜ (now (parents .exit) ≡ range (length (now (parents .entry)))) × (now («body_islands» .exit) ≡ replicate (length (now («body_islands» .entry))) none) ⌝ }
+    ensures { λ _. ⌜ (now (parents .exit) ≡ range (length (now (parents .entry)))) × (now (sizes .exit) ≡ replicate (length (now (sizes .entry))) 1)
+        × (now («body_islands» .exit) ≡ replicate (length (now («body_islands» .entry))) none) ⌝ }
 {
-    island_sets::fill_self(parents);
+    island_sets::reset(parents, sizes);
     tables::fill(body_islands, NONE);
 }
 
@@ -80,25 +81,28 @@ fn build_sized(
     joints: &[u16],
     enabled: &[u8],
     parents: &mut [u16],
+    sizes: &mut [u16],
     body_islands: &mut [u16],
     manifold_islands: &mut [u16],
     joint_islands: &mut [u16],
 ) -> Answer
     requires { ⌜ Sized (frameOf (now «body_types») (now manifolds) (now joints) (now enabled))
         (now parents) (now «body_islands») (now «manifold_islands») (now «joint_islands») ⌝ }
+    requires { ⌜ length (now sizes) ≡ length (now parents) ⌝ }
     ensures { λ r. ⌜ BuiltSized (frameOf (now («body_types» .entry)) (now (manifolds .entry)) (now (joints .entry)) (now (enabled .entry)))
-        (now (parents .exit)) (now («body_islands» .exit)) (now («manifold_islands» .exit)) (now («joint_islands» .exit)) r ⌝ }
+        (now (parents .exit)) (now (sizes .exit)) (now («body_islands» .exit)) (now («manifold_islands» .exit)) (now («joint_islands» .exit)) r ⌝ }
 {
-    reset(parents, body_islands);
+    reset(parents, sizes, body_islands);
     if !island_joins::join_frame(
         body_types,
         manifolds,
         joints,
         enabled,
         parents,
+        sizes,
         body_islands,
     ) {
-        reset(parents, body_islands);
+        reset(parents, sizes, body_islands);
         tables::fill(manifold_islands, NONE);
         tables::fill(joint_islands, NONE);
         return Answer::Refused(7);
@@ -129,12 +133,13 @@ fn early_refusal(
     joints: &[u16],
     enabled: &[u8],
     parents: usize,
+    sizes: usize,
     body_islands: usize,
     manifold_islands: usize,
     joint_islands: usize,
 ) -> u8
     ensures { λ r. ⌜ r ≡ asked (earlyQuestions (now («body_types» .entry)) (now (manifolds .entry)) (now (joints .entry)) (now (enabled .entry))
-        (record { parents = parents; bodies = «body_islands»; manifolds = «manifold_islands»; joints = «joint_islands» })) ⌝ }
+        (record { parents = parents; sizes = sizes; bodies = «body_islands»; manifolds = «manifold_islands»; joints = «joint_islands» })) ⌝ }
 {
     let bodies = body_types.len();
     let manifold_count = manifolds.len() / 2;
@@ -150,6 +155,7 @@ fn early_refusal(
         return 5;
     }
     let room = (bodies <= parents)
+        & (bodies <= sizes)
         & (bodies <= body_islands)
         & (manifold_count <= manifold_islands)
         & (joint_count <= joint_islands);
@@ -166,15 +172,16 @@ pub fn build_with_joints(
     joints: &[u16],
     enabled: &[u8],
     parents: &mut [u16],
+    sizes: &mut [u16],
     body_islands: &mut [u16],
     manifold_islands: &mut [u16],
     joint_islands: &mut [u16],
 ) -> Answer
     ensures { λ r. ⌜ Builds (frameOf (now («body_types» .entry)) (now (manifolds .entry)) (now (joints .entry)) (now (enabled .entry)))
         (islandRefusal (now («body_types» .entry)) (now (manifolds .entry)) (now (joints .entry)) (now (enabled .entry))
-        (record { parents = length (now (parents .entry)); bodies = length (now («body_islands» .entry)); manifolds = length (now («manifold_islands» .entry)); joints = length (now («joint_islands» .entry)) }))
-        (now (parents .entry)) (now («body_islands» .entry)) (now («manifold_islands» .entry)) (now («joint_islands» .entry))
-        (now (parents .exit)) (now («body_islands» .exit)) (now («manifold_islands» .exit)) (now («joint_islands» .exit)) r ⌝ }
+        (roomsOf (islandTablesOf (now (parents .entry)) (now (sizes .entry)) (now («body_islands» .entry)) (now («manifold_islands» .entry)) (now («joint_islands» .entry)))))
+        (islandTablesOf (now (parents .entry)) (now (sizes .entry)) (now («body_islands» .entry)) (now («manifold_islands» .entry)) (now («joint_islands» .entry)))
+        (islandTablesOf (now (parents .exit)) (now (sizes .exit)) (now («body_islands» .exit)) (now («manifold_islands» .exit)) (now («joint_islands» .exit))) r ⌝ }
 {
     let refusal = early_refusal(
         body_types,
@@ -182,6 +189,7 @@ pub fn build_with_joints(
         joints,
         enabled,
         parents.len(),
+        sizes.len(),
         body_islands.len(),
         manifold_islands.len(),
         joint_islands.len(),
@@ -196,6 +204,7 @@ pub fn build_with_joints(
         joints,
         enabled,
         &mut parents[..bodies],
+        &mut sizes[..bodies],
         &mut body_islands[..bodies],
         &mut manifold_islands[..manifolds.len() / 2],
         &mut joint_islands[..joints.len() / 2],
@@ -207,14 +216,15 @@ pub fn build(
     body_types: &[u8],
     manifolds: &[u16],
     parents: &mut [u16],
+    sizes: &mut [u16],
     body_islands: &mut [u16],
     manifold_islands: &mut [u16],
 ) -> Answer
     ensures { λ r. ⌜ Builds (frameOf (now («body_types» .entry)) (now (manifolds .entry)) [] [])
         (islandRefusal (now («body_types» .entry)) (now (manifolds .entry)) [] []
-        (record { parents = length (now (parents .entry)); bodies = length (now («body_islands» .entry)); manifolds = length (now («manifold_islands» .entry)); joints = 0 }))
-        (now (parents .entry)) (now («body_islands» .entry)) (now («manifold_islands» .entry)) []
-        (now (parents .exit)) (now («body_islands» .exit)) (now («manifold_islands» .exit)) [] r ⌝ }
+        (roomsOf (islandTablesOf (now (parents .entry)) (now (sizes .entry)) (now («body_islands» .entry)) (now («manifold_islands» .entry)) [])))
+        (islandTablesOf (now (parents .entry)) (now (sizes .entry)) (now («body_islands» .entry)) (now («manifold_islands» .entry)) [])
+        (islandTablesOf (now (parents .exit)) (now (sizes .exit)) (now («body_islands» .exit)) (now («manifold_islands» .exit)) []) r ⌝ }
 {
     let mut joint_islands = [0; 1];
     build_with_joints(
@@ -223,6 +233,7 @@ pub fn build(
         &manifolds[..0],
         &body_types[..0],
         parents,
+        sizes,
         body_islands,
         manifold_islands,
         &mut joint_islands[..0],

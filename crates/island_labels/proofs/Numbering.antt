@@ -1,184 +1,269 @@
--- The numbering of the islands. Bodies come in rising order, and a body's parent is lower unless it is itself the lowest of its set:
--- so a constrained body that is its own parent starts the next island, and any other finds its island's number at its parent.
-use Prim.Native.Nat.{ℕ, _+_, _≤_, _<_}
+-- The numbering of the islands. Before body b, each lower body in an island has its number, and so has each root whose set's lowest body is lower
+-- than b. So a body that is the lowest of its set finds no number at its root, and any other finds its set's.
+use Prim.Native.Nat.{ℕ, suc, _+_, _≤_, _<_}
 use native.Mathlib.Omega.{arith}
 use native.Mathlib.Decide.{ℕ-discrete, decLt}
 use native.Mathlib.Nat.{le-refl}
 use native.Mathlib.Numerals.{add-one}
 use mathlib.Core.Path.{_≡_, refl, sym, ap, _∙_, subst, fun-ext}
-use mathlib.Core.Bool.{Bool, false, not, _&&_, cond, and-false, and-true}
+use mathlib.Core.Bool.{Bool, true, false, not, _&&_, _||_, cond, and-false}
 use mathlib.Core.List.{List}
-use lib.Dec.{eqb}
+use lib.Dec.{eqb, ltb}
 use lib.ListN.{length, getD, set, length-set, List·getD-eq-default}
 use lib.Seq.{getD-set-same, getD-set-other}
-use borrow.Author.Tests.{eq-eqb, ne-eqb}
+use borrow.Author.Tests.{eqb-true, eq-eqb, ne-eqb, lt-ltb, le-ltb, ltb-false}
 use Rattle.lists.specs.Basics.{one, count, range}
-use Rattle.lists.proofs.Laws.{getD-any}
+use Rattle.lists.proofs.Laws.{by-cases, clashes, or-left, getD-any}
 use Rattle.lists.proofs.Counts.{count-next, count-le}
-use Rattle.lists.proofs.Bits.{one-le, one-true}
 use Rattle.frame.specs.Frames.{dynamic, none}
-use Rattle.island_sets.specs.Sets.{rootOf, Falls}
-use Rattle.island_sets.proofs.Roots.{read-le, read-root, read-here, root-le, root-root}
-use Rattle.island_labels.specs.Labels.{bare, Fit, inIslandBy, leadsBy, Together, LeadersFlagged, own, Stepped, Numbered}
+use Rattle.island_sets.specs.Sets.{rootOf}
+use Rattle.island_sets.specs.Steps.{Balanced, SameSets, LowestOf}
+use Rattle.island_sets.proofs.Links.{root-root}
+use Rattle.island_sets.proofs.Weights.{ends, root-inside}
+use Rattle.island_labels.specs.Labels.{unnumbered, bare, inIslandBy, leadsBy, Together, Numberable, Flagged, nextLabel, Stepped, Numbered, NumberedByLowest}
 
 -- ---- the flags, at body b: l₀ at the start, l as it is
-pub record Flagging (ts p l₀ l : List ℕ) (b : ℕ) : Type 0 where
+pub record Flagging (ts l₀ l : List ℕ) (b : ℕ) : Type 0 where
   pub inside : b ≤ length ts
   pub long : length l ≡ length l₀
-  pub done : (x : ℕ) → x < b → getD l x 0 ≡ one (leadsBy (inIslandBy ts l₀) (rootOf p) x)
+  pub done : (x : ℕ) → x < b → getD l x none ≡ cond (inIslandBy ts l₀ x) unnumbered none
   pub todo : (x : ℕ) → b ≤ x → getD l x none ≡ getD l₀ x none
 
-pub flagging-starts : (ts p l : List ℕ) → Flagging ts p l l 0
-flagging-starts ts p l = record { inside = omega arith; long = refl; done = λ x h. absurd (omega (arith, h)); todo = λ x h. refl }
+pub flagging-starts : (ts l : List ℕ) → Flagging ts l l 0
+flagging-starts ts l = record { inside = omega arith; long = refl; done = λ x h. absurd (omega (arith, h)); todo = λ x h. refl }
 
-module _ (ts p l₀ l : List ℕ) (b : ℕ) (w : Flagging ts p l₀ l b) (fit : Fit ts p l₀) (k : b < length ts) where
-  in-p : b < length p
-  in-p = omega arith
-
+module _ (ts l₀ l : List ℕ) (b : ℕ) (w : Flagging ts l₀ l b) (size : length l₀ ≡ length ts) where
   -- what the code tests
   abbrev test : Bool
   test = eqb (getD ts b 0) 2 && not (eqb (getD l b 0) none)
 
-  in-island-here : test ≡ inIslandBy ts l₀ b
+  in-island-here : b < length ts → test ≡ inIslandBy ts l₀ b
   unfolding dynamic
-  in-island-here = ap (λ (v : ℕ). eqb (getD ts b 0) 2 && not (eqb v none)) (getD-any l b 0 none (omega (arith, w .long)) ∙ w .todo b (le-refl b))
+  in-island-here k = ap (λ (v : ℕ). eqb (getD ts b 0) 2 && not (eqb v none)) (getD-any l b 0 none (omega (arith, w .long)) ∙ w .todo b (le-refl b))
 
-  fixed-here : Dec (getD p b 0 ≡ b) → eqb (getD p b 0) b ≡ eqb (rootOf p b) b
-  fixed-here (yes e) = eq-eqb (getD p b 0) b e ∙ sym (eq-eqb (rootOf p b) b (read-here p b in-p e))
-  fixed-here (no e) =
-      let r : rootOf p b ≡ b → ⊥ = λ q. omega (arith, read-le p (fit .falls) b in-p, e, q, read-root p (fit .falls) b in-p, root-le p (fit .falls) (getD p b 0)) in
-      ne-eqb (getD p b 0) b e ∙ sym (ne-eqb (rootOf p b) b r)
-
-  leads-here : (test && eqb (getD p b 0) b) ≡ leadsBy (inIslandBy ts l₀) (rootOf p) b
-  leads-here = ap (λ (t : Bool). t && eqb (getD p b 0) b) in-island-here ∙ ap (λ (t : Bool). inIslandBy ts l₀ b && t) (fixed-here (ℕ-discrete (getD p b 0) b))
-
-  pub flagging-turns : (f : ℕ) → f ≡ one (test && eqb (getD p b 0) b) → Flagging ts p l₀ (set l b f) (b + 1)
-  flagging-turns f e = record {
-    inside = omega arith;
+  pub flagging-turns : b < length ts → (f : ℕ) → f ≡ cond test unnumbered none → Flagging ts l₀ (set l b f) (b + 1)
+  flagging-turns k f e = record {
+    inside = omega (arith, k);
     long = length-set l b f ∙ w .long;
     done = λ x j. at x j (ℕ-discrete x b);
     todo = λ x j. getD-set-other l b x f none (λ q. omega (arith, q, j)) ∙ w .todo x (omega (arith, j));
   }
     where
-      at : (x : ℕ) → x < b + 1 → Dec (x ≡ b) → getD (set l b f) x 0 ≡ one (leadsBy (inIslandBy ts l₀) (rootOf p) x)
-      at x j (yes q) = subst (λ (y : ℕ). getD (set l b f) y 0 ≡ one (leadsBy (inIslandBy ts l₀) (rootOf p) y)) (sym q) (getD-set-same l b f 0 (omega (arith, w .long)) ∙ e ∙ ap one leads-here)
-      at x j (no q) = getD-set-other l b x f 0 q ∙ w .done x (omega (arith, q, j))
+      at : (x : ℕ) → x < b + 1 → Dec (x ≡ b) → getD (set l b f) x none ≡ cond (inIslandBy ts l₀ x) unnumbered none
+      at x j (yes q) = subst (λ (y : ℕ). getD (set l b f) y none ≡ cond (inIslandBy ts l₀ y) unnumbered none) (sym q)
+          (getD-set-same l b f none (omega (arith, w .long)) ∙ e ∙ ap (λ (t : Bool). cond t unnumbered none) (in-island-here k))
+      at x j (no q) = getD-set-other l b x f none q ∙ w .done x (omega (arith, q, j))
 
-pub flagging-ends : (ts p l₀ l : List ℕ) (b : ℕ) → Flagging ts p l₀ l b → length l₀ ≡ length ts → length l ≤ b → LeadersFlagged (inIslandBy ts l₀) (rootOf p) (length ts) l
-flagging-ends ts p l₀ l b w el h = record { flags = λ x k. w .done x (omega (arith, w .long, k)) }
+  pub flagging-ends : length l ≤ b → Flagged (inIslandBy ts l₀) l
+  flagging-ends h = record { labels = λ x. go x (decLt x b) }
+    where
+      go : (x : ℕ) → Dec (x < b) → getD l x none ≡ cond (inIslandBy ts l₀ x) unnumbered none
+      go x (yes k) = w .done x k
+      go x (no k) =
+          let past : inIslandBy ts l₀ x ≡ false = ap (λ (v : ℕ). dynamic (bare ts) x && not (eqb v none)) (List·getD-eq-default l₀ none (omega (arith, k, h, w .long))) ∙ and-false (dynamic (bare ts) x) in
+          List·getD-eq-default l none (omega (arith, k, h)) ∙ sym (ap (λ (t : Bool). cond t unnumbered none) past)
 
--- ---- the numbers, at body b: f has the flags, l as it is, with n islands so far
-abbrev leader : List ℕ → ℕ → Bool
-leader f x = eqb (getD f x 0) 1
+-- ---- one body, in the terms of `number_one`: r is its root
+module _ (p l : List ℕ) (b n r : ℕ) (e : r ≡ rootOf p b) (k : r < length l) where
+  root-label : getD l r 0 ≡ getD l (rootOf p b) none
+  root-label = getD-any l r 0 none k ∙ ap (λ (x : ℕ). getD l x none) e
 
--- a body's number is its root's
-abbrev numberOf : List ℕ → List ℕ → ℕ → ℕ
-numberOf p f x = cond (leader f (rootOf p x)) (count (leader f) (range (rootOf p x))) none
+  pub stepped : (v : ℕ) → v ≡ cond (eqb (getD l r 0) unnumbered) n (getD l r 0) → (n′ : ℕ) → n′ ≡ n + one (eqb (getD l r 0) unnumbered) → Stepped p l b n (set (set l r v) b v) n′
+  stepped v ev n′ en = record {
+    count = en ∙ ap (λ (x : ℕ). n + one (eqb x unnumbered)) root-label;
+    labels = ap (λ (x : ℕ). set (set l x v) b v) e ∙ ap (λ (x : ℕ). set (set l (rootOf p b) x) b x) (ev ∙ ap (λ (x : ℕ). cond (eqb x unnumbered) n x) root-label);
+  }
+
+-- ---- the pass, for given lowest bodies low: m tells the bodies in islands
+module _ (p : List ℕ) (m : ℕ → Bool) (low : ℕ → ℕ) where
+  abbrev upTo : ℕ → ℕ
+  upTo z = count (leadsBy m low) (range z)
+
+  -- before body b, y has its number
+  abbrev numbered : ℕ → ℕ → Bool
+  numbered b y = ltb y b || (eqb (rootOf p y) y && ltb (low y) b)
+
+  abbrev shown : ℕ → ℕ → ℕ
+  shown b y = cond (m y) (cond (numbered b y) (upTo (low y)) unnumbered) none
+
+  pub record State (l : List ℕ) (n b : ℕ) : Type 0 where
+    pub islands : n ≡ upTo b
+    pub table : (y : ℕ) → getD l y none ≡ shown b y
+
+  pub state-starts : (l : List ℕ) → Flagged m l → State l 0 0
+  state-starts l w = record { islands = refl; table = λ y. w .labels y ∙ sym (ap (λ (t : Bool). cond (m y) (cond t (upTo (low y)) unnumbered) none) (none-yet y)) }
+    where
+      none-yet : (y : ℕ) → numbered 0 y ≡ false
+      none-yet y = rw (le-ltb y 0 (omega arith), le-ltb (low y) 0 (omega arith)) (and-false (eqb (rootOf p y) y))
+
+  module _ (h : Balanced p) (few : (y : ℕ) → m y ≡ true → y < length p) (together : Together m (rootOf p)) (o : LowestOf (rootOf p) low) where
+    same-low : (x y : ℕ) → rootOf p x ≡ rootOf p y → low x ≡ low y
+    unfolding SameSets
+    same-low x y e = eqb-true (low x) (low y) (sym (o .same x y) ∙ eq-eqb (rootOf p x) (rootOf p y) e)
+
+    same-root : (x y : ℕ) → low x ≡ low y → rootOf p x ≡ rootOf p y
+    unfolding SameSets
+    same-root x y e = eqb-true (rootOf p x) (rootOf p y) (o .same x y ∙ eq-eqb (low x) (low y) e)
+
+    pub state-ends : (l : List ℕ) (n b : ℕ) → State l n b → b ≡ length p → Numbered m low b n l
+    state-ends l n b w e = record { islands-are = w .islands; labels-are = λ x. w .table x ∙ by-cases (m x)
+        (λ i. rw (i, or-left (ltb x b) (eqb (rootOf p x) x && ltb (low x) b) (lt-ltb x b (omega (arith, e, few x i)))))
+        (λ i. rw i) }
+
+    -- ---- body b's turn
+    module _ (l : List ℕ) (n b : ℕ) (w : State l n b) (k : b < length p) (long : length l ≡ length p) where
+      abbrev r : ℕ
+      r = rootOf p b
+
+      root-fixed : rootOf p r ≡ r
+      root-fixed = root-root p (ends p (h .0) (h .1 .weighed)) b
+
+      low-root : low r ≡ low b
+      low-root = same-low r b root-fixed
+
+      in-root : m r ≡ m b
+      unfolding Together
+      in-root = together r b root-fixed
+
+      r-inside : r < length l
+      r-inside = omega (arith, long, root-inside p (h .0) (h .1 .weighed) b k)
+
+      -- a root has its number once its set's lowest body was met
+      numbered-root : (c : ℕ) → numbered c r ≡ ltb (low b) c
+      numbered-root c = by-cases (ltb (low b) c)
+          (λ t. rw (low-root, eq-eqb (rootOf p r) r root-fixed, t) (or-yes (ltb r c)))
+          (λ t. rw (low-root, eq-eqb (rootOf p r) r root-fixed, t, le-ltb r c (omega (arith, ltb-false (low b) c t, o .below r, low-root))))
+        where
+          or-yes : (t : Bool) → (t || true) ≡ true
+          or-yes true = refl
+          or-yes false = refl
+
+      at-root : getD l r none ≡ cond (m b) (cond (ltb (low b) b) (upTo (low b)) unnumbered) none
+      at-root = w .table r ∙ rw (in-root, numbered-root b, low-root)
+
+      small : upTo (low b) ≤ 4096
+      small = omega (arith, count-le (leadsBy m low) (low b), o .below b, k, h .1 .few)
+
+      -- the lowest of its set finds no number at its root, any other its set's
+      at-first : m b ≡ true → low b ≡ b → getD l r none ≡ unnumbered
+      at-first i e = at-root ∙ rw (i, le-ltb (low b) b (omega (arith, e)))
+
+      at-later : m b ≡ true → low b < b → getD l r none ≡ upTo (low b)
+      at-later i e = at-root ∙ rw (i, lt-ltb (low b) b e)
+
+      at-out : m b ≡ false → getD l r none ≡ none
+      at-out i = at-root ∙ rw i
+
+      later : (low b ≡ b → ⊥) → low b < b
+      later q = omega (arith, o .below b, q)
+
+      first-is : eqb (getD l r none) unnumbered ≡ leadsBy m low b
+      first-is = by-cases (m b)
+          (λ i. rw i (go i (ℕ-discrete (low b) b)))
+          (λ i. rw i (ap (λ (v : ℕ). eqb v unnumbered) (at-out i)))
+        where
+          go : m b ≡ true → Dec (low b ≡ b) → eqb (getD l r none) unnumbered ≡ eqb (low b) b
+          go i (yes e) = eq-eqb (getD l r none) unnumbered (at-first i e) ∙ sym (eq-eqb (low b) b e)
+          go i (no e) = ne-eqb (getD l r none) unnumbered (λ q. absurd (omega (arith, q, at-later i (later e), small))) ∙ sym (ne-eqb (low b) b e)
+
+      label-is : nextLabel p l b n ≡ cond (m b) (upTo (low b)) none
+      label-is = ap (λ (t : Bool). cond t n (getD l r none)) first-is ∙ by-cases (m b)
+          (λ i. rw i (go i (ℕ-discrete (low b) b)))
+          (λ i. rw i (at-out i))
+        where
+          go : m b ≡ true → Dec (low b ≡ b) → cond (eqb (low b) b) n (getD l r none) ≡ upTo (low b)
+          go i (yes e) = rw (eq-eqb (low b) b e) (w .islands ∙ ap upTo (sym e))
+          go i (no e) = rw (ne-eqb (low b) b e) (at-later i (later e))
+
+      -- the body, its root, and any other after the turn
+      shown-here : shown (suc b) b ≡ cond (m b) (upTo (low b)) none
+      shown-here = rw (or-left (ltb b (suc b)) (eqb (rootOf p b) b && ltb (low b) (suc b)) (lt-ltb b (suc b) (omega arith)))
+
+      shown-root : shown (suc b) r ≡ cond (m b) (upTo (low b)) none
+      shown-root = rw (in-root, numbered-root (suc b) ∙ lt-ltb (low b) (suc b) (omega (arith, o .below b)), low-root)
+
+      lows : (z : ℕ) → (z ≡ b → ⊥) → ltb z b ≡ ltb z (suc b)
+      lows z q = go (decLt z b)
+        where
+          go : Dec (z < b) → ltb z b ≡ ltb z (suc b)
+          go (yes j) = lt-ltb z b j ∙ sym (lt-ltb z (suc b) (omega arith))
+          go (no j) = le-ltb z b (omega arith) ∙ sym (le-ltb z (suc b) (omega (arith, q, j)))
+
+      shown-other : (y : ℕ) → (y ≡ b → ⊥) → (y ≡ r → ⊥) → shown b y ≡ shown (suc b) y
+      shown-other y q s = ap (λ (t : Bool). cond (m y) (cond t (upTo (low y)) unnumbered) none)
+          (ap (λ (t : Bool). t || (eqb (rootOf p y) y && ltb (low y) b)) (lows y q) ∙ by-cases (eqb (rootOf p y) y)
+          (λ i. ap (λ (t : Bool). ltb y (suc b) || (eqb (rootOf p y) y && t)) (lows (low y) (λ e. s (sym (eqb-true (rootOf p y) y i) ∙ same-root y b (low-met e)))))
+          (λ i. rw i))
+        where
+          low-met : low y ≡ b → low y ≡ low b
+          low-met e = sym (o .fixed y) ∙ ap low e
+
+      pub state-turns : (l′ : List ℕ) (n′ : ℕ) → Stepped p l b n l′ n′ → State l′ n′ (suc b)
+      state-turns l′ n′ z = record {
+        islands = z .count ∙ ap (λ (t : Bool). n + one t) first-is ∙ ap (λ (c : ℕ). c + one (leadsBy m low b)) (w .islands) ∙ sym (count-next (leadsBy m low) b);
+        table = λ y. ap (λ (t : List ℕ). getD t y none) (z .labels) ∙ at y (ℕ-discrete y b) (ℕ-discrete y r);
+      }
+        where
+          v : ℕ
+          v = nextLabel p l b n
+
+          at : (y : ℕ) → Dec (y ≡ b) → Dec (y ≡ r) → getD (set (set l r v) b v) y none ≡ shown (suc b) y
+          at y (yes q) d = subst (λ (x : ℕ). getD (set (set l r v) b v) x none ≡ shown (suc b) x) (sym q)
+              (getD-set-same (set l r v) b v none (omega (arith, length-set l r v, long, k)) ∙ label-is ∙ sym shown-here)
+          at y (no q) (yes s) = getD-set-other (set l r v) b y v none q ∙ subst (λ (x : ℕ). getD (set l r v) x none ≡ shown (suc b) x) (sym s)
+              (getD-set-same l r v none r-inside ∙ label-is ∙ sym shown-root)
+          at y (no q) (no s) = getD-set-other (set l r v) b y v none q ∙ getD-set-other l r y v none s ∙ w .table y ∙ shown-other y q s
+
+-- ---- the loop, at body b: f has the flags
+abbrev waits : List ℕ → ℕ → Bool
+waits f y = eqb (getD f y none) unnumbered
 
 pub record Numbering (p f l : List ℕ) (n b : ℕ) : Type 0 where
   pub inside : b ≤ length p
   pub long : length l ≡ length f
-  pub islands : n ≡ count (leader f) (range b)
-  pub done : (x : ℕ) → x < b → getD l x none ≡ numberOf p f x
-  pub todo : (x : ℕ) → b ≤ x → getD l x 0 ≡ getD f x 0
+  pub states : (low : ℕ → ℕ) → LowestOf (rootOf p) low → State p (waits f) low l n b
 
-pub numbering-starts : (p f : List ℕ) → Numbering p f f 0 0
-numbering-starts p f = record { inside = omega arith; long = refl; islands = refl; done = λ x h. absurd (omega (arith, h)); todo = λ x h. refl }
-
-pub islands-few : (p f l : List ℕ) (n b : ℕ) → Numbering p f l n b → n ≤ b
-islands-few p f l n b w = omega (arith, w .islands, count-le (leader f) b)
-
-one-bit : (o : ℕ) → o ≤ 1 → o ≡ one (eqb o 1)
-one-bit o h = go (ℕ-discrete o 1)
-  where
-    go : Dec (o ≡ 1) → o ≡ one (eqb o 1)
-    go (yes e) = rw e
-    go (no n) = rw (ne-eqb o 1 n) (omega (arith, n, h))
-
-module _ (p f l : List ℕ) (n b : ℕ) (w : Numbering p f l n b) (h : Falls p) (size : length f ≡ length p) (k : b < length p) (bit : getD f b 0 ≤ 1) where
-  abbrev picked : ℕ
-  picked = cond (eqb (getD l b 0) 1) n none
-
-  abbrev new : ℕ
-  new = getD (own l b n) (getD p b 0) 0
-
-  flag-here : getD l b 0 ≡ getD f b 0
-  flag-here = w .todo b (le-refl b)
-
-  in-l : b < length l
-  in-l = omega (arith, w .long)
-
-  -- the number that stands at the parent, once the body has its own
-  parent-has : Dec (getD p b 0 ≡ b) → new ≡ numberOf p f b
-  parent-has (yes e) =
-      ap (λ (x : ℕ). getD (own l b n) x 0) e
-      ∙ getD-set-same l b picked 0 in-l
-      ∙ ap (λ (x : ℕ). cond (eqb x 1) n none) flag-here
-      ∙ ap (λ (x : ℕ). cond (leader f b) x none) (w .islands)
-      ∙ ap (λ (x : ℕ). cond (leader f x) (count (leader f) (range x)) none) (sym (read-here p b k e))
-  parent-has (no e) =
-      let lt : getD p b 0 < b = omega (arith, read-le p h b k, e) in
-      getD-set-other l b (getD p b 0) picked 0 e
-      ∙ getD-any l (getD p b 0) 0 none (omega (arith, w .long))
-      ∙ w .done (getD p b 0) lt
-      ∙ ap (λ (x : ℕ). cond (leader f x) (count (leader f) (range x)) none) (read-root p h b k)
-
-  kept : (x d : ℕ) → (x ≡ b → ⊥) → getD (set (own l b n) b new) x d ≡ getD l x d
-  kept x d q = getD-set-other (own l b n) b x new d q ∙ getD-set-other l b x picked d q
-
-  pub numbering-turns : (l′ : List ℕ) (n′ : ℕ) → Stepped p l b n l′ n′ → Numbering p f l′ n′ (b + 1)
-  numbering-turns l′ n′ z = record {
-    inside = omega arith;
-    long = ap length (z .labels) ∙ length-set (own l b n) b new ∙ length-set l b picked ∙ w .long;
-    islands = z .count ∙ ap (λ (x : ℕ). n + x) (flag-here ∙ one-bit (getD f b 0) bit) ∙ ap (λ (x : ℕ). x + one (leader f b)) (w .islands) ∙ sym (count-next (leader f) b) ∙ ap (λ (x : ℕ). count (leader f) (range x)) (sym (add-one b));
-    done = λ x j. ap (λ (t : List ℕ). getD t x none) (z .labels) ∙ at x j (ℕ-discrete x b);
-    todo = λ x j. ap (λ (t : List ℕ). getD t x 0) (z .labels) ∙ kept x 0 (λ q. omega (arith, q, j)) ∙ w .todo x (omega (arith, j));
-  }
+module _ (ts p l₀ f : List ℕ) (h : Numberable ts p l₀) (w : Flagged (inIslandBy ts l₀) f) (size : length f ≡ length l₀) where
+  waits-are : waits f ≡ inIslandBy ts l₀
+  waits-are = fun-ext (λ y. ap (λ (v : ℕ). eqb v unnumbered) (w .labels y) ∙ told (inIslandBy ts l₀ y))
     where
-      at : (x : ℕ) → x < b + 1 → Dec (x ≡ b) → getD (set (own l b n) b new) x none ≡ numberOf p f x
-      at x j (yes q) =
-          let in-own : b < length (own l b n) = omega (arith, in-l, length-set l b picked) in
-          subst (λ (y : ℕ). getD (set (own l b n) b new) y none ≡ numberOf p f y) (sym q) (getD-set-same (own l b n) b new none in-own ∙ parent-has (ℕ-discrete (getD p b 0) b))
-      at x j (no q) = kept x none q ∙ w .done x (omega (arith, q, j))
+      told : (t : Bool) → eqb (cond t unnumbered none) unnumbered ≡ t
+      told true = refl
+      told false = refl
 
--- ---- flags of the constrained bodies that lead: a body is constrained if its root is, so its number is its island's
-module _ (ts p l₀ f : List ℕ) (fit : Fit ts p l₀) (w : LeadersFlagged (inIslandBy ts l₀) (rootOf p) (length ts) f) where
-  pub flag-le : (x : ℕ) → x < length ts → getD f x 0 ≤ 1
-  flag-le x k = omega (arith, w .flags x k, one-le (leadsBy (inIslandBy ts l₀) (rootOf p) x))
+  waits-inside : (y : ℕ) → waits f y ≡ true → y < length p
+  waits-inside y i = go (decLt y (length p))
+    where
+      go : Dec (y < length p) → y < length p
+      go (yes k) = k
+      go (no k) = let past : getD f y none ≡ none = List·getD-eq-default f none (omega (arith, k, size, h .long-bodies, h .long-parents)) in
+          clashes (waits f y) i (ap (λ (v : ℕ). eqb v unnumbered) past)
 
-  module _ (same : Together (inIslandBy ts l₀) (rootOf p)) (size : length f ≡ length l₀) where
-    not-in-island : (x : ℕ) → length ts ≤ x → inIslandBy ts l₀ x ≡ false
-    not-in-island x k = ap (λ (v : ℕ). dynamic (bare ts) x && not (eqb v none)) (List·getD-eq-default l₀ none (omega (arith, k, fit .long-bodies))) ∙ and-false (dynamic (bare ts) x)
+  pub numbering-starts : Numbering p f f 0 0
+  numbering-starts = record { inside = omega arith; long = refl; states = λ low o. state-starts p (waits f) low f (subst (λ (m : ℕ → Bool). Flagged m f) (sym waits-are) w) }
 
-    leaders-are : leader f ≡ leadsBy (inIslandBy ts l₀) (rootOf p)
-    leaders-are = fun-ext (λ x. go x (decLt x (length ts)))
-      where
-        go : (x : ℕ) → Dec (x < length ts) → leader f x ≡ leadsBy (inIslandBy ts l₀) (rootOf p) x
-        go x (yes k) = ap (λ (v : ℕ). eqb v 1) (w .flags x k) ∙ one-true (leadsBy (inIslandBy ts l₀) (rootOf p) x)
-        go x (no k) =
-            ap (λ (v : ℕ). eqb v 1) (List·getD-eq-default f 0 (omega (arith, k, size, fit .long-bodies)))
-            ∙ sym (ap (λ (t : Bool). t && eqb (rootOf p x) x) (not-in-island x (omega (arith, k))))
+  module _ (l : List ℕ) (n b : ℕ) (v : Numbering p f l n b) where
+    pub long-now : length l ≡ length p
+    long-now = v .long ∙ size ∙ h .long-bodies ∙ sym (h .long-parents)
 
-    root-leads : (x : ℕ) → leadsBy (inIslandBy ts l₀) (rootOf p) (rootOf p x) ≡ inIslandBy ts l₀ x
-    unfolding Together
-    root-leads x =
-        let r = root-root p (fit .falls) x in
-        ap (λ (t : Bool). inIslandBy ts l₀ (rootOf p x) && t) (eq-eqb (rootOf p (rootOf p x)) (rootOf p x) r) ∙ and-true (inIslandBy ts l₀ (rootOf p x)) ∙ same (rootOf p x) x r
+    -- few islands so far
+    pub numbering-few : n ≤ 4096
+    numbering-few = omega (arith, v .states (h .lowest .0) (h .lowest .1) .islands, count-le (leadsBy (waits f) (h .lowest .0)) b, v .inside, h .balanced .1 .few)
 
-    pub numbering-ends : (l : List ℕ) (n b : ℕ) → Numbering p f l n b → length l ≤ b → Numbered (inIslandBy ts l₀) (rootOf p) (length ts) n l
-    numbering-ends l n b v h = record {
-      islands-are = v .islands ∙ ap (λ (x : ℕ). count (leader f) (range x)) e ∙ ap (λ (g : ℕ → Bool). count g (range (length ts))) leaders-are;
-      labels-are = λ x. go x (decLt x b);
+    together : Together (waits f) (rootOf p)
+    together = subst (λ (m : ℕ → Bool). Together m (rootOf p)) (sym waits-are) (h .together)
+
+    pub numbering-turns : b < length p → (l′ : List ℕ) (n′ : ℕ) → length l′ ≡ length l → Stepped p l b n l′ n′ → Numbering p f l′ n′ (b + 1)
+    numbering-turns k l′ n′ el z = record {
+      inside = omega (arith, k);
+      long = el ∙ v .long;
+      states = λ low o. subst (λ (c : ℕ). State p (waits f) low l′ n′ c) (sym (add-one b))
+          (state-turns p (waits f) low (h .balanced) waits-inside together o l n b (v .states low o) k long-now l′ n′ z);
     }
-      where
-        e : b ≡ length ts
-        e = omega (arith, h, size, v .long, v .inside, fit .long-parents, fit .long-bodies)
 
-        go : (x : ℕ) → Dec (x < b) → getD l x none ≡ cond (inIslandBy ts l₀ x) (count (leadsBy (inIslandBy ts l₀) (rootOf p)) (range (rootOf p x))) none
-        go x (yes k) =
-            v .done x k
-            ∙ ap (λ (g : ℕ → Bool). cond (g (rootOf p x)) (count g (range (rootOf p x))) none) leaders-are
-            ∙ ap (λ (t : Bool). cond t (count (leadsBy (inIslandBy ts l₀) (rootOf p)) (range (rootOf p x))) none) (root-leads x)
-        go x (no k) =
-            List·getD-eq-default l none (omega (arith, k, h))
-            ∙ sym (ap (λ (t : Bool). cond t (count (leadsBy (inIslandBy ts l₀) (rootOf p)) (range (rootOf p x))) none) (not-in-island x (omega (arith, k, e))))
+    pub numbering-ends : length l ≤ b → NumberedByLowest ts p l₀ n l
+    numbering-ends k = record { numbered = λ low o. subst (λ (c : ℕ). Numbered (inIslandBy ts l₀) low c n l) (e ∙ h .long-parents)
+        (subst (λ (m : ℕ → Bool). Numbered m low b n l) waits-are (state-ends p (waits f) low (h .balanced) waits-inside together o l n b (v .states low o) e)) }
+      where
+        e : b ≡ length p
+        e = omega (arith, k, long-now, v .inside)

@@ -1,5 +1,5 @@
 -- What numbers the islands and labels the constraints, step by step.
-use Prim.Native.Nat.{ℕ, _+_, _<_, min}
+use Prim.Native.Nat.{ℕ, _+_, min}
 use mathlib.Core.Path.{_≡_}
 use mathlib.Core.Bool.{Bool, not, _&&_, cond}
 use mathlib.Core.List.{List, [], _∷_}
@@ -7,19 +7,18 @@ use lib.Dec.{eqb}
 use lib.ListN.{length, getD, set}
 use Rattle.lists.specs.Basics.{one, count, range}
 use Rattle.frame.specs.Frames.{Constraint, Frame, frameOf, dynamic, none}
-use Rattle.island_sets.specs.Sets.{Falls}
+use Rattle.island_sets.specs.Sets.{rootOf}
+use Rattle.island_sets.specs.Steps.{Balanced, LowestOf}
 
 -- a frame's bodies alone
 abbrev pub bare : List ℕ → Frame
 bare ts = frameOf ts [] [] []
 
--- links that do not rise and a table of labels, as many of each as bodies
-pub record Fit (ts p l : List ℕ) : Type 0 where
-  pub falls : Falls p
-  pub long-parents : length p ≡ length ts
-  pub long-bodies : length l ≡ length ts
-
 -- ---- numbering
+
+-- the label of a body that is in an island and has no number yet: above every number, and not none
+abbrev pub unnumbered : ℕ
+unnumbered = 65534
 
 -- a body is in an island: it is dynamic and constrained
 abbrev pub inIslandBy : List ℕ → List ℕ → ℕ → Bool
@@ -29,26 +28,38 @@ inIslandBy ts l x = dynamic (bare ts) x && not (eqb (getD l x none) none)
 abbrev pub leadsBy : (ℕ → Bool) → (ℕ → ℕ) → ℕ → Bool
 leadsBy m low x = m x && eqb (low x) x
 
--- bodies of one set are constrained or not together
+-- bodies of one set are in an island or not together
 unfoldable pub Together : (ℕ → Bool) → (ℕ → ℕ) → Type 0
-Together m low = (x y : ℕ) → low x ≡ low y → m x ≡ m y
+Together m root = (x y : ℕ) → root x ≡ root y → m x ≡ m y
 
--- each body's place tells whether it leads
-pub record LeadersFlagged (m : ℕ → Bool) (low : ℕ → ℕ) (size : ℕ) (l : List ℕ) : Type 0 where
-  pub flags : (x : ℕ) → x < size → getD l x 0 ≡ one (leadsBy m low x)
+-- parents and labels, as many of each as bodies, for sets that have a lowest body each
+pub record Numberable (ts p l : List ℕ) : Type 0 where
+  pub balanced : Balanced p
+  pub long-parents : length p ≡ length ts
+  pub long-bodies : length l ≡ length ts
+  pub together : Together (inIslandBy ts l) (rootOf p)
+  pub lowest : (low : ℕ → ℕ) × LowestOf (rootOf p) low
 
--- body b with n islands before it: its own number if it is flagged, then its parent's
-abbrev pub own : List ℕ → ℕ → ℕ → List ℕ
-own l b n = set l b (cond (eqb (getD l b 0) 1) n none)
+-- the bodies in islands have no number yet, and any other has none
+pub record Flagged (m : ℕ → Bool) (l : List ℕ) : Type 0 where
+  pub labels : (x : ℕ) → getD l x none ≡ cond (m x) unnumbered none
+
+-- body b with n islands before it: the label of its root, or n where that has no number yet, goes to the root and to the body
+abbrev pub nextLabel : List ℕ → List ℕ → ℕ → ℕ → ℕ
+nextLabel p l b n = cond (eqb (getD l (rootOf p b) none) unnumbered) n (getD l (rootOf p b) none)
 
 pub record Stepped (p l : List ℕ) (b n : ℕ) (l′ : List ℕ) (n′ : ℕ) : Type 0 where
-  pub count : n′ ≡ n + getD l b 0
-  pub labels : l′ ≡ set (own l b n) b (getD (own l b n) (getD p b 0) 0)
+  pub count : n′ ≡ n + one (eqb (getD l (rootOf p b) none) unnumbered)
+  pub labels : l′ ≡ set (set l (rootOf p b) (nextLabel p l b n)) b (nextLabel p l b n)
 
 -- the constrained bodies have the number of constrained lowest bodies below their own, any other has none
 pub record Numbered (m : ℕ → Bool) (low : ℕ → ℕ) (size islands : ℕ) (l : List ℕ) : Type 0 where
   pub islands-are : islands ≡ count (leadsBy m low) (range size)
   pub labels-are : (x : ℕ) → getD l x none ≡ cond (m x) (count (leadsBy m low) (range (low x))) none
+
+-- the same of labels l that were made of l₀, by whichever function gives each set's lowest body
+pub record NumberedByLowest (ts p l₀ : List ℕ) (islands : ℕ) (l : List ℕ) : Type 0 where
+  pub numbered : (low : ℕ → ℕ) → LowestOf (rootOf p) low → Numbered (inIslandBy ts l₀) low (length ts) islands l
 
 -- ---- a live constraint's label is the least of its bodies' labels
 abbrev pub least : List ℕ → List ℕ → ℕ

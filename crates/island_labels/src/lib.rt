@@ -3,14 +3,17 @@ ghost use mathlib.Core.Path.{_≡_};
 ghost use mathlib.Core.Bool.{true, cond};
 ghost use mathlib.Core.List.{map};
 ghost use Prim.Native.Nat.{_<_, _≤_};
-ghost use lib.ListN.{length, getD};
-ghost use Rattle.lists.specs.Basics.{one, all};
+ghost use lib.ListN.{length};
+ghost use Rattle.lists.specs.Basics.{all};
 ghost use Rattle.frame.specs.Frames.{constraint, constraintsOf, sound};
-ghost use Rattle.island_sets.specs.Sets.{rootOf, Falls};
-ghost use Rattle.island_labels.specs.Labels.{Fit, inIslandBy, Together, LeadersFlagged, Stepped, Numbered, labelBy};
+ghost use Rattle.island_sets.specs.Steps.{Balanced};
+ghost use Rattle.island_labels.specs.Labels.{inIslandBy, Numberable, Flagged, Stepped, NumberedByLowest, labelBy};
 
 // The label of what has no island.
 pub const NONE: u16 = 65535;
+
+// The label of a body that is in an island and has no number yet.
+const UNNUMBERED: u16 = 65534;
 
 fn pick(test: bool, yes: u16, no: u16) -> u16
     ensures { λ r. ⌜ r ≡ cond test yes no ⌝ }
@@ -21,55 +24,45 @@ fn pick(test: bool, yes: u16, no: u16) -> u16
     no
 }
 
-fn bit(test: bool) -> u16
-    ensures { λ r. ⌜ (r ≡ one test) × (r ≤ 1) ⌝ }
-{
-    if test {
-        return 1;
-    }
-    0
-}
-
-// 1 for each body that leads an island: it is dynamic, constrained and its own parent. 0 for any other.
-fn flag_leaders(body_types: &[u8], parents: &[u16], body_islands: &mut [u16])
-    requires { ⌜ Fit (now «body_types») (now parents) (now «body_islands») × (length (now «body_types») ≤ 4096) ⌝ }
-    ensures { λ _. ⌜ LeadersFlagged (inIslandBy (now («body_types» .entry)) (now («body_islands» .entry))) (rootOf (now (parents .entry)))
-        (length (now («body_types» .entry))) (now («body_islands» .exit)) ⌝ }
+// The bodies in islands, dynamic and constrained, have no number yet; any other has none. A loop of wide compares.
+fn flag_bodies(body_types: &[u8], body_islands: &mut [u16])
+    requires { ⌜ length (now «body_islands») ≡ length (now «body_types») ⌝ }
+    ensures { λ _. ⌜ Flagged (inIslandBy (now («body_types» .entry)) (now («body_islands» .entry))) (now («body_islands» .exit)) ⌝ }
 {
     let mut body = 0;
     // The bodies passed are flagged, and the others have the labels that they had.
     while body < body_islands.len() {
         let in_island = (body_types[body] == 2) & (body_islands[body] != NONE);
-        body_islands[body] = bit(in_island & (parents[body] == body as u16));
+        body_islands[body] = pick(in_island, UNNUMBERED, NONE);
         body += 1;
     }
 }
 
-// A body that leads gets the next number, any other none, and then each what its parent has: one that leads, or is in no island, is its own
-// parent. Answers how many islands there are so far. There is no branch to guess wrong.
+// A body gets the label of its root; where that has no number yet, the body is the lowest of its set, and both get the next number.
+// Answers how many islands there are so far. There is no branch to guess wrong.
 fn number_one(parents: &[u16], body_islands: &mut [u16], body: usize, count: u16) -> u16
-    requires { ⌜ Falls (now parents) × (length (now parents) ≡ length (now «body_islands»)) × (body < length (now parents))
-        × (getD (now «body_islands») body 0 ≤ 1) × (count ≤ 4096) ⌝ }
+    requires { ⌜ Balanced (now parents) × (length (now parents) ≡ length (now «body_islands»)) × (body < length (now parents)) × (count ≤ 4096) ⌝ }
     ensures { λ r. ⌜ Stepped (now (parents .entry)) (now («body_islands» .entry)) body count (now («body_islands» .exit)) r ⌝ }
 {
-    let leads = body_islands[body];
-    body_islands[body] = pick(leads == 1, count, NONE);
-    body_islands[body] = body_islands[parents[body] as usize];
-    count + leads
+    let found = island_sets::root_of(parents, body as u16);
+    let root = found.root as usize;
+    let label = body_islands[root];
+    let first = label == UNNUMBERED;
+    let number = pick(first, count, label);
+    body_islands[root] = number;
+    body_islands[body] = number;
+    count + first as u16
 }
 
-// The constrained dynamic bodies get their island's number, in rising order: a parent is lower, so it has its number already.
-// Answers how many islands there are.
+// The bodies in islands get their island's number, in rising order of the islands' lowest bodies. Answers how many islands there are.
 pub fn number(body_types: &[u8], parents: &[u16], body_islands: &mut [u16]) -> u16
-    requires { ⌜ Fit (now «body_types») (now parents) (now «body_islands») × (length (now «body_types») ≤ 4096)
-        × Together (inIslandBy (now «body_types») (now «body_islands»)) (rootOf (now parents)) ⌝ }
-    ensures { λ r. ⌜ Numbered (inIslandBy (now («body_types» .entry)) (now («body_islands» .entry))) (rootOf (now (parents .entry)))
-        (length (now («body_types» .entry))) r (now («body_islands» .exit)) ⌝ }
+    requires { ⌜ Numberable (now «body_types») (now parents) (now «body_islands») ⌝ }
+    ensures { λ r. ⌜ NumberedByLowest (now («body_types» .entry)) (now (parents .entry)) (now («body_islands» .entry)) r (now («body_islands» .exit)) ⌝ }
 {
-    flag_leaders(body_types, parents, body_islands);
+    flag_bodies(body_types, body_islands);
     let mut islands: u16 = 0;
     let mut next = 0;
-    // The bodies below `next` have their labels, and `islands` of them lead; the others have their flags.
+    // The bodies below `next` have their labels, and so have the roots of the sets whose lowest body is below `next`: `islands` sets.
     while next < body_islands.len() {
         islands = number_one(parents, body_islands, next, islands);
         next += 1;

@@ -1,35 +1,46 @@
-// Sets of bodies by union-find: each body links to a body of its set that is not higher, and the links end at the lowest, the set's root.
-// Internal: what an islands call joins its bodies with. Lookups compress their way (Tarjan 1975); the lower root wins whatever the sizes of
-// the sets, so m lookups among B bodies follow at most some m log B links.
+// Sets of bodies by union-find (Tarjan 1975): each body links to a parent, and following the links ends at the root of its set.
+// Internal: what an islands call joins its bodies with. A lookup compresses its way, and a union hangs the smaller set under the larger, so
+// that 2 to the number of links on a way is at most the number of bodies in the set: never more than 12 links among 4,096 bodies.
 ghost use mathlib.Core.Path.{_≡_};
 ghost use Prim.Native.Nat.{_<_, _≤_};
-ghost use lib.ListN.{length};
+ghost use lib.ListN.{length, replicate};
 ghost use Rattle.lists.specs.Basics.{range};
-ghost use Rattle.island_sets.specs.Sets.{rootOf, Falls, merge};
+ghost use Rattle.island_sets.specs.Sets.{rootOf, winnerOf, hang};
+ghost use Rattle.island_sets.specs.Steps.{Sets, Balanced, LookedUp, Shortened};
 
-// Where the links of `body` end.
-fn root_of(parents: &[u16], body: u16) -> u16
-    requires { ⌜ Falls (now parents) × (body < length (now parents)) ⌝ }
-    ensures { λ r. ⌜ r ≡ rootOf (now (parents .entry)) body ⌝ }
+// A set's root, and how many links a lookup followed to it.
+pub struct Found {
+    pub root: u16,
+    pub links: u16,
+}
+
+// Where the links of `body` end, and how many there are. The first link is followed without a branch: most ways have none or one.
+pub fn root_of(parents: &[u16], body: u16) -> Found
+    requires { ⌜ Balanced (now parents) × (body < length (now parents)) ⌝ }
+    ensures { λ r. ⌜ LookedUp (now (parents .entry)) body r ⌝ }
 {
-    let mut root = body;
-    // The links from `body` lead through `root`; none rises, so they end.
+    let mut root = parents[body as usize];
+    let mut links = (root != body) as u16;
+    // `root` is `links` links on from `body`.
     loop {
         let parent = parents[root as usize];
         if parent == root {
             break;
         }
         root = parent;
+        links += 1;
     }
-    root
+    Found { root, links }
 }
 
-// Every body on the way from `start` to its root is linked to that root.
+// Every body on the way from `start` to its root is linked to that root: `start` without a branch, as it is linked already if it has
+// no more than one link.
 fn compress(parents: &mut [u16], start: u16, root: u16)
-    requires { ⌜ Falls (now parents) × (start < length (now parents)) × (root ≡ rootOf (now parents) start) ⌝ }
-    ensures { λ _. ⌜ Falls (now (parents .exit)) × (rootOf (now (parents .exit)) ≡ rootOf (now (parents .entry))) ⌝ }
+    requires { ⌜ Balanced (now parents) × (start < length (now parents)) × (root ≡ rootOf (now parents) start) ⌝ }
+    ensures { λ _. ⌜ Shortened (now (parents .entry)) (now (parents .exit)) ⌝ }
 {
-    let mut body = start;
+    let mut body = parents[start as usize];
+    parents[start as usize] = root;
     // Every body has the root that it had; those on the way before `body` are linked to it.
     while body != root {
         let parent = parents[body as usize];
@@ -38,32 +49,63 @@ fn compress(parents: &mut [u16], start: u16, root: u16)
     }
 }
 
-// The root of `body`, with the way to it compressed.
-fn find(parents: &mut [u16], body: u16) -> u16
-    requires { ⌜ Falls (now parents) × (body < length (now parents)) ⌝ }
-    ensures { λ r. ⌜ (r ≡ rootOf (now (parents .entry)) body) × Falls (now (parents .exit)) × (rootOf (now (parents .exit)) ≡ rootOf (now (parents .entry))) ⌝ }
+// The root of `body` and the links that led to it, with the way now compressed.
+fn find(parents: &mut [u16], body: u16) -> Found
+    requires { ⌜ Balanced (now parents) × (body < length (now parents)) ⌝ }
+    ensures { λ r. ⌜ LookedUp (now (parents .entry)) body r × Shortened (now (parents .entry)) (now (parents .exit)) ⌝ }
 {
-    let root = root_of(parents, body);
-    compress(parents, body, root);
-    root
+    let found = root_of(parents, body);
+    compress(parents, body, found.root);
+    found
 }
 
-// The sets of `left` and `right` become one, whose root is the lower of the two roots.
-pub fn union(parents: &mut [u16], left: u16, right: u16)
-    requires { ⌜ Falls (now parents) × (left < length (now parents)) × (right < length (now parents)) ⌝ }
-    ensures { λ _. ⌜ Falls (now (parents .exit)) × (rootOf (now (parents .exit)) ≡ merge (rootOf (now (parents .entry))) left right) ⌝ }
+// Which of two roots stays one: that of the larger set, and on equal sizes the lower. Size and root are compared as one number, with
+// one branch less to guess.
+fn winner(size_left: u16, size_right: u16, left: u16, right: u16) -> u16
+    ensures { λ r. ⌜ r ≡ winnerOf «size_left» «size_right» left right ⌝ }
 {
-    let root_left = find(parents, left);
-    let root_right = find(parents, right);
-    if root_left < root_right {
-        parents[root_right as usize] = root_left;
-    } else {
-        parents[root_left as usize] = root_right;
+    let weight_left = (size_left as usize) * 65536 + right as usize;
+    let weight_right = (size_right as usize) * 65536 + left as usize;
+    if weight_left > weight_right {
+        return left;
     }
+    right
+}
+
+// The sets of two different roots become one: one root is linked to the other, whose set grows. The size of the one stays as it was.
+fn join_roots(parents: &mut [u16], sizes: &mut [u16], left: u16, right: u16)
+    requires { ⌜ Sets (now parents) (now sizes) × (left < length (now parents)) × (right < length (now parents))
+        × (rootOf (now parents) left ≡ left) × (rootOf (now parents) right ≡ right) × (left ≡ right → ⊥) ⌝ }
+    ensures { λ _. ⌜ Sets (now (parents .exit)) (now (sizes .exit))
+        × (rootOf (now (parents .exit)) ≡ hang (length (now (parents .entry))) (rootOf (now (parents .entry))) left right) ⌝ }
+{
+    let size_left = sizes[left as usize];
+    let size_right = sizes[right as usize];
+    let top = winner(size_left, size_right, left, right);
+    let under = left + right - top;
+    parents[under as usize] = top;
+    sizes[top as usize] = size_left + size_right;
+}
+
+// The sets of `left` and `right` become one: the smaller hangs under the larger, and on equal sizes the lower root stays. A set joined
+// with itself stays as it is.
+pub fn union(parents: &mut [u16], sizes: &mut [u16], left: u16, right: u16)
+    requires { ⌜ Sets (now parents) (now sizes) × (left < length (now parents)) × (right < length (now parents)) ⌝ }
+    ensures { λ _. ⌜ Sets (now (parents .exit)) (now (sizes .exit))
+        × (rootOf (now (parents .exit)) ≡ hang (length (now (parents .entry))) (rootOf (now (parents .entry))) left right) ⌝ }
+{
+    let found_left = find(parents, left);
+    let found_right = find(parents, right);
+    let root_left = found_left.root;
+    let root_right = found_right.root;
+    if root_left == root_right {
+        return;
+    }
+    join_roots(parents, sizes, root_left, root_right);
 }
 
 // Every body its own parent.
-pub fn fill_self(parents: &mut [u16])
+fn fill_self(parents: &mut [u16])
     requires { ⌜ length (now parents) ≤ 4096 ⌝ }
     ensures { λ _. ⌜ now (parents .exit) ≡ range (length (now (parents .entry))) ⌝ }
 {
@@ -72,4 +114,13 @@ pub fn fill_self(parents: &mut [u16])
         parents[body] = body as u16;
         body += 1;
     }
+}
+
+// Every body alone.
+pub fn reset(parents: &mut [u16], sizes: &mut [u16])
+    requires { ⌜ length (now parents) ≤ 4096 ⌝ }
+    ensures { λ _. ⌜ (now (parents .exit) ≡ range (length (now (parents .entry)))) × (now (sizes .exit) ≡ replicate (length (now (sizes .entry))) 1) ⌝ }
+{
+    fill_self(parents);
+    tables::fill(sizes, 1);
 }

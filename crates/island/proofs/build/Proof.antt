@@ -29,9 +29,12 @@ same-length-2 c = search needs
 same-length-3 : tie.Need-same-length-3
 same-length-3 c = search needs
 
+same-length-4 : tie.Need-same-length-4
+same-length-4 c = search needs
+
 returns : tie.Need-returns
 returns c =
-    let f = c .before .before .before .before .before .before .before .build-with-joints in
+    let f = c .before .before .before .before .before .before .before .before .before .build-with-joints in
     let w = f .ensures .built in
     record {
       built = record {
@@ -39,11 +42,10 @@ returns c =
         count = w .count;
         body-labels = w .body-labels;
         manifold-labels = w .manifold-labels;
-        joint-labels = sym (no-length (f .last .1 .1 .1 .1 .1 .1 .1 .0) (f .kept .1 .1 .1 .1 .1 .1 .1 .0)) ∙ w .joint-labels;
+        joint-labels = sym (no-length (f .last .1 .1 .1 .1 .1 .1 .1 .1 .0) (f .kept .1 .1 .1 .1 .1 .1 .1 .1 .0)) ∙ w .joint-labels;
         parents = w .parents;
-        beyond = w .beyond;
-        alone = w .alone;
-        kept = w .kept;
+        sizes = w .sizes;
+        sets = w .sets;
       };
       refused = f .ensures .refused;
     }
@@ -60,4 +62,5 @@ build-spec =
     same-length
     same-length-2
     same-length-3
+    same-length-4
     returns)

@@ -9,7 +9,7 @@ use Rattle.island.proofs.early_refusal.Statement.{statement}
 use Rattle.island.proofs.early_refusal.Tie as tie
 
 abbrev rooms : tie.Start → Rooms
-rooms s = record { parents = s .args .parents; bodies = s .args .body-islands; manifolds = s .args .manifold-islands; joints = s .args .joint-islands }
+rooms s = record { parents = s .args .parents; sizes = s .args .sizes; bodies = s .args .body-islands; manifolds = s .args .manifold-islands; joints = s .args .joint-islands }
 
 -- questions 3 to 5 got a "yes"
 abbrev start : tie.Else1 → tie.Start

@@ -1,7 +1,7 @@
 -- `island::label_frame` meets its contract: the numbering gives the bodies' labels, and from them come the constraints'.
 use borrow.Author.Needs.{needs}
 use Rattle.frame.specs.Frames.{Frame, frameOf}
-use Rattle.island.proofs.Whole.{together, asks-manifolds, asks-joints, labelled}
+use Rattle.island.proofs.Whole.{numberable, asks-manifolds, asks-joints, labelled}
 use Rattle.island.proofs.label_frame.Statement.{statement}
 use Rattle.island.proofs.label_frame.Tie as tie
 
@@ -12,7 +12,7 @@ number-requires : tie.Need-number-requires
 number-requires c κs =
     let s = c .before .before .before .before .before .before .before .before .before in
     let a = s .args in
-    (record { falls = s .pre .falls; long-parents = s .pre .sized .long-parents; long-bodies = s .pre .sized .long-bodies }, s .pre .sized .few, together (frame s) (a .parents .now) (a .body-islands .now) (a .manifold-islands .now) (a .joint-islands .now) (s .pre))
+    numberable (frame s) (a .parents .now) (a .body-islands .now) (a .manifold-islands .now) (a .joint-islands .now) (s .pre)
 
 slice-aggregate-label-all : tie.Need-slice-aggregate-label-all
 slice-aggregate-label-all c = search needs

@@ -1,7 +1,10 @@
 -- `island::join_dynamic` meets its contract: two bytes are 2 and 2 exactly if they make the number 514; such a pair has one edge, and any other none.
 use borrow.Author.Needs.{needs}
-use mathlib.Core.Path.{_∙_}
-use Rattle.island_sets.specs.Sets.{rootOf}
+use native.Mathlib.Omega.{arith}
+use Prim.Native.Nat.{ℕ}
+use mathlib.Core.Path.{ap, _∙_}
+use lib.ListN.{length}
+use Rattle.island_sets.specs.Sets.{rootOf, hang}
 use Rattle.island_joins.proofs.Joining.{join-off, join-on}
 use Rattle.island_joins.proofs.join_dynamic.Statement.{statement}
 use Rattle.island_joins.proofs.join_dynamic.Tie as tie
@@ -26,25 +29,35 @@ add-types c = search needs
 
 returns : tie.Need-returns
 returns c =
-    let s = c .before .before .before .before .before .before .before in
+    let s = c .before .before .before .before .before .before .before .before in
     let a = s .args in
     let u = c .before .before .before .wide in
     let v = c .before .wide2 in
-    (s .pre .0, join-off (rootOf (a .parents .now)) (a .body-types .now) (a .a) (a .b) (u .result) (v .result) (u .ensures .0) (v .ensures .0) (v .ensures .1) (c .if1 .taken))
+    (s .pre .0, join-off (length (a .body-types .now)) (rootOf (a .parents .now)) (a .body-types .now) (a .a) (a .b) (u .result) (v .result) (u .ensures .0) (v .ensures .0) (v .ensures .1) (c .if1 .taken))
 
 union-requires : tie.Need-union-requires
-union-requires c κs = search needs
+union-requires c κs =
+    let s = c .before .before .before .before .before .before .before .before .before .before in
+    (s .pre .0, omega (arith, s .pre .1, s .pre .2), omega (arith, s .pre .1, s .pre .3))
 
 same-length : tie.Need-same-length
 same-length c = search needs
 
+same-length-2 : tie.Need-same-length-2
+same-length-2 c = search needs
+
 returns-2 : tie.Need-returns-2
 returns-2 c =
-    let a = c .before .before .before .before .before .before .before .before .before .before .before .args in
-    let u = c .before .before .before .before .before .before .before .wide in
-    let v = c .before .before .before .before .before .wide2 in
-    let f = c .before .before .union in
-    (f .ensures .0, f .ensures .1 ∙ join-on (rootOf (a .parents .now)) (a .body-types .now) (a .a) (a .b) (u .result) (v .result) (u .ensures .0) (v .ensures .0) (v .ensures .1) (c .before .before .before .before .if1 .left))
+    let s = c .before .before .before .before .before .before .before .before .before .before .before .before .before .before .before in
+    let a = s .args in
+    let u = c .before .before .before .before .before .before .before .before .before .before .wide in
+    let v = c .before .before .before .before .before .before .before .before .wide2 in
+    let f = c .before .before .before .before .union in
+    let n = length (a .body-types .now) in (
+      f .ensures .0,
+      f .ensures .1 ∙ ap (λ (m : ℕ). hang m (rootOf (a .parents .now)) (a .a) (a .b)) (s .pre .1)
+      ∙ join-on n (rootOf (a .parents .now)) (a .body-types .now) (a .a) (a .b) (u .result) (v .result) (u .ensures .0) (v .ensures .0) (v .ensures .1) (c .before .before .before .before .before .before .before .if1 .left),
+    )
 
 pub join-dynamic-spec : {M : Type 1} → statement M
 join-dynamic-spec =
@@ -59,4 +72,5 @@ join-dynamic-spec =
     returns
     union-requires
     same-length
+    same-length-2
     returns-2)

@@ -13,7 +13,7 @@ use Rattle.island_joins.proofs.join_one.Tie as tie
 
 -- where the constraint is live and sound, its bodies are among the types
 abbrev start : tie.Else2 → tie.Start
-start c = c .before .before .before .before .before .before
+start c = c .before .before .before .before .before .before .before
 
 inside : (c : tie.Else2) → (start c .args .a < length (start c .args .body-types .now)) × (start c .args .b < length (start c .args .body-types .now))
 inside c =
@@ -28,11 +28,11 @@ returns c = record { answer = sym (not-true _ (c .if1 .taken)) ∙ c .before .so
 
 returns-2 : tie.Need-returns-2
 returns-2 c =
-    let s = c .before .before .before .before .before .before in
+    let s = c .before .before .before .before .before .before .before in
     let a = s .args in
     record {
       answer = sym (not-false _ (c .before .if1 .left)) ∙ c .before .before .sound-one .ensures ∙ sym (and-true _);
-      joined = λ e. joined-dead (a .body-types .now) (a .parents .now) (a .body-islands .now) (a .live) (a .a) (a .b) (s .pre .falls) (not-true _ (c .if2 .taken));
+      joined = λ e. joined-dead (a .body-types .now) (a .parents .now) (a .body-islands .now) (a .live) (a .a) (a .b) (a .sizes .now) (s .pre .sets) (not-true _ (c .if2 .taken));
     }
 
 constrain-requires : tie.Need-constrain-requires
@@ -43,8 +43,8 @@ constrain-requires c κs =
 
 join-dynamic-requires : tie.Need-join-dynamic-requires
 join-dynamic-requires c κs =
-    let d = c .before .before .before .before .before in
-    (start d .pre .falls, start d .pre .long-parents, inside d .0, inside d .1)
+    let d = c .before .before .before .before .before .before in
+    (start d .pre .sets, start d .pre .long-parents, inside d .0, inside d .1)
 
 same-length : tie.Need-same-length
 same-length c = search needs
@@ -52,17 +52,20 @@ same-length c = search needs
 same-length-2 : tie.Need-same-length-2
 same-length-2 c = search needs
 
+same-length-3 : tie.Need-same-length-3
+same-length-3 c = search needs
+
 returns-3 : tie.Need-returns-3
 returns-3 c =
-    let d = c .before .before .before .before .before .before .before .before in
+    let d = c .before .before .before .before .before .before .before .before .before .before .before in
     let s = start d in
     let a = s .args in
     let h = inside d in
-    let j = c .before .before .join-dynamic in
-    let m = c .before .before .before .before .before .before .constrain in
+    let j = c .before .before .before .before .join-dynamic in
+    let m = c .before .before .before .before .before .before .before .before .before .constrain in
     record {
       answer = sym (not-false _ (d .before .if1 .left)) ∙ d .before .before .sound-one .ensures ∙ sym (and-true _);
-      joined = λ e. joined-live (a .body-types .now) (a .parents .now) (a .body-islands .now) (a .live) (a .a) (a .b) (j .last .1 .0) (m .last .0) (j .ensures .0) (not-false _ (d .if2 .left))
+      joined = λ e. joined-live (a .body-types .now) (a .parents .now) (a .body-islands .now) (a .live) (a .a) (a .b) (j .last .1 .0) (j .last .1 .1 .0) (m .last .0) (j .ensures .0) (not-false _ (d .if2 .left))
           (subst (λ (n : ℕ). a .a < n) (sym (s .pre .long-bodies)) (h .0)) (subst (λ (n : ℕ). a .b < n) (sym (s .pre .long-bodies)) (h .1)) (j .ensures .1) (m .ensures);
     }
 
@@ -77,4 +80,5 @@ join-one-spec =
     join-dynamic-requires
     same-length
     same-length-2
+    same-length-3
     returns-3)

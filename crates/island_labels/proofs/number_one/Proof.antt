@@ -1,32 +1,42 @@
--- `island::number_one` meets its contract: a body's link does not rise, so its parent has a place in the table.
+-- `island_labels::number_one` meets its contract: the root that the lookup answers has a place in the table.
 use native.Mathlib.Omega.{arith}
 use borrow.Author.Needs.{needs}
-use Prim.Native.Nat.{ℕ, _<_}
-use mathlib.Core.Path.{_≡_, refl, ap}
-use mathlib.Core.List.{List}
-use lib.ListN.{length, getD, set, length-set}
-use Rattle.island_sets.proofs.Roots.{read-le}
+use Prim.Native.Nat.{_<_}
+use lib.Dec.{eqb}
+use lib.ListN.{length, getD, length-set}
+use Rattle.lists.proofs.Bits.{byte-one, one-le}
+use Rattle.island_sets.proofs.Weights.{root-inside}
+use Rattle.island_labels.specs.Labels.{unnumbered}
+use Rattle.island_labels.proofs.Numbering.{stepped}
 use Rattle.island_labels.proofs.number_one.Statement.{statement}
 use Rattle.island_labels.proofs.number_one.Tie as tie
 
--- at the second write: the start, and the labels after the first
-abbrev start : tie.After-slice-known3 → tie.Start
-start c = c .before .before .before .before .before .before
+-- the root is found
+abbrev Looked : Type 0
+Looked = tie.After-slice-known2
 
-abbrev labels : tie.After-slice-known3 → List ℕ
-labels c = set (start c .args .body-islands .now) (start c .args .body) (c .before .before .pick .result)
+abbrev start : Looked → tie.Start
+start c = c .before .before .before .before .before
 
-long : (c : tie.After-slice-known3) → length (labels c) ≡ length (start c .args .body-islands .now)
-long c = length-set (start c .args .body-islands .now) (start c .args .body) (c .before .before .pick .result)
+root-in : (c : Looked) → c .before .before .root-of .result .root < length (start c .args .body-islands .now)
+root-in c =
+    let s = start c in
+    omega (arith, c .before .before .root-of .ensures .root, root-inside (s .args .parents .now) (s .pre .0 .0) (s .pre .0 .1 .weighed) (s .args .body) (s .pre .2), s .pre .1)
 
-parent-in : (c : tie.After-slice-known3) → getD (start c .args .parents .now) (start c .args .body) 0 < length (labels c)
-parent-in c = let s = start c in omega (arith, read-le (s .args .parents .now) (s .pre .0) (s .args .body) (s .pre .2), long c, s .pre .1, s .pre .2)
+cast-root-of : tie.Need-cast-root-of
+cast-root-of c = search needs
 
-mul-leads : tie.Need-mul-leads
-mul-leads c = search needs
+root-of-requires : tie.Need-root-of-requires
+root-of-requires c κs = search needs
 
-slice-read-leads : tie.Need-slice-read-leads
-slice-read-leads c = search needs
+cast-root : tie.Need-cast-root
+cast-root c = search needs
+
+mul-label : tie.Need-mul-label
+mul-label c = search needs
+
+slice-read-label : tie.Need-slice-read-label
+slice-read-label c = root-in c
 
 pick-requires : tie.Need-pick-requires
 pick-requires c κs = search needs
@@ -35,54 +45,49 @@ mul-body-islands : tie.Need-mul-body-islands
 mul-body-islands c = search needs
 
 slice-write-body-islands : tie.Need-slice-write-body-islands
-slice-write-body-islands c = search needs
+slice-write-body-islands c = root-in (c .before)
 
 mul-body-islands-2 : tie.Need-mul-body-islands-2
 mul-body-islands-2 c = search needs
 
-shared-slice-read-body-islands : tie.Need-shared-slice-read-body-islands
-shared-slice-read-body-islands c = search needs
-
-cast-body-islands : tie.Need-cast-body-islands
-cast-body-islands c = omega (arith, c .shared-slice-known2 .given (c .before .before .before .before .before .args .body))
-
-mul-body-islands-3 : tie.Need-mul-body-islands-3
-mul-body-islands-3 c = let s = c .before .before .before .before .before in omega (arith, read-le (s .args .parents .now) (s .pre .0) (s .args .body) (s .pre .2))
-
-slice-read-body-islands : tie.Need-slice-read-body-islands
-slice-read-body-islands c = parent-in c
-
-mul-body-islands-4 : tie.Need-mul-body-islands-4
-mul-body-islands-4 c = search needs
-
 slice-write-body-islands-2 : tie.Need-slice-write-body-islands-2
-slice-write-body-islands-2 c = let s = start c in omega (arith, long c, s .pre .1, s .pre .2)
+slice-write-body-islands-2 c = let s = start (c .before) in omega (arith, length-set (s .args .body-islands .now) (c .before .before .before .root-of .result .root) (c .pick .result), s .pre .1, s .pre .2)
+
+cast-result : tie.Need-cast-result
+cast-result c = search needs
 
 add-result : tie.Need-add-result
-add-result c = search needs
+add-result c =
+    let d = c .before in
+    let t = eqb (getD (start d .args .body-islands .now) (d .before .before .root-of .result .root) 0) unnumbered in
+    omega (arith, byte-one t, one-le t, start d .pre .3)
 
 same-length : tie.Need-same-length
 same-length c = search needs
 
 returns : tie.Need-returns
-returns c = record { count = refl; labels = ap (λ (v : ℕ). set (set (start c .args .body-islands .now) (start c .args .body) v) (start c .args .body) (getD (set (start c .args .body-islands .now) (start c .args .body) v) (getD (start c .args .parents .now) (start c .args .body) 0) 0)) (c .before .before .pick .ensures) }
+returns c =
+    let d = c .before in
+    let a = start d .args in
+    let r = d .before .before .root-of in
+    let t = eqb (getD (a .body-islands .now) (r .result .root) 0) unnumbered in
+    stepped (a .parents .now) (a .body-islands .now) (a .body) (a .count) (r .result .root) (r .ensures .root) (root-in d) (c .pick .result) (c .pick .ensures) _ (omega (arith, byte-one t))
 
 pub number-one-spec : {M : Type 1} → statement M
 number-one-spec =
     tie.close
     (tie.spec
-    mul-leads
-    slice-read-leads
+    cast-root-of
+    root-of-requires
+    cast-root
+    mul-label
+    slice-read-label
     pick-requires
     mul-body-islands
     slice-write-body-islands
     mul-body-islands-2
-    shared-slice-read-body-islands
-    cast-body-islands
-    mul-body-islands-3
-    slice-read-body-islands
-    mul-body-islands-4
     slice-write-body-islands-2
+    cast-result
     add-result
     same-length
     returns)

@@ -1,21 +1,44 @@
--- `island::root_of` meets its contract. Each body on the way has the root of `body`, and no link rises, so the way ends, and it ends where a body is its own parent: at the root.
+-- `island_sets::root_of` meets its contract. Each body on the way has the root of `body`, and each link followed is one less to go, so the way ends, where a body is its own parent.
 use borrow.Author.Needs.{needs}
 use native.Mathlib.Omega.{arith}
-use Prim.Native.Nat.{_≤_}
+use Prim.Native.Nat.{_+_, _<_}
 use mathlib.Core.Path.{_≡_, sym, _∙_}
-use Rattle.island_sets.specs.Sets.{rootOf}
-use Rattle.island_sets.proofs.Roots.{read-le, read-root, read-here}
+use mathlib.Core.Bool.{not}
+use lib.Dec.{eqb}
+use lib.ListN.{length, getD}
+use Rattle.lists.proofs.Bits.{byte-one}
+use Rattle.island_sets.specs.Sets.{rootOf, linksOf}
+use Rattle.island_sets.proofs.Links.{links-le}
+use Rattle.island_sets.proofs.Weights.{bound-told}
+use Rattle.island_sets.proofs.Ways.{read-inside, read-root, read-links, first-link, read-here, read-last}
 use Rattle.island_sets.proofs.root_of.Statement.{statement}
 use Rattle.island_sets.proofs.root_of.Tie as tie
 
 abbrev Inv-loop : tie.InvT-loop
-Inv-loop parents body root₀ root = (root ≤ body) × (rootOf parents root ≡ rootOf parents body)
+Inv-loop parents body root₀ links₀ root links = (root < length parents) × (rootOf parents root ≡ rootOf parents body) × (links + linksOf parents root ≡ linksOf parents body)
 
 abbrev μ-loop : tie.MeasureT-loop
-μ-loop parents body root₀ root = root
+μ-loop parents body root₀ links₀ root links = linksOf parents root
+
+-- the start, seen from inside the loop
+abbrev start : tie.After-shared-slice-known2 Inv-loop μ-loop → tie.Start Inv-loop μ-loop
+start c = c .before .before .before
+
+mul-root : tie.Need-mul-root Inv-loop μ-loop
+mul-root c = search needs
+
+shared-slice-read-root : tie.Need-shared-slice-read-root Inv-loop μ-loop
+shared-slice-read-root c = search needs
+
+cast-links : tie.Need-cast-links Inv-loop μ-loop
+cast-links c = search needs
 
 loop-holds : tie.Need-loop-holds Inv-loop μ-loop
-loop-holds c = search needs
+loop-holds c =
+    let s = c .before in
+    let p = s .args .parents .now in
+    let b = s .args .body in
+    (read-inside p (s .pre .0) b (s .pre .1), read-root p (s .pre .0) b (s .pre .1), omega (arith, byte-one (not (eqb (getD p b 0) b)), first-link p (s .pre .0) b (s .pre .1)))
 
 cast-parent : tie.Need-cast-parent Inv-loop μ-loop
 cast-parent c = search needs
@@ -26,23 +49,41 @@ mul-parent c = search needs
 shared-slice-read-parent : tie.Need-shared-slice-read-parent Inv-loop μ-loop
 shared-slice-read-parent c = search needs
 
+add-links : tie.Need-add-links Inv-loop μ-loop
+add-links c =
+    let s = start (c .before) in
+    let p = s .args .parents .now in
+    let l = c .before .before .loop in
+    omega (arith, l .inv .2, links-le p (s .args .body), s .pre .0 .1 .few)
+
 loop-less : tie.Need-loop-less Inv-loop μ-loop
 loop-less c =
-    let s = c .before .before .before in
-    let r = c .before .before .loop .root in
-    omega (arith, read-le (s .args .parents .now) (s .pre .0) r (omega arith), c .if1 .left)
+    let s = start (c .before) in
+    let p = s .args .parents .now in
+    let l = c .before .before .loop in
+    omega (arith, read-links p (s .pre .0) (l .root) (l .inv .0) (c .if1 .left))
 
 loop-again : tie.Need-loop-again Inv-loop μ-loop
 loop-again c =
-    let s = c .before .before .before in
+    let s = start (c .before) in
     let p = s .args .parents .now in
-    let l = c .before .before .loop in
-    (omega (arith, read-le p (s .pre .0) (l .root) (omega arith)), read-root p (s .pre .0) (l .root) (omega arith) ∙ l .inv .1)
+    let l = c .before .before .loop in (
+      read-inside p (s .pre .0) (l .root) (l .inv .0),
+      read-root p (s .pre .0) (l .root) (l .inv .0) ∙ l .inv .1,
+      omega (arith, l .inv .2, read-links p (s .pre .0) (l .root) (l .inv .0) (c .if1 .left)),
+    )
 
 returns : tie.Need-returns Inv-loop μ-loop
 returns c =
+    let s = start (c .before) in
+    let p = s .args .parents .now in
     let l = c .before .before .loop in
-    sym (read-here (c .before .before .before .args .parents .now) (l .root) (omega arith) (c .if1 .taken)) ∙ l .inv .1
+    let e : l .links ≡ linksOf p (s .args .body) = omega (arith, l .inv .2, read-last p (l .root) (l .inv .0) (c .if1 .taken)) in
+    record {
+      root = sym (read-here p (l .root) (l .inv .0) (c .if1 .taken)) ∙ l .inv .1;
+      links = e;
+      bound = bound-told p (s .pre .0) (s .args .body) (l .links) (s .pre .1) e;
+    }
 
 pub root-of-spec : {M : Type 1} → statement M
 root-of-spec =
@@ -50,10 +91,14 @@ root-of-spec =
     (tie.spec
     Inv-loop
     μ-loop
+    mul-root
+    shared-slice-read-root
+    cast-links
     loop-holds
     cast-parent
     mul-parent
     shared-slice-read-parent
+    add-links
     loop-less
     loop-again
     returns)

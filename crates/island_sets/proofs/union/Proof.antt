@@ -1,84 +1,52 @@
--- `island::union` meets its contract. The two finds change no root, and a link from the higher of the two roots to the lower makes their sets one.
-use borrow.Author.Needs.{needs}
+-- `island_sets::union` meets its contract. The two lookups change no root; one root twice is left as it is, and two are joined.
 use native.Mathlib.Omega.{arith}
-use native.Mathlib.Nat.{le-of-lt}
-use Prim.Native.Nat.{ℕ, _<_}
-use mathlib.Core.Path.{_≡_, _∙_}
-use mathlib.Core.List.{List}
-use lib.ListN.{length, length-set}
-use Rattle.island_sets.proofs.Roots.{root-le, united-left, united-right}
+use borrow.Author.Needs.{needs}
+use Rattle.island_sets.proofs.Unions.{ready, joined, alike}
 use Rattle.island_sets.proofs.union.Statement.{statement}
 use Rattle.island_sets.proofs.union.Tie as tie
 
--- the place after both finds, the start, and the links after the second
-abbrev Found : Type 0
-Found = tie.After-slice-known3
-
-abbrev start : Found → tie.Start
-start c = c .before .before .before .before .before .before .before .before .before
-
-abbrev links : Found → List ℕ
-links c = c .before .before .find2 .last .0
-
-left-in : (c : Found) → c .before .before .before .before .before .before .find .result < length (links c)
-left-in c =
-    let f = c .before .before .before .before .before .before .find in
-    let s = start c in
-    omega (arith, f .ensures .0, root-le (s .args .parents .now) (s .pre .0) (s .args .left), f .kept .0, c .before .before .find2 .kept .0, s .pre .1)
-
-right-in : (c : Found) → c .before .before .find2 .result < length (links c)
-right-in c =
-    let f = c .before .before .before .before .before .before .find in
-    let g = c .before .before .find2 in
-    let s = start c in
-    omega (arith, g .ensures .0, root-le (f .last .0) (f .ensures .1) (s .args .right), f .kept .0, g .kept .0, s .pre .2)
-
-long : (c : Found) → length (links c) ≡ length (start c .args .parents .now)
-long c = c .before .before .find2 .kept .0 ∙ c .before .before .before .before .before .before .find .kept .0
-
 find-requires : tie.Need-find-requires
-find-requires c κs = search needs
+find-requires c κs =
+    let s = c .before .before .before in
+    ((s .args .sizes .now, s .pre .0), s .pre .1)
 
 find-requires-2 : tie.Need-find-requires-2
-find-requires-2 c κs = search needs
-
-cast-parents : tie.Need-cast-parents
-cast-parents c = search needs
-
-mul-parents : tie.Need-mul-parents
-mul-parents c = search needs
-
-slice-write-parents : tie.Need-slice-write-parents
-slice-write-parents c = right-in (c .before)
-
-cast-parents-2 : tie.Need-cast-parents-2
-cast-parents-2 c = search needs
-
-mul-parents-2 : tie.Need-mul-parents-2
-mul-parents-2 c = search needs
-
-slice-write-parents-2 : tie.Need-slice-write-parents-2
-slice-write-parents-2 c = left-in (c .before)
+find-requires-2 c κs =
+    let s = c .before .before .before .before .before .before .before in
+    let f = c .before .before .before .find in
+    ((s .args .sizes .now, f .ensures .1 .sets (s .args .sizes .now) (s .pre .0)), omega (arith, f .ensures .1 .long, s .pre .2))
 
 same-length : tie.Need-same-length
-same-length c = simp length-set (long (c .before))
+same-length c = search needs
 
 returns : tie.Need-returns
 returns c =
+    let s = c .before .before .before .before .before .before .before .before .before .before .before in
     let f = c .before .before .before .before .before .before .before .find in
     let g = c .before .before .before .find2 in
-    let s = start (c .before) in
-    united-right (s .args .parents .now) (f .last .0) (g .last .0) (s .args .left) (s .args .right) (f .result) (g .result) (s .pre .0) (g .ensures .1) (f .ensures .2) (g .ensures .2) (f .ensures .0) (g .ensures .0) (le-of-lt (c .if1 .taken)) (right-in (c .before))
+    alike (s .args .parents .now) (f .last .0) (g .last .0) (s .args .sizes .now) (s .args .left) (s .args .right) (f .result .root) (g .result .root) (s .pre .0) (s .pre .1) (s .pre .2) (f .ensures .1) (g .ensures .1) (f .ensures .0 .root) (g .ensures .0 .root) (c .if1 .taken)
+
+join-roots-requires : tie.Need-join-roots-requires
+join-roots-requires c κs =
+    let s = c .before .before .before .before .before .before .before .before .before .before .before .before .before in
+    let f = c .before .before .before .before .before .before .before .before .before .find in
+    let g = c .before .before .before .before .before .find2 in
+    let r = ready (s .args .parents .now) (f .last .0) (g .last .0) (s .args .sizes .now) (s .args .left) (s .args .right) (f .result .root) (g .result .root) (s .pre .0) (s .pre .1) (s .pre .2) (f .ensures .1) (g .ensures .1) (f .ensures .0 .root) (g .ensures .0 .root) in
+    (r .0, r .1, r .2, r .3, r .4, c .before .before .if1 .left)
 
 same-length-2 : tie.Need-same-length-2
-same-length-2 c = simp length-set (long (c .before))
+same-length-2 c = search needs
+
+same-length-3 : tie.Need-same-length-3
+same-length-3 c = search needs
 
 returns-2 : tie.Need-returns-2
 returns-2 c =
-    let f = c .before .before .before .before .before .before .before .find in
-    let g = c .before .before .before .find2 in
-    let s = start (c .before) in
-    united-left (s .args .parents .now) (f .last .0) (g .last .0) (s .args .left) (s .args .right) (f .result) (g .result) (s .pre .0) (g .ensures .1) (f .ensures .2) (g .ensures .2) (f .ensures .0) (g .ensures .0) (c .if1 .left) (left-in (c .before))
+    let s = c .before .before .before .before .before .before .before .before .before .before .before .before .before .before .before .before .before .before in
+    let f = c .before .before .before .before .before .before .before .before .before .before .before .before .before .before .find in
+    let g = c .before .before .before .before .before .before .before .before .before .before .find2 in
+    let j = c .before .before .before .before .join-roots in
+    joined (s .args .parents .now) (f .last .0) (g .last .0) (s .args .sizes .now) (s .args .left) (s .args .right) (f .result .root) (g .result .root) (s .pre .0) (s .pre .1) (s .pre .2) (f .ensures .1) (g .ensures .1) (f .ensures .0 .root) (g .ensures .0 .root) (j .last .0) (j .last .1 .0) (j .ensures)
 
 pub union-spec : {M : Type 1} → statement M
 union-spec =
@@ -86,13 +54,9 @@ union-spec =
     (tie.spec
     find-requires
     find-requires-2
-    cast-parents
-    mul-parents
-    slice-write-parents
-    cast-parents-2
-    mul-parents-2
-    slice-write-parents-2
     same-length
     returns
+    join-roots-requires
     same-length-2
+    same-length-3
     returns-2)
