@@ -15,7 +15,7 @@ use Rattle.generator.specs.Calls.{Made}
 use Rattle.generator.specs.Lifts.{Lift}
 use Rattle.generator.proofs.Lifts.{lift-made, states-from-0}
 use Rattle.connected_sets.specs.Islands.{Connected, lowest, inIsland, islandCount, bodyLabel, label}
-use Rattle.island.specs.Calls.{Built}
+use Rattle.island.specs.Calls.{IslandTables, Built}
 use Rattle.connected_sets.proofs.Theorem.{connected-label, label-connected, lowest-in, lowest-least, label-rises, body-below, label-each}
 use Rattle.groups.specs.Groups.{Plan, flagged, free, usedBy, colorsOf}
 use Rattle.groups.proofs.Colors.{colors-snoc, free-new, free-least, proper}
@@ -100,7 +100,7 @@ pub constraint-label : (f : Frame) (c : Constraint) (b : ℕ) → List·Memᴰ c
 constraint-label = label-each
 
 -- After an accepted islands call, whatever its tables held before, the answer and the labels in the tables give these islands.
-pub islands-in-tables : (f : Frame) (p₀ b₀ m₀ j₀ p b m j : List ℕ) (number islands : ℕ) → Built f 0 p₀ b₀ m₀ j₀ p b m j number islands → IslandsRead f m j islands
+pub islands-in-tables : (f : Frame) (t u : IslandTables) (number islands : ℕ) → Built f 0 t u number islands → IslandsRead f (u .manifold-islands) (u .joint-islands) islands
 islands-in-tables = islands-read
 
 -- ---- colors

@@ -8,15 +8,15 @@ use lib.ListN.{length, take, drop}
 use lib.Seq.{length-take-le}
 use Rattle.frame.specs.Frames.{frameOf, constraints, allSound, degreeMax}
 use Rattle.frame.proofs.Whole.{rest-part}
-use Rattle.island.specs.Calls.{Rooms, islandRefusal, Built}
+use Rattle.island.specs.Calls.{IslandTables, Rooms, islandRefusal, Built}
 use Rattle.island_numbers.specs.Numbers.{Sortable}
 use Rattle.frame_parts.specs.Parts.{Countable}
 
 -- ---- islands, from a table of both
 
-pub built-by : (ts ms js js′ es p₀ b₀ m₀ j₀ p b m j : List ℕ) (r : Rooms) (k n : ℕ) → js ≡ js′
-    → Built (frameOf ts ms js es) (islandRefusal ts ms js es r) p₀ b₀ m₀ j₀ p b m j k n → Built (frameOf ts ms js′ es) (islandRefusal ts ms js′ es r) p₀ b₀ m₀ j₀ p b m j k n
-built-by ts ms js js′ es p₀ b₀ m₀ j₀ p b m j r k n e h = rw e at h
+pub built-by : (ts ms js js′ es : List ℕ) (t u : IslandTables) (r : Rooms) (k n : ℕ) → js ≡ js′
+    → Built (frameOf ts ms js es) (islandRefusal ts ms js es r) t u k n → Built (frameOf ts ms js′ es) (islandRefusal ts ms js′ es r) t u k n
+built-by ts ms js js′ es t u r k n e h = rw e at h
 
 -- ---- D and the sort, on parts of tables
 

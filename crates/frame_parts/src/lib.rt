@@ -8,7 +8,7 @@ ghost use mathlib.Core.List.{_++_};
 ghost use lib.Dec.{eqb};
 ghost use lib.ListN.{length, take, drop};
 ghost use Rattle.frame.specs.Frames.{frameOf, degreeMax};
-ghost use Rattle.island.specs.Calls.{islandRefusal, Built};
+ghost use Rattle.island.specs.Calls.{islandTablesOf, roomsOf, islandRefusal, Built};
 ghost use Rattle.island.specs.Answers.{answerNumber, answerIslands};
 ghost use Rattle.island_numbers.specs.Numbers.{byIsland, Labels, Sortable};
 ghost use Rattle.frame_parts.specs.Parts.{Countable};
@@ -20,15 +20,17 @@ pub fn build(
     manifolds: usize,
     enabled: &[u8],
     parents: &mut [u16],
+    sizes: &mut [u16],
     body_islands: &mut [u16],
     manifold_islands: &mut [u16],
     joint_islands: &mut [u16],
 ) -> Answer
     requires { ⌜ 2 * manifolds ≤ length (now pairs) ⌝ }
     ensures { λ r. ⌜ Built (frameOf (now (types .entry)) (take (2 * manifolds) (now (pairs .entry))) (drop (2 * manifolds) (now (pairs .entry))) (now (enabled .entry)))
-        (islandRefusal (now (types .entry)) (take (2 * manifolds) (now (pairs .entry))) (drop (2 * manifolds) (now (pairs .entry))) (now (enabled .entry)) (record { parents = length (now (parents .entry)); bodies = length (now («body_islands» .entry)); manifolds = length (now («manifold_islands» .entry)); joints = length (now («joint_islands» .entry)) }))
-        (now (parents .entry)) (now («body_islands» .entry)) (now («manifold_islands» .entry)) (now («joint_islands» .entry))
-        (now (parents .exit)) (now («body_islands» .exit)) (now («manifold_islands» .exit)) (now («joint_islands» .exit))
+        (islandRefusal (now (types .entry)) (take (2 * manifolds) (now (pairs .entry))) (drop (2 * manifolds) (now (pairs .entry))) (now (enabled .entry))
+        (roomsOf (islandTablesOf (now (parents .entry)) (now (sizes .entry)) (now («body_islands» .entry)) (now («manifold_islands» .entry)) (now («joint_islands» .entry)))))
+        (islandTablesOf (now (parents .entry)) (now (sizes .entry)) (now («body_islands» .entry)) (now («manifold_islands» .entry)) (now («joint_islands» .entry)))
+        (islandTablesOf (now (parents .exit)) (now (sizes .exit)) (now («body_islands» .exit)) (now («manifold_islands» .exit)) (now («joint_islands» .exit)))
         (answerNumber r) (answerIslands r) ⌝ }
 {
     let n = 2 * manifolds;
@@ -38,6 +40,7 @@ pub fn build(
         &pairs[n..],
         enabled,
         parents,
+        sizes,
         body_islands,
         manifold_islands,
         joint_islands,

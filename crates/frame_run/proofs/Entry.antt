@@ -7,15 +7,13 @@ use mathlib.Core.List.{List, [], _∷_}
 use native.Mathlib.Omega.{arith}
 use lib.Dec.{leb, eqb}
 use lib.ListN.{length}
-use borrow.Author.Tests.{leb-true, eqb-true, ne-eqb}
+use borrow.Author.Tests.{leb-true, ne-eqb}
 use Rattle.lists.specs.Basics.{all}
 use Rattle.lists.proofs.Laws.{by-cases, and-left, and-right}
 use Rattle.frame.specs.Frames.{allSound}
 use Rattle.frame.specs.Questions.{Question, asked}
 use Rattle.frame.specs.Files.{countB, countM, countJ, decode, fileQuestions}
-use Rattle.frame.specs.declared.Reading.{Reading}
-use Rattle.frame.specs.Answers.{readSizes, sizesOf, Read}
-use Rattle.island.specs.Calls.{labelsAfter, Built}
+use Rattle.island.specs.Calls.{SetsAfter, labelsAfter, Built}
 use Rattle.plan_questions.specs.Plans as plans
 use Rattle.plan_questions.proofs.Rooms.{Fitted, fitted, fitted-all}
 use Rattle.schedules.specs.Runs.{refused, runOf}
@@ -26,7 +24,6 @@ use Rattle.run_answer.specs.declared.Answer.the-variants as answer
 use Rattle.frame_run.specs.Calls.{Lent, roomyFor, roomyIn, refusalIn, Worked, Ran}
 use Rattle.frame_run.specs.Sized.{RoomySized, RanSized}
 use Rattle.frame_run.proofs.Runs.{all-asked}
-use Rattle.frame.proofs.Files.{file-sized}
 use Rattle.frame.proofs.Questions.{passed, zero-cond}
 
 -- ---- refusals 1 to 6
@@ -64,17 +61,19 @@ module _ (bs : List ℕ) (l : Lent) where
     unfolding labelsAfter
     labels-kept new old = rw (e, ne-eqb n 0 nz, ne-eqb n 7 ns)
 
-    islands-kept : Built (decode bs) k (l .parents) (l .body-islands) (l .manifold-islands) (l .joint-islands) (l .parents) (l .body-islands) (l .manifold-islands) (l .joint-islands) n 0
+    untouched : (alone old : List ℕ) → SetsAfter k alone old old
+    untouched alone old = record { beyond = refl; reset = λ z. absurd (ns (sym e ∙ z)); kept = λ a b. refl }
+
+    islands-kept : Built (decode bs) k (l .islands) (l .islands) n 0
     islands-kept = record {
       refusal = sym e;
       count = rw (e, ne-eqb n 0 nz);
       body-labels = labels-kept _ _;
       manifold-labels = labels-kept _ _;
       joint-labels = labels-kept _ _;
-      parents = λ z. absurd (nz (sym e ∙ z));
-      beyond = refl;
-      alone = λ z. absurd (ns (sym e ∙ z));
-      kept = λ a b. refl;
+      parents = untouched _ _;
+      sizes = untouched _ _;
+      sets = λ z. absurd (nz (sym e ∙ z));
     }
 
     -- nothing is changed
@@ -107,38 +106,31 @@ module _ (bs : List ℕ) (l : Lent) where
     }
 
   -- the code's refusal: that of the file, or 6
-  module _ (read n : ℕ) (room : Bool) (file : read ≡ asked (fileQuestions bs)) (roomed : asked (fileQuestions bs) ≡ 0 → room ≡ roomyIn bs l)
-      (first : n ≡ cond (eqb read 0) (cond room 0 6) read) where
+  module _ (n : ℕ) (first : n ≡ cond (eqb (asked (fileQuestions bs)) 0) (cond (roomyIn bs l) 0 6) (asked (fileQuestions bs))) where
     -- where it is 0, questions 1 to 6 are passed
     pub file-passed : n ≡ 0 → asked (fileQuestions bs) ≡ 0
-    file-passed z = sym file ∙ zero-cond read (cond room 0 6) (sym first ∙ z) .0
+    file-passed z = zero-cond (asked (fileQuestions bs)) (cond (roomyIn bs l) 0 6) (sym first ∙ z) .0
 
     pub room-passed : n ≡ 0 → roomyIn bs l ≡ true
-    room-passed z = sym (roomed (file-passed z)) ∙ passed room 0 5 (zero-cond read (cond room 0 6) (sym first ∙ z) .1) .0
+    room-passed z = passed (roomyIn bs l) 0 5 (zero-cond (asked (fileQuestions bs)) (cond (roomyIn bs l) 0 6) (sym first ∙ z) .1) .0
 
     -- otherwise it is the run's
-    roomless : (n ≡ 0 → ⊥) → eqb read 0 ≡ true → n ≡ 6
-    roomless nz t = by-cases room
+    roomless : (n ≡ 0 → ⊥) → eqb (asked (fileQuestions bs)) 0 ≡ true → (roomyIn bs l ≡ false) × (n ≡ 6)
+    roomless nz t = by-cases (roomyIn bs l)
         (λ s. absurd (nz (first ∙ rw (t, s))))
-        (λ s. first ∙ rw (t, s))
+        (λ s. (s, first ∙ rw (t, s)))
 
-    unreadable : eqb read 0 ≡ false → n ≡ asked (fileQuestions bs)
-    unreadable t = let y : n ≡ read = first ∙ rw t in y ∙ file
+    unreadable : eqb (asked (fileQuestions bs)) 0 ≡ false → n ≡ asked (fileQuestions bs)
+    unreadable t = first ∙ rw t
 
     refusal-is : (n ≡ 0 → ⊥) → k ≡ n
-    refusal-is nz = by-cases (eqb read 0)
-        (λ t.
-        let q : asked (fileQuestions bs) ≡ 0 = sym file ∙ eqb-true read 0 t in
-        let six = roomless nz t in
-        let no : roomyIn bs l ≡ false = by-cases (roomyIn bs l) (λ s. absurd (nz (first ∙ rw (t, roomed q ∙ s)))) (λ s. s) in
-        all-asked bs (roomyIn bs l) ∙ rw (q, no) (sym six))
-        (λ t.
-        let y = unreadable t in
-        all-asked bs (roomyIn bs l) ∙ rw (ne-eqb (asked (fileQuestions bs)) 0 (λ z. nz (y ∙ z))) (sym y))
+    refusal-is nz = by-cases (eqb (asked (fileQuestions bs)) 0)
+        (λ t. let six = roomless nz t in all-asked bs (roomyIn bs l) ∙ rw (t, six .0) (sym (six .1)))
+        (λ t. all-asked bs (roomyIn bs l) ∙ rw t (sym (unreadable t)))
 
     not-seven : (n ≡ 0 → ⊥) → n ≡ 7 → ⊥
-    not-seven nz s = by-cases (eqb read 0)
-        (λ t. omega (arith, s, roomless nz t))
+    not-seven nz s = by-cases (eqb (asked (fileQuestions bs)) 0)
+        (λ t. omega (arith, s, roomless nz t .1))
         (λ t. omega (arith, s, unreadable t, asked-most 5 (fileQuestions bs) refl))
 
     pub stopped : (n ≡ 0 → ⊥) → Ran bs l l (answer.Refused n)
@@ -153,7 +145,8 @@ module _ (bs : List ℕ) (l : Lent) where
     -- the lengths that question 6 wants, but for the plan's tables
     abbrev pub wanted : List (ℕ × ℕ)
     wanted =
-        (countB bs, length (l .parents)) ∷ (countB bs, length (l .body-islands)) ∷ (countM bs, length (l .manifold-islands)) ∷ (countJ bs, length (l .joint-islands))
+        (countB bs, length (l .islands .parents)) ∷ (countB bs, length (l .islands .sizes)) ∷ (countB bs, length (l .islands .body-islands))
+        ∷ (countM bs, length (l .islands .manifold-islands)) ∷ (countJ bs, length (l .islands .joint-islands))
         ∷ (3 * (countM bs + countJ bs), length (l .turns)) ∷ (countB bs, length (l .types)) ∷ (countB bs, length (l .flags))
         ∷ (2 * (countM bs + countJ bs), length (l .pairs)) ∷ (2 * (countM bs + countJ bs), length (l .island-pairs)) ∷ (countJ bs, length (l .enabled)) ∷ (countM bs + countJ bs, length (l .numbers)) ∷ []
 
@@ -165,16 +158,13 @@ module _ (bs : List ℕ) (l : Lent) where
     unfolding roomyIn roomyFor
     plan-fits = and-right (fitted true wanted) (plans.roomy (countB bs) (countM bs + countJ bs) (l .plan)) r
 
-    pub spacious : (ns : List ℕ) → length ns ≡ countM bs + countJ bs → RoomySized bs (l .parents) (l .body-islands) (l .manifold-islands) (l .joint-islands) (l .turns) (l .island-pairs) ns (l .plan)
+    pub spacious : (ns : List ℕ) → length ns ≡ countM bs + countJ bs → RoomySized bs (l .islands) (l .turns) (l .island-pairs) ns (l .plan)
     spacious ns e =
         let w = wanted-fit in
         record {
-          parents = w .0;
-          body-islands = w .1 .0;
-          manifold-islands = w .1 .1 .0;
-          joint-islands = w .1 .1 .1 .0;
-          turns = w .1 .1 .1 .1 .0;
-          island-pairs = w .1 .1 .1 .1 .1 .1 .1 .1 .0;
+          islands = record { parents = w .0; sizes = w .1 .0; body-islands = w .1 .1 .0; manifold-islands = w .1 .1 .1 .0; joint-islands = w .1 .1 .1 .1 .0 };
+          turns = w .1 .1 .1 .1 .1 .0;
+          island-pairs = w .1 .1 .1 .1 .1 .1 .1 .1 .1 .0;
           numbers = e;
           tables = plan-fits;
         }
@@ -189,7 +179,7 @@ module _ (bs : List ℕ) (l : Lent) where
     worked : (x y : List ℕ) → length y ≡ length x → Worked k x y
     worked x y e = record { kept = λ a b. absurd (seven-or-none a b); long = e }
 
-    pub sized-ran : (m : Lent) (a : Answer) → RanSized bs (l .parents) (l .body-islands) (l .manifold-islands) (l .joint-islands) (l .turns) (m .parents) (m .body-islands) (m .manifold-islands) (m .joint-islands) (m .turns) a → Worn l m → Ran bs l m a
+    pub sized-ran : (m : Lent) (a : Answer) → RanSized bs (l .islands) (l .turns) (m .islands) (m .turns) a → Worn l m → Ran bs l m a
     sized-ran m a h s = record {
       refusal = h .refusal ∙ sym seven-left;
       refused = rw seven-left (h .refused);
@@ -216,30 +206,3 @@ module _ (bs : List ℕ) (l : Lent) where
       color-bodies = worked _ _ (s .plan .color-bodies);
       constraint-body-positions = worked _ _ (s .plan .constraint-body-positions);
     }
-
--- ---- sizes and room, as the code finds them
-
-module _ (bs : List ℕ) (reading : Reading) (h : Read bs reading) where
-  -- no size is above 4,096, read or refused
-  pub few-constraints : (readSizes reading .manifolds ≤ 4096) × (readSizes reading .joints ≤ 4096)
-  few-constraints = rw (h .sizes) (by-cases (eqb (asked (fileQuestions bs)) 0)
-      (λ t.
-      let s = file-sized bs (eqb-true _ 0 t) in
-      rw t (s .manifolds, s .joints))
-      (λ t. rw t (omega arith, omega arith)))
-
-  module _ (q : asked (fileQuestions bs) ≡ 0) where
-    pub sizes-read : readSizes reading ≡ sizesOf bs
-    sizes-read = h .sizes ∙ rw q
-
-    -- question 6 of the sizes that were read
-    pub room-read : (l : Lent) (b m j : ℕ) (plan room : Bool) → b ≡ readSizes reading .bodies → m ≡ readSizes reading .manifolds → j ≡ readSizes reading .joints
-        → plan ≡ plans.roomy b (m + j) (l .plan)
-        → room ≡ (leb b (length (l .parents)) && leb b (length (l .body-islands)) && leb m (length (l .manifold-islands)) && leb j (length (l .joint-islands))
-        && leb (3 * (m + j)) (length (l .turns)) && leb b (length (l .types)) && leb b (length (l .flags))
-        && leb (2 * (m + j)) (length (l .pairs)) && leb (2 * (m + j)) (length (l .island-pairs)) && leb j (length (l .enabled)) && leb (m + j) (length (l .numbers)) && plan)
-        → room ≡ roomyIn bs l
-    unfolding roomyIn roomyFor
-    room-read l b m j plan room eb em ej ep er =
-        let s = sizes-read in
-        er ∙ rw (ep, eb, em, ej, s)

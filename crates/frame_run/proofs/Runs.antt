@@ -16,6 +16,7 @@ use Rattle.frame.specs.Questions.{question, asked, typesKnown, bits}
 use Rattle.frame.specs.Files.{countB, countM, countJ, jointsAt, typesIn, enabledIn, decode, fileQuestions}
 use Rattle.frame.proofs.Questions.{asked-append}
 use Rattle.connected_sets.specs.Islands.{islandCount, label}
+use Rattle.island.specs.Calls.{IslandTables}
 use Rattle.island.proofs.Built.{built-as}
 use Rattle.groups.specs.Groups.{members}
 use Rattle.plan_questions.specs.Plans.{Tables, roomy, updateRefusal}
@@ -39,14 +40,11 @@ use Rattle.frame_run.proofs.Frames.{turns-long, pairs-twice, calls-are,
 use Rattle.frame.proofs.Files.{file-sized, file-known}
 
 -- the room that filling the tables needs
-pub roomy-of : (bs pa bi mi ji ts ip ns : List ℕ) (t : Tables) → RoomySized bs pa bi mi ji ts ip ns t → Roomy bs pa bi mi ji ns (t .constraint-colors) (t .scratch-offsets) (t .color-offsets) (t .body-stamps)
-roomy-of bs pa bi mi ji ts ip ns t h =
+pub roomy-of : (bs : List ℕ) (is : IslandTables) (ts ip ns : List ℕ) (t : Tables) → RoomySized bs is ts ip ns t → Roomy bs is ns (t .constraint-colors) (t .scratch-offsets) (t .color-offsets) (t .body-stamps)
+roomy-of bs is ts ip ns t h =
     let w = fitted-roomy (countB bs) (countM bs + countJ bs) t (h .tables) in
     record {
-      parents = h .parents;
-      body-islands = h .body-islands;
-      manifold-islands = h .manifold-islands;
-      joint-islands = h .joint-islands;
+      islands = h .islands;
       numbers = h .numbers;
       keys = w .1 .1 .1 .1 .1 .1 .0;
       scratch = w .1 .1 .1 .1 .1 .0;
@@ -67,12 +65,18 @@ module _ (bs : List ℕ) (e : asked (fileQuestions bs) ≡ 0) where
   run-refusal : runRefusal bs true ≡ soundRefusal bs
   run-refusal = all-asked bs true ∙ rw e
 
-  module _ (ts fs ps es pa bi mi ji pa′ bi′ mi′ ji′ ns : List ℕ) (r : Filling) (h : Fills bs ts fs ps es pa bi mi ji pa′ bi′ mi′ ji′ ns r) where
+  module _ (ts fs ps es : List ℕ) (is is′ : IslandTables) (ns : List ℕ) (r : Filling) (h : Fills bs ts fs ps es is is′ ns r) where
+    abbrev mi : List ℕ
+    mi = is′ .manifold-islands
+
+    abbrev ji : List ℕ
+    ji = is′ .joint-islands
+
     abbrev labels : List ℕ
-    labels = labelsIn bs mi′ ji′
+    labels = labelsIn bs mi ji
 
     sound-labels : allSound f ≡ true → labels ≡ map (label f) (constraints f)
-    sound-labels t = labels-are bs e pa bi mi ji pa′ bi′ mi′ ji′ (r .refusal) (r .islands) (h .islands) ∙ rw t
+    sound-labels t = labels-are bs e is is′ (r .refusal) (r .islands) (h .islands) ∙ rw t
 
     sound-islands : allSound f ≡ true → r .islands ≡ islandCount f
     unfolding soundRefusal
@@ -99,25 +103,25 @@ module _ (bs : List ℕ) (e : asked (fileQuestions bs) ≡ 0) where
         (λ t. rw (h .decoded .flags, h .decoded .pairs, sound-labels t) (updates-accepted bs e (file-accepted bs e t) i (omega (arith, sound-islands t))))
         (λ t. absurd (omega (arith, no-islands t)))
 
-    labels-long : countM bs ≤ length mi′ → countJ bs ≤ length ji′ → length labels ≡ countM bs + countJ bs
-    labels-long a b = length-paste-head mi′ (countM bs) ji′ (countJ bs) a b
+    labels-long : countM bs ≤ length mi → countJ bs ≤ length ji → length labels ≡ countM bs + countJ bs
+    labels-long a b = length-paste-head mi (countM bs) ji (countJ bs) a b
 
     -- the tables of labels, cut as the code cuts them
-    fronts : (m : ℕ) → m ≡ countM bs → take m mi′ ++ take (length es) ji′ ≡ labels
+    fronts : (m : ℕ) → m ≡ countM bs → take m mi ++ take (length es) ji ≡ labels
     fronts m em = rw (em, ap length (h .decoded .enabled) ∙ enabled-long bs (jointsAt bs) (countJ bs))
 
-    pub joints-inside : countJ bs ≤ length ji′ → length es ≤ length ji′
+    pub joints-inside : countJ bs ≤ length ji → length es ≤ length ji
     joints-inside l = omega (arith, ap length (h .decoded .enabled) ∙ enabled-long bs (jointsAt bs) (countJ bs))
 
     flags-long : length fs ≡ countB bs
     flags-long = ap length (h .decoded .flags) ∙ length-map (typesIn bs) flagOf ∙ types-long bs e
 
-    prepared : (ip : List ℕ) (t u : Tables) → countM bs ≤ length mi′ → countJ bs ≤ length ji′ → 2 * (countM bs + countJ bs) ≤ length ip
+    prepared : (ip : List ℕ) (t u : Tables) → countM bs ≤ length mi → countJ bs ≤ length ji → 2 * (countM bs + countJ bs) ≤ length ip
         → roomy (countB bs) (countM bs + countJ bs) t ≡ true → SameLengths t u → Prepared (r .islands) fs ps labels ns ip u
     prepared ip t u a b i q s =
         let l = labels-long a b in
         record {
-          labels = labels-sortable bs e pa bi mi ji pa′ bi′ mi′ ji′ (r .refusal) (r .islands) (h .islands);
+          labels = labels-sortable bs e is is′ (r .refusal) (r .islands) (h .islands);
           numbers = h .numbers;
           paired = omega (arith, l, ap length (h .decoded .pairs), pairs-twice bs e);
           accepted = all-accepted;
@@ -127,9 +131,9 @@ module _ (bs : List ℕ) (e : asked (fileQuestions bs) ≡ 0) where
 
     module _ (m : ℕ) (em : m ≡ countM bs) where
       abbrev cut : List ℕ
-      cut = take m mi′ ++ take (length es) ji′
+      cut = take m mi ++ take (length es) ji
 
-      pub prepared-cut : (ip : List ℕ) (t u : Tables) → countM bs ≤ length mi′ → countJ bs ≤ length ji′ → 2 * (countM bs + countJ bs) ≤ length ip
+      pub prepared-cut : (ip : List ℕ) (t u : Tables) → countM bs ≤ length mi → countJ bs ≤ length ji → 2 * (countM bs + countJ bs) ≤ length ip
           → roomy (countB bs) (countM bs + countJ bs) t ≡ true → SameLengths t u → Prepared (r .islands) fs ps cut ns ip u
       prepared-cut ip t u a b i q s = rw (fronts m em) (prepared ip t u a b i q s)
 
@@ -143,14 +147,14 @@ module _ (bs : List ℕ) (e : asked (fileQuestions bs) ≡ 0) where
     -- ---- the answer
 
     module _ (m : ℕ) (em : m ≡ countM bs) (tt tt′ : List ℕ) (tally : Tally) (answer : Answer)
-        (added : Appended (addedBy (callsOf ts fs ps (take m mi′ ++ take (length es) ji′) (r .islands))) tt none tt′ tally) (told : AnswerOf r tally answer) where
+        (added : Appended (addedBy (callsOf ts fs ps (take m mi ++ take (length es) ji) (r .islands))) tt none tt′ tally) (told : AnswerOf r tally answer) where
       done : Appended (addedBy (cond (allSound f) (runCalls f) [])) tt none tt′ tally
       done = rw (fronts m em, calls-of) at added
 
       refusal-is : r .refusal ≡ soundRefusal bs
       refusal-is = h .islands .refusal
 
-      sound-ran : allSound f ≡ true → RanSized bs pa bi mi ji tt pa′ bi′ mi′ ji′ tt′ answer
+      sound-ran : allSound f ≡ true → RanSized bs is tt is′ tt′ answer
       unfolding soundRefusal runOf
       sound-ran t =
           let d : Appended (addedBy (runCalls f)) tt none tt′ tally = rw t at done in
@@ -167,7 +171,7 @@ module _ (bs : List ℕ) (e : asked (fileQuestions bs) ≡ 0) where
             islands = built-as (sym (told .refusal)) (sym (ap (λ (x : Report). x .islands) rep)) (h .islands);
           }
 
-      refused-ran : allSound f ≡ false → RanSized bs pa bi mi ji tt pa′ bi′ mi′ ji′ tt′ answer
+      refused-ran : allSound f ≡ false → RanSized bs is tt is′ tt′ answer
       unfolding soundRefusal runOf turnsOf
       refused-ran t =
           let d : Appended (addedBy []) tt none tt′ tally = rw t at done in
@@ -182,5 +186,5 @@ module _ (bs : List ℕ) (e : asked (fileQuestions bs) ≡ 0) where
             islands = built-as (sym (told .refusal)) (no-islands t ∙ sym (ap (λ (x : Report). x .islands) rep)) (h .islands);
           }
 
-      pub ran : RanSized bs pa bi mi ji tt pa′ bi′ mi′ ji′ tt′ answer
+      pub ran : RanSized bs is tt is′ tt′ answer
       ran = by-cases (allSound f) sound-ran refused-ran

@@ -7,7 +7,7 @@ use lib.Dec.{leb, eqb}
 use lib.ListN.{length}
 use Rattle.lists.specs.Basics.{over}
 use Rattle.frame.specs.Files.{countB, countM, countJ, decode}
-use Rattle.island.specs.Calls.{Built}
+use Rattle.island.specs.Calls.{IslandTables, Built}
 use Rattle.plan_questions.specs.Plans as plans
 use Rattle.schedules.specs.Runs.{runRefusal, runOf}
 use Rattle.run_answer.specs.declared.Answer.{Answer}
@@ -18,10 +18,7 @@ use Rattle.run_answer.specs.Answers.{runNumber, runRefused, runReport, reported
 -- the island tables, the turn table, and the workspace: types, flags, the frame's pair entries and one island's, enabled bytes,
 -- constraint numbers, and the plan's thirteen tables
 pub record Lent : Type 0 where
-  pub parents : List ℕ
-  pub body-islands : List ℕ
-  pub manifold-islands : List ℕ
-  pub joint-islands : List ℕ
+  pub islands : IslandTables
   pub turns : List ℕ
   pub types : List ℕ
   pub flags : List ℕ
@@ -32,12 +29,9 @@ pub record Lent : Type 0 where
   pub plan : plans.Tables
 
 -- these tables, in the order in which a run is lent them
-abbrev pub lentOf : List ℕ → List ℕ → List ℕ → List ℕ → List ℕ → List ℕ → List ℕ → List ℕ → List ℕ → List ℕ → List ℕ → plans.Tables → Lent
-lentOf parents body-islands manifold-islands joint-islands turns types flags pairs island-pairs enabled numbers plan = record {
-  parents = parents;
-  body-islands = body-islands;
-  manifold-islands = manifold-islands;
-  joint-islands = joint-islands;
+abbrev pub lentOf : IslandTables → List ℕ → List ℕ → List ℕ → List ℕ → List ℕ → List ℕ → List ℕ → plans.Tables → Lent
+lentOf islands turns types flags pairs island-pairs enabled numbers plan = record {
+  islands = islands;
   turns = turns;
   types = types;
   flags = flags;
@@ -51,7 +45,8 @@ lentOf parents body-islands manifold-islands joint-islands turns types flags pai
 -- question 6, for a frame of b bodies, m manifolds and j joints
 unfoldable pub roomyFor : ℕ → ℕ → ℕ → Lent → Bool
 roomyFor b m j l =
-    leb b (length (l .parents)) && leb b (length (l .body-islands)) && leb m (length (l .manifold-islands)) && leb j (length (l .joint-islands))
+    leb b (length (l .islands .parents)) && leb b (length (l .islands .sizes)) && leb b (length (l .islands .body-islands))
+    && leb m (length (l .islands .manifold-islands)) && leb j (length (l .islands .joint-islands))
     && leb (3 * (m + j)) (length (l .turns)) && leb b (length (l .types)) && leb b (length (l .flags))
     && leb (2 * (m + j)) (length (l .pairs)) && leb (2 * (m + j)) (length (l .island-pairs)) && leb j (length (l .enabled)) && leb (m + j) (length (l .numbers))
     && plans.roomy b (m + j) (l .plan)
@@ -76,7 +71,7 @@ pub record Ran (bs : List ℕ) (l m : Lent) (r : Answer) : Type 0 where
   -- the turns from place 0 on; past them the turn table keeps its content
   pub turns : m .turns ≡ over (runOf bs (roomyIn bs l) .table) (l .turns)
   -- the island tables stand as an islands call leaves them
-  pub islands : Built (decode bs) (refusalIn bs l) (l .parents) (l .body-islands) (l .manifold-islands) (l .joint-islands) (m .parents) (m .body-islands) (m .manifold-islands) (m .joint-islands) (runNumber r) (runReport r .islands)
+  pub islands : Built (decode bs) (refusalIn bs l) (l .islands) (m .islands) (runNumber r) (runReport r .islands)
   pub types : Worked (refusalIn bs l) (l .types) (m .types)
   pub flags : Worked (refusalIn bs l) (l .flags) (m .flags)
   pub pairs : Worked (refusalIn bs l) (l .pairs) (m .pairs)

@@ -1,8 +1,8 @@
 // The frame run: from the bytes of a file to the turns of its constraints. Questions 1 to 6 are asked before anything is written; after
 // that the tables are filled (question 7), and each island in number order is colored and its groups taken.
-use frame::Frame;
 use run_answer::Answer;
 ghost use Rattle.frame.specs.Decodes.{Decodable};
+ghost use Rattle.island.specs.Calls.{islandTablesOf};
 ghost use Rattle.plan_questions.specs.Plans.{tablesOf};
 ghost use Rattle.frame_run.specs.Calls.{lentOf, Ran};
 ghost use Rattle.frame_run.specs.Sized.{RoomySized, RanSized};
@@ -13,6 +13,7 @@ fn run_sized(
     frame: &[u8],
     manifolds: usize,
     parents: &mut [u16],
+    sizes: &mut [u16],
     body_islands: &mut [u16],
     manifold_islands: &mut [u16],
     joint_islands: &mut [u16],
@@ -38,18 +39,21 @@ fn run_sized(
     constraint_body_positions: &mut [u16],
 ) -> Answer
     requires { ⌜ Decodable (now frame) manifolds (now types) (now flags) (now pairs) (now enabled) ⌝ }
-    requires { ⌜ RoomySized (now frame) (now parents) (now «body_islands») (now «manifold_islands») (now «joint_islands») (now turns) (now «island_pairs») (now numbers)
+    requires { ⌜ RoomySized (now frame) (islandTablesOf (now parents) (now sizes) (now «body_islands») (now «manifold_islands») (now «joint_islands»))
+        (now turns) (now «island_pairs») (now numbers)
         (tablesOf (now «dynamic_bodies») (now endpoints) (now «body_offsets»)
         (now «body_constraints») (now «scratch_offsets») (now «constraint_colors»)
         (now «color_stamps») (now «body_stamps») (now «color_offsets»)
         (now «colored_constraints») (now «color_body_offsets») (now «color_bodies») (now «constraint_body_positions»)) ⌝ }
-    ensures { λ r. ⌜ RanSized (now (frame .entry)) (now (parents .entry)) (now («body_islands» .entry)) (now («manifold_islands» .entry)) (now («joint_islands» .entry)) (now (turns .entry))
-        (now (parents .exit)) (now («body_islands» .exit)) (now («manifold_islands» .exit)) (now («joint_islands» .exit)) (now (turns .exit)) r ⌝ }
+    ensures { λ r. ⌜ RanSized (now (frame .entry))
+        (islandTablesOf (now (parents .entry)) (now (sizes .entry)) (now («body_islands» .entry)) (now («manifold_islands» .entry)) (now («joint_islands» .entry))) (now (turns .entry))
+        (islandTablesOf (now (parents .exit)) (now (sizes .exit)) (now («body_islands» .exit)) (now («manifold_islands» .exit)) (now («joint_islands» .exit))) (now (turns .exit)) r ⌝ }
 {
     let filling = frame_tables::fill(
         frame,
         manifolds,
         parents,
+        sizes,
         body_islands,
         manifold_islands,
         joint_islands,
@@ -95,6 +99,7 @@ fn run_sized(
 pub fn run(
     frame: &[u8],
     parents: &mut [u16],
+    sizes: &mut [u16],
     body_islands: &mut [u16],
     manifold_islands: &mut [u16],
     joint_islands: &mut [u16],
@@ -120,14 +125,14 @@ pub fn run(
     constraint_body_positions: &mut [u16],
 ) -> Answer
     ensures { λ r. ⌜ Ran (now (frame .entry))
-        (lentOf (now (parents .entry)) (now («body_islands» .entry)) (now («manifold_islands» .entry)) (now («joint_islands» .entry))
+        (lentOf (islandTablesOf (now (parents .entry)) (now (sizes .entry)) (now («body_islands» .entry)) (now («manifold_islands» .entry)) (now («joint_islands» .entry)))
         (now (turns .entry)) (now (types .entry)) (now (flags .entry)) (now (pairs .entry))
         (now («island_pairs» .entry)) (now (enabled .entry)) (now (numbers .entry))
         (tablesOf (now («dynamic_bodies» .entry)) (now (endpoints .entry)) (now («body_offsets» .entry))
         (now («body_constraints» .entry)) (now («scratch_offsets» .entry)) (now («constraint_colors» .entry))
         (now («color_stamps» .entry)) (now («body_stamps» .entry)) (now («color_offsets» .entry))
         (now («colored_constraints» .entry)) (now («color_body_offsets» .entry)) (now («color_bodies» .entry)) (now («constraint_body_positions» .entry))))
-        (lentOf (now (parents .exit)) (now («body_islands» .exit)) (now («manifold_islands» .exit)) (now («joint_islands» .exit))
+        (lentOf (islandTablesOf (now (parents .exit)) (now (sizes .exit)) (now («body_islands» .exit)) (now («manifold_islands» .exit)) (now («joint_islands» .exit)))
         (now (turns .exit)) (now (types .exit)) (now (flags .exit)) (now (pairs .exit))
         (now («island_pairs» .exit)) (now (enabled .exit)) (now (numbers .exit))
         (tablesOf (now («dynamic_bodies» .exit)) (now (endpoints .exit)) (now («body_offsets» .exit))
@@ -135,15 +140,20 @@ pub fn run(
         (now («color_stamps» .exit)) (now («body_stamps» .exit)) (now («color_offsets» .exit))
         (now («colored_constraints» .exit)) (now («color_body_offsets» .exit)) (now («color_bodies» .exit)) (now («constraint_body_positions» .exit)))) r ⌝ }
 {
-    let reading = Frame::read(frame);
-    let sizes = frame::sizes_of(reading);
-    let bodies = sizes.bodies;
-    let manifolds = sizes.manifolds;
-    let joints = sizes.joints;
-    let constraints = manifolds + joints;
-    let plan = plan_questions::roomy(
-        bodies,
-        constraints,
+    let asked = run_answer::ask(
+        frame,
+        parents.len(),
+        sizes.len(),
+        body_islands.len(),
+        manifold_islands.len(),
+        joint_islands.len(),
+        turns.len(),
+        types.len(),
+        flags.len(),
+        pairs.len(),
+        island_pairs.len(),
+        enabled.len(),
+        numbers.len(),
         dynamic_bodies.len(),
         endpoints.len(),
         body_offsets.len(),
@@ -158,31 +168,18 @@ pub fn run(
         color_bodies.len(),
         constraint_body_positions.len(),
     );
-    let room = run_answer::roomy_for(
-        bodies,
-        manifolds,
-        joints,
-        parents.len(),
-        body_islands.len(),
-        manifold_islands.len(),
-        joint_islands.len(),
-        turns.len(),
-        types.len(),
-        flags.len(),
-        pairs.len(),
-        island_pairs.len(),
-        enabled.len(),
-        numbers.len(),
-        plan,
-    );
-    let refusal = run_answer::first_refusal(frame::refusal_of(reading), room);
-    if refusal != 0 {
-        return Answer::Refused(refusal);
+    if asked.refusal != 0 {
+        return Answer::Refused(asked.refusal);
     }
+    let bodies = asked.bodies;
+    let manifolds = asked.manifolds;
+    let joints = asked.joints;
+    let constraints = manifolds + joints;
     run_sized(
         frame,
         manifolds,
         parents,
+        sizes,
         body_islands,
         manifold_islands,
         joint_islands,

@@ -17,7 +17,7 @@ use Rattle.frame.specs.Files.{countB, countM, countJ, pairsAt, jointsAt, typesI
 use Rattle.frame.proofs.Questions.{asked-append}
 use Rattle.frame.proofs.Files.{Sized, manifolds-count, joints-count, constraint-count, file-sized, file-known}
 use Rattle.connected_sets.specs.Islands.{label}
-use Rattle.island.specs.Calls.{Rooms, islandRefusal, labelsAfter, Built}
+use Rattle.island.specs.Calls.{IslandTables, Rooms, roomsOf, islandRefusal, labelsAfter, Built}
 use Rattle.schedules.proofs.Accepted.{Accepted, accepted}
 use Rattle.island_numbers.specs.Numbers.{Labels, Sortable, byIsland}
 use Rattle.frame.specs.Decodes.{Decoded}
@@ -56,26 +56,26 @@ module _ (bs : List ℕ) (e : asked (fileQuestions bs) ≡ 0) where
 
   -- ---- the labels that an islands call leaves
 
-  module _ (pa bi mi ji pa′ bi′ mi′ ji′ : List ℕ) (k n : ℕ) (built : Built f (soundRefusal bs) pa bi mi ji pa′ bi′ mi′ ji′ k n) where
+  module _ (t u : IslandTables) (k n : ℕ) (built : Built f (soundRefusal bs) t u k n) where
     front-labels : (old new labels : List ℕ) (c : ℕ) → length labels ≡ c → new ≡ labelsAfter (soundRefusal bs) labels old → take c new ≡ cond (allSound f) labels (replicate c none)
     unfolding soundRefusal labelsAfter
     front-labels old new labels c l en = by-cases (allSound f)
-        (λ t. rw t (ap (take c) (rw t at en) ∙ take-at labels (drop (length labels) old) c l))
-        (λ t. rw t (ap (take c) (rw t at en) ∙ ap (λ (x : ℕ). take c (replicate x none ++ drop (length (replicate x none)) old)) l ∙ take-at (replicate c none) (drop (length (replicate c none)) old) c (length-replicate c none)))
+        (λ ok. rw ok (ap (take c) (rw ok at en) ∙ take-at labels (drop (length labels) old) c l))
+        (λ ok. rw ok (ap (take c) (rw ok at en) ∙ ap (λ (x : ℕ). take c (replicate x none ++ drop (length (replicate x none)) old)) l ∙ take-at (replicate c none) (drop (length (replicate c none)) old) c (length-replicate c none)))
 
-    pub labels-are : labelsIn bs mi′ ji′ ≡ cond (allSound f) (map (label f) (constraints f)) (replicate (countM bs + countJ bs) none)
+    pub labels-are : labelsIn bs (u .manifold-islands) (u .joint-islands) ≡ cond (allSound f) (map (label f) (constraints f)) (replicate (countM bs + countJ bs) none)
     labels-are =
-        let a = front-labels mi mi′ (map (label f) (f .manifolds)) (countM bs) (length-map (f .manifolds) (label f) ∙ manifolds-count bs) (built .manifold-labels) in
-        let b = front-labels ji ji′ (map (label f) (f .joints)) (countJ bs) (length-map (f .joints) (label f) ∙ joints-count bs) (built .joint-labels) in
+        let a = front-labels (t .manifold-islands) (u .manifold-islands) (map (label f) (f .manifolds)) (countM bs) (length-map (f .manifolds) (label f) ∙ manifolds-count bs) (built .manifold-labels) in
+        let b = front-labels (t .joint-islands) (u .joint-islands) (map (label f) (f .joints)) (countJ bs) (length-map (f .joints) (label f) ∙ joints-count bs) (built .joint-labels) in
         rw (a, b) (by-cases (allSound f)
-        (λ t. rw t (sym (map-append (label f) (f .manifolds) (f .joints))))
-        (λ t. rw t (replicate-append-replicate (countM bs) (countJ bs) none)))
+        (λ ok. rw ok (sym (map-append (label f) (f .manifolds) (f .joints))))
+        (λ ok. rw ok (replicate-append-replicate (countM bs) (countJ bs) none)))
 
-    pub labels-sortable : Labels n (labelsIn bs mi′ ji′)
+    pub labels-sortable : Labels n (labelsIn bs (u .manifold-islands) (u .joint-islands))
     unfolding soundRefusal
     labels-sortable = rw labels-are (by-cases (allSound f)
-        (λ t. rw (t, rw t at (built .count)) (frame-labels f (file-accepted t)))
-        (λ t. rw (t, rw t at (built .count)) (none-labels (countM bs + countJ bs) (omega (arith, s .manifolds, s .joints)))))
+        (λ ok. rw (ok, rw ok at (built .count)) (frame-labels f (file-accepted ok)))
+        (λ ok. rw (ok, rw ok at (built .count)) (none-labels (countM bs + countJ bs) (omega (arith, s .manifolds, s .joints)))))
 
   -- ---- the frame that stands in the decoded tables
 
@@ -93,9 +93,9 @@ module _ (bs : List ℕ) (e : asked (fileQuestions bs) ≡ 0) where
     pub pairs-inside : 2 * m ≤ length ps
     pairs-inside = omega (arith, ap length (d .pairs), length-append (manifoldsIn bs) (jointsIn bs), pairs-long bs (pairsAt bs) 4 (countM bs), em)
 
-    module _ (pa bi mi ji ns ks ss os cs : List ℕ) (room : Roomy bs pa bi mi ji ns ks ss os cs) where
+    module _ (t : IslandTables) (ns ks ss os cs : List ℕ) (room : Roomy bs t ns ks ss os cs) where
       abbrev rooms : Rooms
-      rooms = record { parents = length pa; bodies = length bi; manifolds = length mi; joints = length ji }
+      rooms = roomsOf t
 
       refusal-is : islandRefusal ts (take (2 * m) ps) (drop (2 * m) ps) es rooms ≡ soundRefusal bs
       unfolding islandRefusal soundRefusal fewEach decode
@@ -114,20 +114,21 @@ module _ (bs : List ℕ) (e : asked (fileQuestions bs) ≡ 0) where
             eq-eqb (length (jointsIn bs) % 2) 0 (omega (arith, lj)),
             eq-eqb (length (enabledIn bs)) (length (jointsIn bs) / 2) (omega (arith, lj, enabled-long bs (jointsAt bs) (countJ bs))),
             file-known bs e,
-            le-leb (length (typesIn bs)) (length pa) (omega (arith, types-long, room .parents)),
-            le-leb (length (typesIn bs)) (length bi) (omega (arith, types-long, room .body-islands)),
-            le-leb (length (manifoldsIn bs) / 2) (length mi) (omega (arith, lm, room .manifold-islands)),
-            le-leb (length (jointsIn bs) / 2) (length ji) (omega (arith, lj, room .joint-islands)),
+            le-leb (length (typesIn bs)) (length (t .parents)) (omega (arith, types-long, room .islands .parents)),
+            le-leb (length (typesIn bs)) (length (t .sizes)) (omega (arith, types-long, room .islands .sizes)),
+            le-leb (length (typesIn bs)) (length (t .body-islands)) (omega (arith, types-long, room .islands .body-islands)),
+            le-leb (length (manifoldsIn bs) / 2) (length (t .manifold-islands)) (omega (arith, lm, room .islands .manifold-islands)),
+            le-leb (length (jointsIn bs) / 2) (length (t .joint-islands)) (omega (arith, lj, room .islands .joint-islands)),
           )
 
-      module _ (pa′ bi′ mi′ ji′ : List ℕ) (k n : ℕ)
-          (h : Built (frameOf ts (take (2 * m) ps) (drop (2 * m) ps) es) (islandRefusal ts (take (2 * m) ps) (drop (2 * m) ps) es rooms) pa bi mi ji pa′ bi′ mi′ ji′ k n) where
-        pub built : Built f (soundRefusal bs) pa bi mi ji pa′ bi′ mi′ ji′ k n
+      module _ (u : IslandTables) (k n : ℕ)
+          (h : Built (frameOf ts (take (2 * m) ps) (drop (2 * m) ps) es) (islandRefusal ts (take (2 * m) ps) (drop (2 * m) ps) es rooms) t u k n) where
+        pub built : Built f (soundRefusal bs) t u k n
         built = rw (frame-is, refusal-is) at h
 
         refusal-sound : k ≡ 0 → allSound f ≡ true
         unfolding soundRefusal
-        refusal-sound z = by-cases (allSound f) (λ t. t) (λ t. absurd (let y : 7 ≡ 0 = sym (rw t at (built .refusal)) ∙ z in omega arith))
+        refusal-sound z = by-cases (allSound f) (λ ok. ok) (λ ok. absurd (let y : 7 ≡ 0 = sym (rw ok at (built .refusal)) ∙ z in omega arith))
 
         pub countable : (c : ℕ) → c ≡ k → Countable c ts ps m es cs
         countable c ec = record {
@@ -140,8 +141,8 @@ module _ (bs : List ℕ) (e : asked (fileQuestions bs) ≡ 0) where
         pub degree-is : (c r : ℕ) → c ≡ k → r ≡ cond (eqb c 0) (degreeMax (frameOf ts (take (2 * m) ps) (drop (2 * m) ps) es)) 0 → r ≡ cond (allSound f) (degreeMax f) 0
         unfolding soundRefusal
         degree-is c r ec er = er ∙ by-cases (allSound f)
-            (λ t. rw (frame-is, ec, rw t at (built .refusal), t))
-            (λ t. rw (ec, rw t at (built .refusal), t))
+            (λ ok. rw (frame-is, ec, rw ok at (built .refusal), ok))
+            (λ ok. rw (ec, rw ok at (built .refusal), ok))
 
         -- ---- the last two steps
 
@@ -149,15 +150,15 @@ module _ (bs : List ℕ) (e : asked (fileQuestions bs) ≡ 0) where
           joints-are : j ≡ countJ bs
           joints-are = ej ∙ ap length (d .enabled) ∙ enabled-long bs (jointsAt bs) (countJ bs)
 
-          fronts : take m mi′ ++ take j ji′ ≡ labelsIn bs mi′ ji′
+          fronts : take m (u .manifold-islands) ++ take j (u .joint-islands) ≡ labelsIn bs (u .manifold-islands) (u .joint-islands)
           fronts = rw (em, joints-are)
 
-          pub sort-ready : length mi′ ≡ length mi → length ji′ ≡ length ji
-              → ((m ≤ length mi′) × (j ≤ length ji′) × (m + j ≤ length ks)) × (Labels i (take m mi′ ++ take j ji′) × Sortable (m + j) (take (m + j) ks) ss os ns)
+          pub sort-ready : length (u .manifold-islands) ≡ length (t .manifold-islands) → length (u .joint-islands) ≡ length (t .joint-islands)
+              → ((m ≤ length (u .manifold-islands)) × (j ≤ length (u .joint-islands)) × (m + j ≤ length ks)) × (Labels i (take m (u .manifold-islands) ++ take j (u .joint-islands)) × Sortable (m + j) (take (m + j) ks) ss os ns)
           sort-ready lm lj = (
-            (omega (arith, lm, em, room .manifold-islands), omega (arith, lj, joints-are, room .joint-islands), omega (arith, em, joints-are, room .keys)),
+            (omega (arith, lm, em, room .islands .manifold-islands), omega (arith, lj, joints-are, room .islands .joint-islands), omega (arith, em, joints-are, room .keys)),
             (
-              rw (fronts, ei) (labels-sortable pa bi mi ji pa′ bi′ mi′ ji′ k n built),
+              rw (fronts, ei) (labels-sortable t u k n built),
               record {
                 keys = length-take-le (m + j) ks (omega (arith, em, joints-are, room .keys));
                 scratch = omega (arith, em, joints-are, room .scratch);
@@ -167,8 +168,8 @@ module _ (bs : List ℕ) (e : asked (fileQuestions bs) ≡ 0) where
             ),
           )
 
-          pub filled : (r : ℕ) (ns′ : List ℕ) → r ≡ cond (eqb c 0) (degreeMax (frameOf ts (take (2 * m) ps) (drop (2 * m) ps) es)) 0 → ns′ ≡ byIsland i (take m mi′ ++ take j ji′)
-              → Fills bs ts fs ps es pa bi mi ji pa′ bi′ mi′ ji′ ns′ (record { refusal = c; islands = i; degree = r })
+          pub filled : (r : ℕ) (ns′ : List ℕ) → r ≡ cond (eqb c 0) (degreeMax (frameOf ts (take (2 * m) ps) (drop (2 * m) ps) es)) 0 → ns′ ≡ byIsland i (take m (u .manifold-islands) ++ take j (u .joint-islands))
+              → Fills bs ts fs ps es t u ns′ (record { refusal = c; islands = i; degree = r })
           filled r ns′ er en = record {
             decoded = d;
             islands = rw (ec, ei) built;

@@ -1,6 +1,7 @@
 // The tables of a frame, internal to the run: the file is decoded, its islands labelled (question 7), D counted, and the constraints'
 // numbers sorted by island.
 ghost use Rattle.frame.specs.Decodes.{Decodable};
+ghost use Rattle.island.specs.Calls.{islandTablesOf};
 ghost use Rattle.frame_tables.specs.Filled.{Roomy, Fills};
 
 // The refusal or 0, the island count, and D; all 0 after a refusal but its number.
@@ -16,6 +17,7 @@ pub fn fill(
     frame: &[u8],
     manifolds: usize,
     parents: &mut [u16],
+    sizes: &mut [u16],
     body_islands: &mut [u16],
     manifold_islands: &mut [u16],
     joint_islands: &mut [u16],
@@ -30,10 +32,10 @@ pub fn fill(
     counts: &mut [u16],
 ) -> Filling
     requires { ⌜ Decodable (now frame) manifolds (now types) (now flags) (now pairs) (now enabled) ⌝ }
-    requires { ⌜ Roomy (now frame) (now parents) (now «body_islands») (now «manifold_islands») (now «joint_islands») (now numbers) (now keys) (now «scratch_offsets») (now offsets) (now counts) ⌝ }
+    requires { ⌜ Roomy (now frame) (islandTablesOf (now parents) (now sizes) (now «body_islands») (now «manifold_islands») (now «joint_islands»)) (now numbers) (now keys) (now «scratch_offsets») (now offsets) (now counts) ⌝ }
     ensures { λ r. ⌜ Fills (now (frame .entry)) (now (types .exit)) (now (flags .exit)) (now (pairs .exit)) (now (enabled .exit))
-        (now (parents .entry)) (now («body_islands» .entry)) (now («manifold_islands» .entry)) (now («joint_islands» .entry))
-        (now (parents .exit)) (now («body_islands» .exit)) (now («manifold_islands» .exit)) (now («joint_islands» .exit)) (now (numbers .exit)) r ⌝ }
+        (islandTablesOf (now (parents .entry)) (now (sizes .entry)) (now («body_islands» .entry)) (now («manifold_islands» .entry)) (now («joint_islands» .entry)))
+        (islandTablesOf (now (parents .exit)) (now (sizes .exit)) (now («body_islands» .exit)) (now («manifold_islands» .exit)) (now («joint_islands» .exit))) (now (numbers .exit)) r ⌝ }
 {
     frame::decode(frame, manifolds, types, flags, pairs, enabled);
     let answer = frame_parts::build(
@@ -42,6 +44,7 @@ pub fn fill(
         manifolds,
         enabled,
         parents,
+        sizes,
         body_islands,
         manifold_islands,
         joint_islands,

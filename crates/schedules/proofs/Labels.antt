@@ -48,4 +48,4 @@ module _ (f : Frame) where
     labelled-is i = filter-ext-in _ _ (numbers f) (λ n k. ap (eqb i) (label-read n (omega (arith, range-high n 0 (length (constraints f)) k))))
 
 pub islands-read : IslandsAreRead
-islands-read f p₀ b₀ m₀ j₀ p b m j number islands h = record { count = h .count; members = labelled-is f m₀ j₀ m j (h .manifold-labels) (h .joint-labels) }
+islands-read f t u number islands h = record { count = h .count; members = labelled-is f (t .manifold-islands) (t .joint-islands) (u .manifold-islands) (u .joint-islands) (h .manifold-labels) (h .joint-labels) }

@@ -8,7 +8,7 @@ use lib.ListN.{length, getD}
 use Rattle.lists.specs.Basics.{filter}
 use Rattle.frame.specs.Frames.{Frame, numbers, none}
 use Rattle.connected_sets.specs.Islands.{islandCount, ofIsland}
-use Rattle.island.specs.Calls.{Built}
+use Rattle.island.specs.Calls.{IslandTables, Built}
 
 -- the label of constraint n: in the manifold labels at n, in the joint labels at n - M
 unfoldable pub labelIn : Frame → List ℕ → List ℕ → ℕ → ℕ
@@ -26,4 +26,4 @@ pub record IslandsRead (f : Frame) (manifold-labels joint-labels : List ℕ) (is
 
 -- after every accepted islands call, whatever its tables held before
 abbrev pub IslandsAreRead : Type 0
-IslandsAreRead = (f : Frame) (p₀ b₀ m₀ j₀ p b m j : List ℕ) (number islands : ℕ) → Built f 0 p₀ b₀ m₀ j₀ p b m j number islands → IslandsRead f m j islands
+IslandsAreRead = (f : Frame) (t u : IslandTables) (number islands : ℕ) → Built f 0 t u number islands → IslandsRead f (u .manifold-islands) (u .joint-islands) islands

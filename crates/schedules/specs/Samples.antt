@@ -31,7 +31,7 @@ refusals b (ps ∷ rest) = takeOf b ps .refusal ∷ refusals (takeOf b ps .after
 abbrev islands : List ℕ → List ℕ → List ℕ → List ℕ → List ℕ
 islands ts ps js es =
     let f = frameOf ts ps js es in
-    let k = islandRefusal ts ps js es (record { parents = length ts; bodies = length ts; manifolds = pairCount ps; joints = pairCount js }) in
+    let k = islandRefusal ts ps js es (record { parents = length ts; sizes = length ts; bodies = length ts; manifolds = pairCount ps; joints = pairCount js }) in
     k ∷ cond (eqb k 0) (islandCount f) 0
     ∷ labelsAfter k (map (bodyLabel f) (bodies f)) (replicate (length ts) 0)
     ++ labelsAfter k (map (label f) (f .manifolds)) (replicate (pairCount ps) 0)

@@ -11,6 +11,7 @@ use Rattle.frame.specs.declared.Frame.{Frame}
 use Rattle.frame.specs.Questions.{asked}
 use Rattle.frame.specs.Files.{countB, countM, countJ, fileQuestions}
 use Rattle.frame.specs.Answers.{readSizes, sizesOf, Read}
+use Rattle.island.specs.Calls.{islandTablesOf}
 use Rattle.plan_questions.specs.Plans.{roomy}
 use Rattle.plan_questions.proofs.Rooms.{Fitted}
 use Rattle.frame_run.specs.Calls.{Lent, roomyIn}
@@ -21,10 +22,7 @@ use Rattle.frame_run.proofs.run.Tie as tie
 -- the tables as they come
 abbrev lent : tie.Start → Lent
 lent s = record {
-  parents = s .args .parents .now;
-  body-islands = s .args .body-islands .now;
-  manifold-islands = s .args .manifold-islands .now;
-  joint-islands = s .args .joint-islands .now;
+  islands = islandTablesOf (s .args .parents .now) (s .args .sizes .now) (s .args .body-islands .now) (s .args .manifold-islands .now) (s .args .joint-islands .now);
   turns = s .args .turns .now;
   types = s .args .types .now;
   flags = s .args .flags .now;
@@ -50,14 +48,14 @@ lent s = record {
 }
 
 -- the place where questions 1 to 6 are answered, seen from the end, and the start from there
-abbrev ended : tie.After-slice-known48 → tie.After-run-sized
-ended c = c .before .before .before .before .before .before .before .before .before .before .before .before .before .before .before .before .before .before .before .before .before .before .before .before .before .before .before .before .before .before .before .before .before .before .before .before .before .before .before .before .before .before .before .before .before .before .before .before
+abbrev ended : tie.After-slice-known50 → tie.After-run-sized
+ended c = c .before .before .before .before .before .before .before .before .before .before .before .before .before .before .before .before .before .before .before .before .before .before .before .before .before .before .before .before .before .before .before .before .before .before .before .before .before .before .before .before .before .before .before .before .before .before .before .before .before .before
 
-abbrev answered : tie.After-slice-known48 → tie.Else1
-answered c = ended c .before .before .before .before .before .before .before .before .before .before .before .before .before .before .before .before .before .before .before .before .before .before .before .before .before
+abbrev answered : tie.After-slice-known50 → tie.Else1
+answered c = ended c .before .before .before .before .before .before .before .before .before .before .before .before .before .before .before .before .before .before .before .before .before .before .before .before .before .before
 
 abbrev start : tie.After-first-refusal → tie.Start
-start w = w .before .before .before .before .before .before .before .before .before .before .before .before .before .before .before .before .before .before .before .before .before .before .before .before .before .before .before .before .before .before .before
+start w = w .before .before .before .before .before .before .before .before .before .before .before .before .before .before .before .before .before .before .before .before .before .before .before .before .before .before .before .before .before .before .before .before
 
 abbrev bytes : tie.After-first-refusal → List ℕ
 bytes w = start w .args .frame .now
@@ -135,72 +133,72 @@ module _ (w : tie.After-first-refusal) (z : w .first-refusal .result ≡ 0) wher
   fits = wanted-fit (bytes w) (lent (start w)) (passed w z) (room w z)
 
   types-inside : sized w .bodies ≤ length (start w .args .types .now)
-  types-inside = omega (arith, fits .1 .1 .1 .1 .1 .0, bodies-are w z)
+  types-inside = omega (arith, fits .1 .1 .1 .1 .1 .1 .0, bodies-are w z)
 
   types-cut : length (take (sized w .bodies) (start w .args .types .now)) ≡ sized w .bodies
   types-cut = length-take-le (sized w .bodies) (start w .args .types .now) types-inside
 
   flags-inside : sized w .bodies ≤ length (start w .args .flags .now)
-  flags-inside = omega (arith, fits .1 .1 .1 .1 .1 .1 .0, bodies-are w z)
+  flags-inside = omega (arith, fits .1 .1 .1 .1 .1 .1 .1 .0, bodies-are w z)
 
   flags-cut : length (take (sized w .bodies) (start w .args .flags .now)) ≡ sized w .bodies
   flags-cut = length-take-le (sized w .bodies) (start w .args .flags .now) flags-inside
 
   pairs-inside : 2 * (sized w .manifolds + sized w .joints) ≤ length (start w .args .pairs .now)
-  pairs-inside = omega (arith, fits .1 .1 .1 .1 .1 .1 .1 .0, manifolds-are w z, joints-are w z)
+  pairs-inside = omega (arith, fits .1 .1 .1 .1 .1 .1 .1 .1 .0, manifolds-are w z, joints-are w z)
 
   pairs-cut : length (take (2 * (sized w .manifolds + sized w .joints)) (start w .args .pairs .now)) ≡ 2 * (sized w .manifolds + sized w .joints)
   pairs-cut = length-take-le (2 * (sized w .manifolds + sized w .joints)) (start w .args .pairs .now) pairs-inside
 
   enabled-inside : sized w .joints ≤ length (start w .args .enabled .now)
-  enabled-inside = omega (arith, fits .1 .1 .1 .1 .1 .1 .1 .1 .1 .0, joints-are w z)
+  enabled-inside = omega (arith, fits .1 .1 .1 .1 .1 .1 .1 .1 .1 .1 .0, joints-are w z)
 
   enabled-cut : length (take (sized w .joints) (start w .args .enabled .now)) ≡ sized w .joints
   enabled-cut = length-take-le (sized w .joints) (start w .args .enabled .now) enabled-inside
 
   numbers-inside : sized w .manifolds + sized w .joints ≤ length (start w .args .numbers .now)
-  numbers-inside = omega (arith, fits .1 .1 .1 .1 .1 .1 .1 .1 .1 .1 .0, manifolds-are w z, joints-are w z)
+  numbers-inside = omega (arith, fits .1 .1 .1 .1 .1 .1 .1 .1 .1 .1 .1 .0, manifolds-are w z, joints-are w z)
 
   numbers-cut : length (take (sized w .manifolds + sized w .joints) (start w .args .numbers .now)) ≡ sized w .manifolds + sized w .joints
   numbers-cut = length-take-le (sized w .manifolds + sized w .joints) (start w .args .numbers .now) numbers-inside
 
 slice-relend-prefix-run-sized : tie.Need-slice-relend-prefix-run-sized
-slice-relend-prefix-run-sized c = let e = c .before .before .before .before .before in types-inside (e .before) (e .if1 .left)
+slice-relend-prefix-run-sized c = let e = c .before .before .before .before .before .before in types-inside (e .before) (e .if1 .left)
 
 slice-aggregate-run-sized : tie.Need-slice-aggregate-run-sized
-slice-aggregate-run-sized c = let e = c .before .before .before .before .before .before in sym (types-cut (e .before) (e .if1 .left))
+slice-aggregate-run-sized c = let e = c .before .before .before .before .before .before .before in sym (types-cut (e .before) (e .if1 .left))
 
 slice-relend-prefix-run-sized-2 : tie.Need-slice-relend-prefix-run-sized-2
-slice-relend-prefix-run-sized-2 c = let e = c .before .before .before .before .before .before in flags-inside (e .before) (e .if1 .left)
+slice-relend-prefix-run-sized-2 c = let e = c .before .before .before .before .before .before .before in flags-inside (e .before) (e .if1 .left)
 
 slice-aggregate-run-sized-2 : tie.Need-slice-aggregate-run-sized-2
-slice-aggregate-run-sized-2 c = let e = c .before .before .before .before .before .before .before in sym (flags-cut (e .before) (e .if1 .left))
+slice-aggregate-run-sized-2 c = let e = c .before .before .before .before .before .before .before .before in sym (flags-cut (e .before) (e .if1 .left))
 
 mul-run-sized : tie.Need-mul-run-sized
-mul-run-sized c = let w = c .before .before .before .before .before .before .before .before in omega (arith, few (w .before .before .before .before) .0, few (w .before .before .before .before) .1)
+mul-run-sized c = let w = c .before .before .before .before .before .before .before .before .before in omega (arith, few (w .before .before .before .before) .0, few (w .before .before .before .before) .1)
 
 slice-relend-prefix-run-sized-3 : tie.Need-slice-relend-prefix-run-sized-3
-slice-relend-prefix-run-sized-3 c = let e = c .before .before .before .before .before .before .before in pairs-inside (e .before) (e .if1 .left)
+slice-relend-prefix-run-sized-3 c = let e = c .before .before .before .before .before .before .before .before in pairs-inside (e .before) (e .if1 .left)
 
 slice-aggregate-run-sized-3 : tie.Need-slice-aggregate-run-sized-3
-slice-aggregate-run-sized-3 c = let e = c .before .before .before .before .before .before .before .before in sym (pairs-cut (e .before) (e .if1 .left))
+slice-aggregate-run-sized-3 c = let e = c .before .before .before .before .before .before .before .before .before in sym (pairs-cut (e .before) (e .if1 .left))
 
 slice-relend-prefix-run-sized-4 : tie.Need-slice-relend-prefix-run-sized-4
-slice-relend-prefix-run-sized-4 c = let e = c .before .before .before .before .before .before .before .before .before in enabled-inside (e .before) (e .if1 .left)
+slice-relend-prefix-run-sized-4 c = let e = c .before .before .before .before .before .before .before .before .before .before in enabled-inside (e .before) (e .if1 .left)
 
 slice-aggregate-run-sized-4 : tie.Need-slice-aggregate-run-sized-4
-slice-aggregate-run-sized-4 c = let e = c .before .before .before .before .before .before .before .before .before .before in sym (enabled-cut (e .before) (e .if1 .left))
+slice-aggregate-run-sized-4 c = let e = c .before .before .before .before .before .before .before .before .before .before .before in sym (enabled-cut (e .before) (e .if1 .left))
 
 slice-relend-prefix-run-sized-5 : tie.Need-slice-relend-prefix-run-sized-5
-slice-relend-prefix-run-sized-5 c = let e = c .before .before .before .before .before .before .before .before .before .before in numbers-inside (e .before) (e .if1 .left)
+slice-relend-prefix-run-sized-5 c = let e = c .before .before .before .before .before .before .before .before .before .before .before in numbers-inside (e .before) (e .if1 .left)
 
 slice-aggregate-run-sized-5 : tie.Need-slice-aggregate-run-sized-5
-slice-aggregate-run-sized-5 c = let e = c .before .before .before .before .before .before .before .before .before .before .before in sym (numbers-cut (e .before) (e .if1 .left))
+slice-aggregate-run-sized-5 c = let e = c .before .before .before .before .before .before .before .before .before .before .before .before in sym (numbers-cut (e .before) (e .if1 .left))
 
 run-sized-requires : tie.Need-run-sized-requires
 run-sized-requires c κs =
-    let w = c .before .before .before .before .before .before .before .before .before .before .before .before .before .before .before .before .before .before .before .before .before .before .before .before .before in
-    let z = c .before .before .before .before .before .before .before .before .before .before .before .before .before .before .before .before .before .before .before .before .before .before .before .before .if1 .left in (
+    let w = c .before .before .before .before .before .before .before .before .before .before .before .before .before .before .before .before .before .before .before .before .before .before .before .before .before .before in
+    let z = c .before .before .before .before .before .before .before .before .before .before .before .before .before .before .before .before .before .before .before .before .before .before .before .before .before .if1 .left in (
       record {
         file = passed w z;
         manifolds = manifolds-are w z;
@@ -228,25 +226,25 @@ same-length-5 : tie.Need-same-length-5
 same-length-5 c = ended c .run-sized .kept .1 .1 .1 .1 .1 .1 .0
 
 same-length-6 : tie.Need-same-length-6
-same-length-6 c = let w = answered c .before in length-front (start w .args .types .now) (ended c .run-sized .last .1 .1 .1 .1 .1 .1 .1 .0) (sized w .bodies) (ended c .run-sized .kept .1 .1 .1 .1 .1 .1 .1 .0)
+same-length-6 c = ended c .run-sized .kept .1 .1 .1 .1 .1 .1 .1 .0
 
 same-length-7 : tie.Need-same-length-7
-same-length-7 c = let w = answered c .before in length-front (start w .args .flags .now) (ended c .run-sized .last .1 .1 .1 .1 .1 .1 .1 .1 .0) (sized w .bodies) (ended c .run-sized .kept .1 .1 .1 .1 .1 .1 .1 .1 .0)
+same-length-7 c = let w = answered c .before in length-front (start w .args .types .now) (ended c .run-sized .last .1 .1 .1 .1 .1 .1 .1 .1 .0) (sized w .bodies) (ended c .run-sized .kept .1 .1 .1 .1 .1 .1 .1 .1 .0)
 
 same-length-8 : tie.Need-same-length-8
-same-length-8 c = let w = answered c .before in length-front (start w .args .pairs .now) (ended c .run-sized .last .1 .1 .1 .1 .1 .1 .1 .1 .1 .0) (2 * (sized w .manifolds + sized w .joints)) (ended c .run-sized .kept .1 .1 .1 .1 .1 .1 .1 .1 .1 .0)
+same-length-8 c = let w = answered c .before in length-front (start w .args .flags .now) (ended c .run-sized .last .1 .1 .1 .1 .1 .1 .1 .1 .1 .0) (sized w .bodies) (ended c .run-sized .kept .1 .1 .1 .1 .1 .1 .1 .1 .1 .0)
 
 same-length-9 : tie.Need-same-length-9
-same-length-9 c = ended c .run-sized .kept .1 .1 .1 .1 .1 .1 .1 .1 .1 .1 .0
+same-length-9 c = let w = answered c .before in length-front (start w .args .pairs .now) (ended c .run-sized .last .1 .1 .1 .1 .1 .1 .1 .1 .1 .1 .0) (2 * (sized w .manifolds + sized w .joints)) (ended c .run-sized .kept .1 .1 .1 .1 .1 .1 .1 .1 .1 .1 .0)
 
 same-length-10 : tie.Need-same-length-10
-same-length-10 c = let w = answered c .before in length-front (start w .args .enabled .now) (ended c .run-sized .last .1 .1 .1 .1 .1 .1 .1 .1 .1 .1 .1 .0) (sized w .joints) (ended c .run-sized .kept .1 .1 .1 .1 .1 .1 .1 .1 .1 .1 .1 .0)
+same-length-10 c = ended c .run-sized .kept .1 .1 .1 .1 .1 .1 .1 .1 .1 .1 .1 .0
 
 same-length-11 : tie.Need-same-length-11
-same-length-11 c = let w = answered c .before in length-front (start w .args .numbers .now) (ended c .run-sized .last .1 .1 .1 .1 .1 .1 .1 .1 .1 .1 .1 .1 .0) (sized w .manifolds + sized w .joints) (ended c .run-sized .kept .1 .1 .1 .1 .1 .1 .1 .1 .1 .1 .1 .1 .0)
+same-length-11 c = let w = answered c .before in length-front (start w .args .enabled .now) (ended c .run-sized .last .1 .1 .1 .1 .1 .1 .1 .1 .1 .1 .1 .1 .0) (sized w .joints) (ended c .run-sized .kept .1 .1 .1 .1 .1 .1 .1 .1 .1 .1 .1 .1 .0)
 
 same-length-12 : tie.Need-same-length-12
-same-length-12 c = ended c .run-sized .kept .1 .1 .1 .1 .1 .1 .1 .1 .1 .1 .1 .1 .1 .0
+same-length-12 c = let w = answered c .before in length-front (start w .args .numbers .now) (ended c .run-sized .last .1 .1 .1 .1 .1 .1 .1 .1 .1 .1 .1 .1 .1 .0) (sized w .manifolds + sized w .joints) (ended c .run-sized .kept .1 .1 .1 .1 .1 .1 .1 .1 .1 .1 .1 .1 .1 .0)
 
 same-length-13 : tie.Need-same-length-13
 same-length-13 c = ended c .run-sized .kept .1 .1 .1 .1 .1 .1 .1 .1 .1 .1 .1 .1 .1 .1 .0
@@ -284,32 +282,35 @@ same-length-23 c = ended c .run-sized .kept .1 .1 .1 .1 .1 .1 .1 .1 .1 .1 .1 .1 
 same-length-24 : tie.Need-same-length-24
 same-length-24 c = ended c .run-sized .kept .1 .1 .1 .1 .1 .1 .1 .1 .1 .1 .1 .1 .1 .1 .1 .1 .1 .1 .1 .1 .1 .1 .1 .1 .1 .0
 
+same-length-25 : tie.Need-same-length-25
+same-length-25 c = ended c .run-sized .kept .1 .1 .1 .1 .1 .1 .1 .1 .1 .1 .1 .1 .1 .1 .1 .1 .1 .1 .1 .1 .1 .1 .1 .1 .1 .1 .0
+
 -- the workspace keeps its lengths
 returns-2 : tie.Need-returns-2
 returns-2 c =
     let w = answered c .before in
     let z = answered c .if1 .left in
     sized-ran (bytes w) (lent (start w)) (passed w z) (room w z) _ _ (ended c .run-sized .ensures) record {
-      types = same-length-6 c;
-      flags = same-length-7 c;
-      pairs = same-length-8 c;
-      island-pairs = same-length-9 c;
-      enabled = same-length-10 c;
-      numbers = same-length-11 c;
+      types = same-length-7 c;
+      flags = same-length-8 c;
+      pairs = same-length-9 c;
+      island-pairs = same-length-10 c;
+      enabled = same-length-11 c;
+      numbers = same-length-12 c;
       plan = record {
-        dynamic-bodies = same-length-12 c;
-        endpoints = same-length-13 c;
-        body-offsets = same-length-14 c;
-        body-constraints = same-length-15 c;
-        scratch-offsets = same-length-16 c;
-        constraint-colors = same-length-17 c;
-        color-stamps = same-length-18 c;
-        body-stamps = same-length-19 c;
-        color-offsets = same-length-20 c;
-        colored-constraints = same-length-21 c;
-        color-body-offsets = same-length-22 c;
-        color-bodies = same-length-23 c;
-        constraint-body-positions = same-length-24 c;
+        dynamic-bodies = same-length-13 c;
+        endpoints = same-length-14 c;
+        body-offsets = same-length-15 c;
+        body-constraints = same-length-16 c;
+        scratch-offsets = same-length-17 c;
+        constraint-colors = same-length-18 c;
+        color-stamps = same-length-19 c;
+        body-stamps = same-length-20 c;
+        color-offsets = same-length-21 c;
+        colored-constraints = same-length-22 c;
+        color-body-offsets = same-length-23 c;
+        color-bodies = same-length-24 c;
+        constraint-body-positions = same-length-25 c;
       };
     }
 
@@ -361,4 +362,5 @@ run-spec =
     same-length-22
     same-length-23
     same-length-24
+    same-length-25
     returns-2)
