@@ -50,8 +50,14 @@ extern "C" {
 /* ---- islands: which bodies are connected by live constraints between dynamic bodies
  *
  * Answers 0, 3, 4, 5, 6 or 7. After 0 a label is an island's number or ENGKARUPI_NONE, and *island_count is how many
- * islands there are; following the parents from a body ends at the lowest body of its set, and no link rises. After 7 all
- * labels are ENGKARUPI_NONE and each parent is itself. After any refusal *island_count is 0.
+ * islands there are. After 7 all labels are ENGKARUPI_NONE, each parent is itself and each size is 1. After any refusal
+ * *island_count is 0. A longer table keeps what stands past the length in its comment.
+ *
+ * Connected bodies are one set; any other body, of whatever type, is a set of its own. After 0, following the parents from a
+ * body ends at the root of its set, and a root's size is its set's number of bodies; the other sizes hold nothing. The root
+ * is found constraint by constraint, manifolds first: where a live one between dynamic bodies joins two sets, the root of the
+ * larger set stays, of equal ones the lower root. So it need not be the lowest body, and a link may rise. 2 to the number of
+ * links from a body to its root is at most the set's number of bodies.
  */
 uint8_t engkarupi_islands(
     const uint8_t *types, size_t types_len,                     /* B */
@@ -59,6 +65,7 @@ uint8_t engkarupi_islands(
     const uint16_t *joints, size_t joints_len,                  /* 2 * J */
     const uint8_t *enabled, size_t enabled_len,                 /* J, each 0 or 1 */
     uint16_t *parents, size_t parents_len,                      /* B */
+    uint16_t *sizes, size_t sizes_len,                          /* B */
     uint16_t *body_islands, size_t body_islands_len,            /* B */
     uint16_t *manifold_islands, size_t manifold_islands_len,    /* M */
     uint16_t *joint_islands, size_t joint_islands_len,          /* J */
@@ -173,6 +180,7 @@ enum {
 /* What a run is lent besides the frame: each table with its length. */
 struct engkarupi_run_tables {
     uint16_t *parents; size_t parents_len;                      /* B */
+    uint16_t *sizes; size_t sizes_len;                          /* B */
     uint16_t *body_islands; size_t body_islands_len;            /* B */
     uint16_t *manifold_islands; size_t manifold_islands_len;    /* M */
     uint16_t *joint_islands; size_t joint_islands_len;          /* J */
@@ -204,9 +212,9 @@ struct engkarupi_run_tables {
  * After 0 the turns stand in the turn table from place 0, three places each, by rising island, then group, then constraint;
  * past them it keeps its content. Turns of one island and one group may be solved at once: no dynamic body is on two of
  * them. So may turns of different islands, but not turns of different groups of one island. The island tables stand as
- * engkarupi_islands leaves them. After 7 the turn table is kept, all labels are ENGKARUPI_NONE and each parent is itself.
- * Refusals 1 to 6 change no table. The tables marked free hold nothing after 0 or 7, and what stands in them before does
- * not matter.
+ * engkarupi_islands leaves them. After 7 the turn table is kept, all labels are ENGKARUPI_NONE, each parent is itself and
+ * each size is 1. Refusals 1 to 6 change no table. The tables marked free hold nothing after 0 or 7, and what stands in them
+ * before does not matter.
  *
  * This is the call as it is linked, with the tables of struct engkarupi_run_tables in their order; engkarupi_run_on takes
  * the struct.
@@ -214,6 +222,7 @@ struct engkarupi_run_tables {
 uint8_t engkarupi_run(
     const uint8_t *frame, size_t frame_len,                     /* the file */
     uint16_t *parents, size_t parents_len,
+    uint16_t *sizes, size_t sizes_len,
     uint16_t *body_islands, size_t body_islands_len,
     uint16_t *manifold_islands, size_t manifold_islands_len,
     uint16_t *joint_islands, size_t joint_islands_len,
@@ -248,6 +257,7 @@ static inline uint8_t engkarupi_run_on(
     return engkarupi_run(
         frame, frame_len,
         t->parents, t->parents_len,
+        t->sizes, t->sizes_len,
         t->body_islands, t->body_islands_len,
         t->manifold_islands, t->manifold_islands_len,
         t->joint_islands, t->joint_islands_len,
@@ -274,11 +284,12 @@ static inline uint8_t engkarupi_run_on(
         report);
 }
 
-/* Memory for the tables of any frame that question 3 lets pass: 425,990 bytes, to be static and not on a stack. What stands
+/* Memory for the tables of any frame that question 3 lets pass: 434,182 bytes, to be static and not on a stack. What stands
  * in it before a run does not matter.
  */
 struct engkarupi_run_memory {
     uint16_t parents[ENGKARUPI_MAX_BODIES];
+    uint16_t sizes[ENGKARUPI_MAX_BODIES];
     uint16_t body_islands[ENGKARUPI_MAX_BODIES];
     uint16_t manifold_islands[ENGKARUPI_MAX_MANIFOLDS];
     uint16_t joint_islands[ENGKARUPI_MAX_JOINTS];
@@ -310,6 +321,7 @@ static inline struct engkarupi_run_tables engkarupi_run_tables_in(struct engkaru
     struct engkarupi_run_tables t;
 #define ENGKARUPI_LEND(name) t.name = memory->name; t.name##_len = sizeof memory->name / sizeof memory->name[0]
     ENGKARUPI_LEND(parents);
+    ENGKARUPI_LEND(sizes);
     ENGKARUPI_LEND(body_islands);
     ENGKARUPI_LEND(manifold_islands);
     ENGKARUPI_LEND(joint_islands);

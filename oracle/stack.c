@@ -100,8 +100,8 @@ static void run(void) {
 
 static void islands(void) {
     CALLER_IS_HERE();
-    refusal = engkarupi_islands(types, B, pairs, 2 * 4095, NULL, 0, NULL, 0, memory.parents, B, memory.body_islands, B,
-                                memory.manifold_islands, M, NULL, 0, &count16);
+    refusal = engkarupi_islands(types, B, pairs, 2 * 4095, NULL, 0, NULL, 0, memory.parents, B, memory.sizes, B,
+                                memory.body_islands, B, memory.manifold_islands, M, NULL, 0, &count16);
 }
 
 static void update(void) {

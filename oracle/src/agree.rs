@@ -1,5 +1,5 @@
 //! Two sides compared, call by call: each call's answer and all that it was lent. Tables are filled with a pattern first and
-//! are a few places too long; what document 01 calls free is only looked at where a call must keep it.
+//! are a few places too long; what the documents call free is only looked at where a call must keep it.
 use crate::calls::*;
 use crate::frames::{self, Random};
 use crate::scope;
@@ -47,17 +47,37 @@ type Session = (Vec<(Answer, usize, bool, usize)>, Vec<u8>, Option<Vec<u16>>);
 /// What the call that makes a lift answered, a refusal or 0 and a length, and the lent bytes after it.
 pub type Lift = ((u8, usize), Vec<u8>);
 
-/// The links followed to their ends; false if a link rises.
-fn follow(parents: &mut [u16]) -> bool {
-    for body in 0..parents.len() {
-        let parent = parents[body] as usize;
-        if parent > body {
-            return false;
+/// What an islands call answered, a refusal or 0 and the count, and its tables after it, settled if it was accepted.
+pub type Laid = ((u8, usize), IslandTables);
+
+/// The root at the end of a body's links, and how many they are; nothing if they leave the table or do not end.
+fn follow(parents: &[u16], body: u16) -> Option<(u16, u32)> {
+    let mut at = body;
+    for links in 0..parents.len() as u32 {
+        let parent = *parents.get(at as usize)?;
+        if parent == at {
+            return Some((at, links));
         }
-        // a lower body already stands at its end
-        parents[body] = parents[parent];
+        at = parent;
     }
-    true
+    None
+}
+
+/// Leaves nothing free in the parents and sizes of an accepted call with so many bodies: a parent becomes the root, the size
+/// of a body that is no root 0. False if the links from a body do not end at a root, if 2 to their number is above the number
+/// of bodies in the set, or if a root's size is not that number.
+fn settle(tables: &mut IslandTables, bodies: usize) -> bool {
+    let (parents, sizes) = (&mut tables.parents[..bodies], &mut tables.sizes[..bodies]);
+    let Some(found) = (0..bodies as u16).map(|body| follow(parents, body)).collect::<Option<Vec<_>>>() else {
+        return false;
+    };
+    let (roots, links): (Vec<u16>, Vec<u32>) = found.into_iter().unzip();
+    let known = scope::sizes(&roots);
+    for (size, _) in sizes.iter_mut().zip(&known).filter(|(_, known)| **known == 0) {
+        *size = 0;
+    }
+    parents.copy_from_slice(&roots);
+    *sizes == known && roots.iter().zip(links).all(|(root, links)| links <= known[*root as usize].ilog2())
 }
 
 /// What each update must give by equation: all but the free tables.
@@ -103,25 +123,25 @@ impl<'a, L: Calls, R: Calls> Agree<'a, L, R> {
 
     // ---- islands
 
-    pub fn islands(&mut self, frame: &Frame, tables: &IslandTables) {
+    /// Islands on copies of these tables; answers what each side made of them.
+    pub fn islands(&mut self, frame: &Frame, tables: &IslandTables) -> [Laid; 2] {
         let (mut l, mut r) = (tables.clone(), tables.clone());
         let left = self.left.islands(frame, &mut l);
         let right = self.right.islands(frame, &mut r);
         self.tally.calls += 1;
         self.tally.meets("islands", left.0);
-        let fall = left.0 != 0 || {
-            let b = frame.types.len();
-            follow(&mut l.parents[..b]) & follow(&mut r.parents[..b])
-        };
-        self.check(left == right && fall && l == r, || {
-            format!("islands of {frame:?}: {left:?} and {right:?}\n{l:?}\n{r:?}")
+        let b = frame.types.len();
+        let settled = left == right && (left.0 != 0 || settle(&mut l, b) & settle(&mut r, b));
+        self.check(settled && l == r, || {
+            format!("islands of {frame:?}: {left:?} and {right:?}, settled {settled}\n{l:?}\n{r:?}")
         });
+        [(left, l), (right, r)]
     }
 
-    pub fn islands_of(&mut self, frame: &Frame) {
+    pub fn islands_of(&mut self, frame: &Frame) -> [Laid; 2] {
         let lengths = island_lengths(frame.types.len(), frame.manifold_count(), frame.joint_count());
         let tables = self.lend(&lengths, true);
-        self.islands(frame, &tables);
+        self.islands(frame, &tables)
     }
 
     /// Every table exact, and each in turn one place short.
@@ -386,18 +406,19 @@ impl<'a, L: Calls, R: Calls> Agree<'a, L, R> {
         self.tally.calls += 1;
         self.tally.meets("run", left.refusal);
         let free = left.refusal == 0 || left.refusal == 7;
-        let fall = left.refusal != 0 || {
-            let b = scope::read(file).unwrap().types.len();
-            follow(&mut l.islands.parents[..b]) & follow(&mut r.islands.parents[..b])
-        };
+        let settled = left == right
+            && (left.refusal != 0 || {
+                let b = scope::read(file).unwrap().types.len();
+                settle(&mut l.islands, b) & settle(&mut r.islands, b)
+            });
         let kept = free || l.workspace == tables.workspace && r.workspace == tables.workspace;
-        let same = left == right && fall && kept && l.islands == r.islands && l.turns == r.turns;
+        let same = settled && kept && l.islands == r.islands && l.turns == r.turns;
         self.check(same, || {
             format!(
                 "run of {}: {left:?} and {right:?}, workspace kept {kept}, islands {:?} {:?} turns {:?} {:?}",
                 shorten(file),
                 l.islands == r.islands,
-                fall,
+                settled,
                 l.turns == r.turns,
                 tables.turns.len()
             )

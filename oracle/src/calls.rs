@@ -1,5 +1,5 @@
-//! The calls that document 01 and request 3 know, with their lent tables and answers: what the sides of a comparison have in
-//! common.
+//! The calls that document 01 and requests 3 and 7 know, with their lent tables and answers: what the sides of a comparison
+//! have in common.
 
 pub const NONE: u16 = 65535;
 pub const BODIES: usize = 4096;
@@ -66,6 +66,7 @@ impl Frame {
 #[derive(Clone, Debug, Default, PartialEq)]
 pub struct IslandTables {
     pub parents: Vec<u16>,
+    pub sizes: Vec<u16>,
     pub bodies: Vec<u16>,
     pub manifolds: Vec<u16>,
     pub joints: Vec<u16>,
@@ -155,6 +156,7 @@ impl Lent for IslandTables {
         use Table::Numbers;
         vec![
             Numbers(&mut self.parents),
+            Numbers(&mut self.sizes),
             Numbers(&mut self.bodies),
             Numbers(&mut self.manifolds),
             Numbers(&mut self.joints),
@@ -232,7 +234,7 @@ pub fn clear(tables: &mut impl Lent) {
 
 /// The lengths that question 6 asks for, in the order of the tables.
 pub fn island_lengths(bodies: usize, manifolds: usize, joints: usize) -> Vec<usize> {
-    vec![bodies, bodies, manifolds, joints]
+    vec![bodies, bodies, bodies, manifolds, joints]
 }
 
 pub fn plan_lengths(b: usize, c: usize) -> Vec<usize> {

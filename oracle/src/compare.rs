@@ -78,6 +78,80 @@ fn colorings<L: Calls, R: Calls>(agree: &mut Agree<L, R>) {
     });
 }
 
+/// A sample of request 7: types and manifolds; the number of islands; the root of each body; the roots with their sizes; the
+/// labels of bodies and of manifolds, where its page gives them.
+type Joined = (&'static [u8], &'static [u16], usize, &'static [u16], &'static [(usize, u16)], [&'static [u16]; 2]);
+
+const JOINED: &[Joined] = &[
+    (&[2; 2], &[1, 0], 1, &[0; 2], &[(0, 2)], [&[], &[]]),
+    (&[2; 3], &[1, 2, 0, 1], 1, &[1; 3], &[(1, 3)], [&[0; 3], &[]]),
+    (&[2; 3], &[1, 2, 0, 2, 0, 1], 1, &[1; 3], &[(1, 3)], [&[], &[]]),
+    (&[2; 4], &[2, 3, 0, 1, 0, 3], 1, &[0; 4], &[(0, 4)], [&[], &[]]),
+    (&[2; 5], &[3, 4, 2, 4, 0, 1, 1, 2], 1, &[3; 5], &[(3, 5)], [&[], &[]]),
+    (&[2; 8], &[6, 7, 4, 5, 2, 3, 0, 1, 5, 7, 1, 3, 7, 3], 1, &[0; 8], &[(0, 8)], [&[], &[]]),
+    (&[2; 6], &[5, 4, 4, 3, 3, 2, 2, 1, 1, 0], 1, &[4; 6], &[(4, 6)], [&[], &[]]),
+    (&[2; 6], &[0, 1, 1, 2, 2, 3, 3, 4, 4, 5], 1, &[0; 6], &[(0, 6)], [&[], &[]]),
+    (
+        &[2; 16],
+        &[0, 1, 2, 3, 4, 5, 6, 7, 8, 9, 10, 11, 12, 13, 14, 15, 0, 2, 4, 6, 8, 10, 12, 14, 0, 4, 8, 12, 0, 8],
+        1,
+        &[0; 16],
+        &[(0, 16)],
+        [&[], &[]],
+    ),
+    (
+        &[2, 2, 2, 0, 2, 2],
+        &[4, 5, 1, 2, 2, 4, 0, 3],
+        2,
+        &[0, 1, 1, 3, 1, 1],
+        &[(0, 1), (1, 4), (3, 1)],
+        [&[0, 1, 1, NONE, 1, 1], &[1, 1, 1, 0]],
+    ),
+    (&[2; 3], &[1, 2, 0, 2], 1, &[1; 3], &[(1, 3)], [&[0; 3], &[]]),
+    (
+        &[0, 2, 2, 2, 2],
+        &[3, 4, 1, 2, 0, 1],
+        2,
+        &[0, 1, 1, 3, 3],
+        &[(0, 1), (1, 2), (3, 2)],
+        [&[NONE, 0, 0, 1, 1], &[1, 0, 0]],
+    ),
+];
+
+/// Sets of bodies: the samples, each side against their page's figures; every list of five pairs among four bodies; joins of
+/// sets of any sizes.
+fn unions<L: Calls, R: Calls>(agree: &mut Agree<L, R>, more: usize) {
+    for (types, manifolds, count, roots, sizes, [bodies, labels]) in JOINED {
+        let frame = Frame { types: types.to_vec(), manifolds: manifolds.to_vec(), ..Frame::default() };
+        agree.frame(&frame);
+        for (answer, t) in agree.islands_of(&frame) {
+            let same = answer == (0, *count)
+                && t.parents.starts_with(roots)
+                && sizes.iter().all(|(root, size)| t.sizes[*root] == *size)
+                && t.bodies.starts_with(bodies)
+                && t.manifolds.starts_with(labels);
+            agree.check(same, || format!("sets of {frame:?}: {answer:?} {t:?}"));
+        }
+    }
+    let refused = Frame { types: vec![2; 2], joints: vec![0; 2], enabled: vec![1], ..Frame::default() };
+    agree.frame(&refused);
+    for (answer, t) in agree.islands_of(&refused) {
+        let same = answer == (7, 0)
+            && t.parents.starts_with(&[0, 1])
+            && t.sizes.starts_with(&[1, 1])
+            && t.bodies.starts_with(&[NONE; 2])
+            && t.joints.starts_with(&[NONE]);
+        agree.check(same, || format!("sets of {refused:?}: {answer:?} {t:?}"));
+    }
+    frames::every_five_pairs(|manifolds| {
+        agree.islands_of(&Frame { types: vec![2; 4], manifolds, ..Frame::default() });
+    });
+    for _ in 0..2_000 * more {
+        let frame = frames::random_joins(&mut agree.random);
+        agree.frame(&frame);
+    }
+}
+
 /// The refusals that each call can answer, and 0; a comparison is to meet them all.
 const REFUSALS: &[(&str, &[u8])] = &[
     ("islands", &[0, 3, 4, 5, 6, 7]),
@@ -97,6 +171,7 @@ pub fn compare<L: Calls, R: Calls>(left: &L, right: &R, more: usize) -> ! {
     let every = 15;
     samples(&mut agree);
     colorings(&mut agree);
+    unions(&mut agree, more);
 
     let mut count = 0;
     frames::every_little(|frame| {

@@ -1,6 +1,7 @@
 //! Frames to ask about: every little one, random ones of all sizes, and the shapes that strain a limit. All fixed by a seed.
 use crate::calls::*;
 use crate::scope;
+use std::collections::VecDeque;
 
 // ---- chance
 
@@ -187,11 +188,43 @@ pub fn chain(b: usize, backwards: bool) -> Frame {
     of_pairs(vec![2; b], &pairs)
 }
 
-/// All others hang on one body of the given type.
-pub fn star(b: usize, hub: u8) -> Frame {
+/// All others hang on one body, the hub, of the given type.
+pub fn star(b: usize, hub: u16, hub_type: u8) -> Frame {
     let mut types = vec![2; b];
-    types[0] = hub;
-    of_pairs(types, &(1..b as u16).map(|i| [i, 0]).collect::<Vec<_>>())
+    types[hub as usize] = hub_type;
+    of_pairs(types, &(0..b as u16).filter(|i| *i != hub).map(|i| [i, hub]).collect::<Vec<_>>())
+}
+
+/// Pairs that join the bodies to ever larger sets, two sets at a time, each by one of its bodies: first all sets of one body,
+/// then those of two, and so on.
+fn joins(bodies: Vec<u16>, mut by: impl FnMut(&[u16]) -> u16) -> Vec<[u16; 2]> {
+    let mut sets: VecDeque<Vec<u16>> = bodies.into_iter().map(|body| vec![body]).collect();
+    let mut pairs = Vec::new();
+    while sets.len() > 1 {
+        let two: Vec<Vec<u16>> = sets.drain(..2).collect();
+        pairs.push([by(&two[0]), by(&two[1])]);
+        sets.push_back(two.concat());
+    }
+    pairs
+}
+
+/// Sets of equal sizes joined by their lowest bodies, which are their roots, so that the trees grow deepest, or by their
+/// highest ones, which lie deepest; b is a power of two.
+pub fn joined(b: usize, highest: bool) -> Frame {
+    let by = |set: &[u16]| if highest { set[set.len() - 1] } else { set[0] };
+    of_pairs(vec![2; b], &joins((0..b as u16).collect(), by))
+}
+
+/// Sets of any bodies joined by any of them; at times the joins come in any order too.
+pub fn random_joins(random: &mut Random) -> Frame {
+    let mut bodies: Vec<u16> = (0..random.size(BODIES) as u16).collect();
+    let types = vec![2; bodies.len()];
+    random.shuffle(&mut bodies);
+    let mut pairs = joins(bodies, |set| set[random.below(set.len())]);
+    if random.one_in(2) {
+        random.shuffle(&mut pairs);
+    }
+    of_pairs(types, &pairs)
 }
 
 pub fn one_pair(times: usize) -> Frame {
@@ -218,9 +251,12 @@ pub fn shapes() -> Vec<(&'static str, Frame)> {
         ("a chain, last link first", chain(4096, true)),
         ("a chain with cross joints", mixed),
         ("a ring, all joints disabled", full),
-        ("a star on a dynamic body", star(4096, 2)),
-        ("4,095 islands on one static body", star(4096, 0)),
-        ("4,095 islands on one kinematic body", star(4096, 1)),
+        ("a star on a dynamic body", star(4096, 0, 2)),
+        ("a star on the highest body", star(4096, 4095, 2)),
+        ("sets joined by their roots", joined(4096, false)),
+        ("sets joined by their highest bodies", joined(4096, true)),
+        ("4,095 islands on one static body", star(4096, 0, 0)),
+        ("4,095 islands on one kinematic body", star(4096, 0, 1)),
         ("a star twice", hub_twice),
         ("one pair 8,192 times", one_pair(8192)),
         ("one pair 4,097 times", one_pair(4097)),

@@ -1,5 +1,6 @@
 //! The Rust as a side: its own answers wherever it can be asked. From `scope` come only the limits and lengths
-//! (questions 1 to 6), the bindings' limits, the degree, the places that a table keeps, and test lifts, which it does not know.
+//! (questions 1 to 6), the roots and sizes of the sets, the bindings' limits, the degree, the places that a table keeps, and
+//! test lifts, which it does not know.
 use crate::calls::*;
 use crate::collision::CollisionError;
 use crate::collision::constraint_coloring::ConstraintColoring;
@@ -81,16 +82,23 @@ fn islands(frame: &Frame) -> (u8, scope::Islands) {
         count: layout.island_count(),
         bodies: layout.body_labels().iter().map(|l| label(*l)).collect(),
         constraints,
-        lowest: (0..parents.len()).map(root).collect(),
+        roots: (0..parents.len()).map(root).collect(),
     };
     (answer.map_or_else(|e| refusal(e, 7), |()| 0), read)
 }
 
-/// Islands of a frame that passes questions 1 to 6. After 7 each parent is itself: a difference from the Rust.
+/// Islands of a frame that passes questions 1 to 6. After 7 each parent is itself: a difference from the Rust. After
+/// acceptance only the Rust's sets count, since it hangs each under the lower root: where they are the documents' sets, the
+/// documents' roots stand for its own.
 fn build(frame: &Frame, tables: &mut IslandTables) -> (u8, scope::Islands) {
     let (refusal, mut islands) = islands(frame);
     if refusal == 7 {
-        islands.lowest = (0..frame.types.len() as u16).collect();
+        islands.roots = (0..frame.types.len() as u16).collect();
+    } else {
+        let roots = scope::roots(frame);
+        if scope::lowest(&roots) == scope::lowest(&islands.roots) {
+            islands.roots = roots;
+        }
     }
     scope::write_islands(frame, Some(&islands), tables);
     (refusal, islands)

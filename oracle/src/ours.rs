@@ -18,6 +18,8 @@ unsafe extern "C" {
         enabled_len: usize,
         parents: *mut u16,
         parents_len: usize,
+        sizes: *mut u16,
+        sizes_len: usize,
         body_islands: *mut u16,
         body_islands_len: usize,
         manifold_islands: *mut u16,
@@ -103,7 +105,7 @@ unsafe extern "C" {
     fn engkarupi_take(bodies: *const u16, marks: *mut u8, count: usize, a: usize, b: usize, handed: *mut u16) -> u8;
 
     /// The wrapper of the header over engkarupi_run (wrapper.c).
-    fn oracle_run_on(frame: *const u8, frame_len: usize, tables: *const [LentTable; 24], report: *mut usize) -> u8;
+    fn oracle_run_on(frame: *const u8, frame_len: usize, tables: *const [LentTable; 25], report: *mut usize) -> u8;
 
     fn engkarupi_generate(
         seed: u32,
@@ -145,6 +147,8 @@ pub fn islands(frame: &Frame, tables: &mut IslandTables) -> (u8, usize) {
             frame.enabled.len(),
             tables.parents.as_mut_ptr(),
             tables.parents.len(),
+            tables.sizes.as_mut_ptr(),
+            tables.sizes.len(),
             tables.bodies.as_mut_ptr(),
             tables.bodies.len(),
             tables.manifolds.as_mut_ptr(),
@@ -285,6 +289,7 @@ pub fn run(file: &[u8], tables: &mut RunTables) -> Report {
     // in the order of the header's struct
     let lent = [
         LentTable::of(&mut i.parents),
+        LentTable::of(&mut i.sizes),
         LentTable::of(&mut i.bodies),
         LentTable::of(&mut i.manifolds),
         LentTable::of(&mut i.joints),

@@ -1,8 +1,9 @@
-//! Document 01, sentence by sentence, and request 3: the side that answers where the Rust cannot be asked (limits, numbers,
-//! question 6, what lies beyond, the file, the run, the print, test lifts), and a second opinion where it can. Written for
-//! plainness, not speed.
+//! Document 01, sentence by sentence, and requests 3 and 7: the side that answers where the Rust cannot be asked (limits,
+//! numbers, question 6, what lies beyond, the roots and sizes of sets, the file, the run, the print, test lifts), and a second
+//! opinion where it can. Written for plainness, not speed.
 use crate::calls::*;
 use crate::frames;
+use std::cmp::Ordering;
 use std::collections::{BTreeMap, BTreeSet};
 
 // ---- the questions
@@ -152,13 +153,51 @@ pub fn write(frame: &Frame) -> Vec<u8> {
 
 // ---- islands
 
-/// The islands of a frame that passes the questions: the count, the labels of bodies and of constraints, and the lowest
-/// body of each body's set.
+/// The islands of a frame that passes the questions: the count, the labels of bodies and of constraints, and the root of
+/// each body's set.
 pub struct Islands {
     pub count: usize,
     pub bodies: Vec<u16>,
     pub constraints: Vec<u16>,
-    pub lowest: Vec<u16>,
+    pub roots: Vec<u16>,
+}
+
+/// Request 7: the root of each body's set. The constraints join sets in their order, the smaller one to the root of the
+/// larger; on equal sizes the lower root wins.
+pub fn roots(frame: &Frame) -> Vec<u16> {
+    let mut roots: Vec<u16> = (0..frame.types.len() as u16).collect();
+    for n in (0..frame.constraint_count()).filter(|n| frame.live(*n)) {
+        let ends = frame.endpoints(n);
+        let [p, q] = ends.map(|end| roots[end as usize]);
+        if p == q || !ends.iter().all(|end| frame.dynamic(*end)) {
+            continue;
+        }
+        let size = |root: u16| roots.iter().filter(|r| **r == root).count();
+        let winner = match size(p).cmp(&size(q)) {
+            Ordering::Less => q,
+            Ordering::Equal => p.min(q),
+            Ordering::Greater => p,
+        };
+        for root in roots.iter_mut().filter(|root| [p, q].contains(*root)) {
+            *root = winner;
+        }
+    }
+    roots
+}
+
+/// The number of bodies in the set of each root; 0 for a body that is no root.
+pub fn sizes(roots: &[u16]) -> Vec<u16> {
+    let mut sizes = vec![0; roots.len()];
+    for root in roots {
+        sizes[*root as usize] += 1;
+    }
+    sizes
+}
+
+/// The lowest body of each body's set.
+pub fn lowest(roots: &[u16]) -> Vec<u16> {
+    let mut lowest = BTreeMap::new();
+    roots.iter().zip(0..).map(|(root, body)| *lowest.entry(*root).or_insert(body)).collect()
 }
 
 pub fn islands(frame: &Frame) -> Islands {
@@ -195,21 +234,26 @@ pub fn islands(frame: &Frame) -> Islands {
         None => NONE,
     };
     let constraints = (0..frame.constraint_count()).map(label).collect();
-    Islands { count: number.len(), bodies, constraints, lowest }
+    Islands { count: number.len(), bodies, constraints, roots: roots(frame) }
 }
 
-/// The tables of an islands call after acceptance, or after 7. Here a parent is the lowest body of the set.
+/// The tables of an islands call after acceptance, or after 7. Here a parent is the set's root; a size that is free stays as
+/// it was.
 pub fn write_islands(frame: &Frame, islands: Option<&Islands>, tables: &mut IslandTables) {
     let (b, m, j) = (frame.types.len(), frame.manifold_count(), frame.joint_count());
     match islands {
         Some(islands) => {
-            tables.parents[..b].copy_from_slice(&islands.lowest);
+            tables.parents[..b].copy_from_slice(&islands.roots);
+            for (table, size) in tables.sizes.iter_mut().zip(sizes(&islands.roots)).filter(|(_, size)| *size > 0) {
+                *table = size;
+            }
             tables.bodies[..b].copy_from_slice(&islands.bodies);
             tables.manifolds[..m].copy_from_slice(&islands.constraints[..m]);
             tables.joints[..j].copy_from_slice(&islands.constraints[m..]);
         }
         None => {
             tables.parents[..b].copy_from_slice(&(0..b as u16).collect::<Vec<_>>());
+            tables.sizes[..b].fill(1);
             tables.bodies[..b].fill(NONE);
             tables.manifolds[..m].fill(NONE);
             tables.joints[..j].fill(NONE);

@@ -83,6 +83,14 @@ pub fn check_found(found: &[[usize; 2]]) {
 
 // ---- our side
 
+/// Clears the islands' tables and finds the islands of a frame: how many.
+pub fn islands(frame: &Frame, tables: &mut IslandTables) -> usize {
+    clear(tables);
+    let (refusal, islands) = ours::islands(frame, tables);
+    assert_eq!(refusal, 0);
+    islands
+}
+
 /// What we are lent for islands and one coloring: tables of exactly the lengths that the frames need.
 pub struct OurTables {
     pub islands: IslandTables,
@@ -97,10 +105,7 @@ impl OurTables {
 
     /// Clears the islands' tables and finds the islands: how many.
     pub fn build(&mut self, decoded: &Decoded) -> usize {
-        clear(&mut self.islands);
-        let (refusal, islands) = ours::islands(&decoded.frame, &mut self.islands);
-        assert_eq!(refusal, 0);
-        islands
+        islands(&decoded.frame, &mut self.islands)
     }
 
     /// Clears the plan's tables and colors all constraints as one list on a fresh plan: how many groups.

@@ -1,9 +1,9 @@
 //! Ours beside the Rust, in one process, on request 9's frames (src/timed.rs). Each frame is measured several times by turns;
 //! tables are cleared by each side inside the measurement, and what both sides found is compared outside it. The plan is
 //! measured with a cold allocator, at the start of the process, and with a warm one, where what the Rust allocates costs it
-//! less; the rest with a warm one: islands alone, the run, the run of each shape that strains a limit, and our generator at
-//! the longest frame. Exits with 1 if a plan ratio is above request 9's bound.
-use oracle::bench::RustIslands;
+//! less; the rest with a warm one: islands alone, also of chains and stars, the run, also of each shape that strains a limit,
+//! and our generator at the longest frame. Exits with 1 if a plan ratio is above request 9's bound.
+use oracle::bench::{RustFrame, RustIslands};
 use oracle::calls::*;
 use oracle::frames;
 use oracle::ours;
@@ -60,6 +60,23 @@ fn measure<T: Debug + PartialEq>(
         }
     }
     measured
+}
+
+/// The least times of all turns of one frame; in each turn both sides must find the same.
+fn least<T: Debug + PartialEq>(
+    name: &str,
+    turns: usize,
+    mut ours: impl FnMut() -> T,
+    mut rust: impl FnMut() -> T,
+) -> Times {
+    let mut least = [f64::MAX; 2];
+    for _ in 0..turns {
+        let (our_time, our_find) = microseconds(&mut ours);
+        let (rust_time, rust_find) = microseconds(&mut rust);
+        assert_eq!(our_find, rust_find, "ours and the Rust differ on {name}");
+        least = [least[0].min(our_time), least[1].min(rust_time)];
+    }
+    least
 }
 
 /// The median of figures, one for each seed.
@@ -122,15 +139,19 @@ fn warm_the_allocator() {
     drop(black_box(vec![1u8; 1 << 24]));
 }
 
-/// Both sides find the same island for each body and each manifold.
+/// Both sides have found the same island for each body and each manifold.
+fn same_labels(name: &str, tables: &IslandTables, [bodies, manifolds]: [Vec<u16>; 2]) {
+    assert!(tables.bodies == bodies, "the islands of the bodies of {name} differ");
+    assert!(tables.manifolds == manifolds, "the islands of the manifolds of {name} differ");
+}
+
+/// They find the same islands in each of request 9's frames.
 fn same_islands(frames: &[Decoded]) {
     let mut layout = RustIslands::default();
     let mut tables = OurTables::lent();
     for (seed, decoded) in frames.iter().enumerate() {
         assert_eq!(tables.build(decoded), layout.build(&decoded.rust));
-        let [bodies, manifolds] = layout.labels(&decoded.rust);
-        assert!(tables.islands.bodies == bodies, "the islands of the bodies of seed {seed} differ");
-        assert!(tables.islands.manifolds == manifolds, "the islands of the manifolds of seed {seed} differ");
+        same_labels(&format!("seed {seed}"), &tables.islands, layout.labels(&decoded.rust));
     }
 }
 
@@ -142,6 +163,19 @@ fn islands(turns: usize, frames: &[Decoded]) {
     let mut tables = OurTables::lent();
     let measured = measure(turns, |i| tables.build(&frames[i]), |i| layout.build(&frames[i].rust));
     told("islands", medians(&measured.least));
+}
+
+/// Islands alone of chains and stars of 4,096 dynamic bodies, for request 7: the least time of each side.
+fn chains_and_stars(turns: usize) {
+    let kept = ["a chain", "a chain, last link first", "a star on a dynamic body", "a star on the highest body"];
+    let mut layout = RustIslands::default();
+    for (name, frame) in frames::shapes().into_iter().filter(|(name, _)| kept.contains(name)) {
+        let rust = RustFrame::of(&frame);
+        let mut tables = lent(&island_lengths(frame.types.len(), frame.manifold_count(), frame.joint_count()));
+        let times = least(name, turns, || timed::islands(&frame, &mut tables), || layout.build(&rust));
+        same_labels(name, &tables, layout.labels(&rust));
+        told(&format!("islands of {name}"), times);
+    }
 }
 
 /// Clears all tables and runs a file: how many turns and takes.
@@ -172,14 +206,9 @@ fn shapes(turns: usize) {
         let file = scope::write(&frame);
         let mut turn_table = vec![0; 3 * (m + j)];
         let mut tables: RunTables = lent(&run_lengths(frame.types.len(), m, j));
-        let mut least = [f64::MAX; 2];
-        for _ in 0..turns {
-            let (our_time, our_find) = microseconds(|| our_run(&file, &mut tables));
-            let (rust_time, rust_find) = microseconds(|| layout.run(&file, &mut turn_table));
-            assert_eq!(our_find, rust_find, "ours and the Rust differ on {name}");
-            least = [least[0].min(our_time), least[1].min(rust_time)];
-        }
-        told(&format!("run of {name}"), least);
+        let ours = || our_run(&file, &mut tables);
+        let times = least(name, turns, ours, || layout.run(&file, &mut turn_table));
+        told(&format!("run of {name}"), times);
     }
 }
 
@@ -211,6 +240,7 @@ fn main() -> ExitCode {
     let worst = plan("warm", turns, &frames).max(cold);
     same_islands(&frames);
     islands(turns, &frames);
+    chains_and_stars(turns);
     let run = run(turns, &files);
     shapes(turns);
     generate(turns);
