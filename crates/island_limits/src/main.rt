@@ -1,5 +1,5 @@
-// Frames at the limits: prints for each its refusal, or how many islands it has, the last body's label and the sum of the
-// bodies' labels (none is 65535).
+// Frames at the limits: prints for each its refusal, or how many islands it has, the last body's label, the sum of the bodies' labels
+// (none is 65535), and the parent of body 0 with the size there.
 ghost use Prim.Native.Nat.{_≤_, _<_};
 ghost use lib.ListN.{length};
 
@@ -61,8 +61,18 @@ fn number(word: &[u8], n: u64) {
     io::print_decimal(1, n);
 }
 
+// The parent of body 0 and the size there: in every frame here body 0 is at most one link from the root of its set, so this is that
+// root and the number of bodies in the set.
+fn first_set(parent: u16, sizes: &[u16]) {
+    let place = parent as usize;
+    if place < sizes.len() {
+        number(b" parent ", wide(parent));
+        number(b" size ", wide(sizes[place]));
+    }
+}
+
 // The line of one frame.
-fn report(name: &[u8], answer: island::Answer, labels: &[u16]) {
+fn report(name: &[u8], answer: island::Answer, parents: &[u16], sizes: &[u16], labels: &[u16]) {
     io::write_all(1, name);
     match answer {
         island::Answer::Islands(n) => {
@@ -72,6 +82,9 @@ fn report(name: &[u8], answer: island::Answer, labels: &[u16]) {
             }
             if labels.len() <= 8192 {
                 number(b" sum ", sum(labels));
+            }
+            if parents.len() > 0 {
+                first_set(parents[0], sizes);
             }
         }
         island::Answer::Refused(n) => {
@@ -87,6 +100,7 @@ fn show(
     body_types: &[u8],
     manifolds: &[u16],
     parents: &mut [u16],
+    sizes: &mut [u16],
     body_islands: &mut [u16],
     manifold_islands: &mut [u16],
 ) {
@@ -94,10 +108,11 @@ fn show(
         body_types,
         manifolds,
         parents,
+        sizes,
         body_islands,
         manifold_islands,
     );
-    report(name, answer, body_islands);
+    report(name, answer, parents, sizes, body_islands);
 }
 
 // A frame of joints, all enabled.
@@ -107,6 +122,7 @@ fn show_joints(
     joints: &[u16],
     enabled: &[u8],
     parents: &mut [u16],
+    sizes: &mut [u16],
     body_islands: &mut [u16],
     joint_islands: &mut [u16],
 ) {
@@ -117,11 +133,12 @@ fn show_joints(
         joints,
         enabled,
         parents,
+        sizes,
         body_islands,
         &mut manifold_islands[..0],
         joint_islands,
     );
-    report(name, answer, body_islands);
+    report(name, answer, parents, sizes, body_islands);
 }
 
 // 4,096 bodies in one chain, and 4,095 on one static body.
@@ -129,6 +146,7 @@ fn most_bodies() {
     let mut body_types = [2; 4096];
     let mut pairs = [0; 8190];
     let mut parents = [0; 4096];
+    let mut sizes = [0; 4096];
     let mut body_islands = [0; 4096];
     let mut manifold_islands = [0; 4095];
     fill(&mut pairs, Shape::Rising);
@@ -137,6 +155,7 @@ fn most_bodies() {
         &body_types,
         &pairs,
         &mut parents,
+        &mut sizes,
         &mut body_islands,
         &mut manifold_islands,
     );
@@ -146,6 +165,7 @@ fn most_bodies() {
         &body_types,
         &pairs,
         &mut parents,
+        &mut sizes,
         &mut body_islands,
         &mut manifold_islands,
     );
@@ -156,6 +176,7 @@ fn most_bodies() {
         &body_types,
         &pairs,
         &mut parents,
+        &mut sizes,
         &mut body_islands,
         &mut manifold_islands,
     );
@@ -165,6 +186,7 @@ fn most_bodies() {
 fn last_endpoint() {
     let body_types = [2; 2];
     let mut parents = [0; 2];
+    let mut sizes = [0; 2];
     let mut body_islands = [0; 2];
     let mut manifold_islands = [0; 1];
     let mut pair = [0; 2];
@@ -174,6 +196,7 @@ fn last_endpoint() {
         &body_types,
         &pair,
         &mut parents,
+        &mut sizes,
         &mut body_islands,
         &mut manifold_islands,
     );
@@ -183,6 +206,7 @@ fn last_endpoint() {
         &body_types,
         &pair,
         &mut parents,
+        &mut sizes,
         &mut body_islands,
         &mut manifold_islands,
     );
@@ -193,6 +217,7 @@ fn short_tables() {
     let body_types = [2; 4096];
     let mut pairs = [0; 8190];
     let mut parents = [0; 4096];
+    let mut sizes = [0; 4096];
     let mut body_islands = [0; 4096];
     let mut labels = [0; 4095];
     let mut short = [0; 4095];
@@ -203,6 +228,7 @@ fn short_tables() {
         &body_types,
         &pairs,
         &mut short,
+        &mut sizes,
         &mut body_islands,
         &mut labels,
     );
@@ -211,6 +237,7 @@ fn short_tables() {
         &body_types,
         &pairs,
         &mut parents,
+        &mut sizes,
         &mut short,
         &mut labels,
     );
@@ -219,8 +246,39 @@ fn short_tables() {
         &body_types,
         &pairs,
         &mut parents,
+        &mut sizes,
         &mut body_islands,
         &mut shorter,
+    );
+}
+
+// The chain with the size table one short, and one longer than there are bodies.
+fn size_tables() {
+    let body_types = [2; 4096];
+    let mut pairs = [0; 8190];
+    let mut parents = [0; 4096];
+    let mut short = [0; 4095];
+    let mut long = [0; 4097];
+    let mut body_islands = [0; 4096];
+    let mut labels = [0; 4095];
+    fill(&mut pairs, Shape::Rising);
+    show(
+        b"sizes short",
+        &body_types,
+        &pairs,
+        &mut parents,
+        &mut short,
+        &mut body_islands,
+        &mut labels,
+    );
+    show(
+        b"sizes long",
+        &body_types,
+        &pairs,
+        &mut parents,
+        &mut long,
+        &mut body_islands,
+        &mut labels,
     );
 }
 
@@ -230,6 +288,7 @@ fn joint_tables() {
     let enabled = [1; 4095];
     let mut pairs = [0; 8190];
     let mut parents = [0; 4096];
+    let mut sizes = [0; 4096];
     let mut body_islands = [0; 4096];
     let mut labels = [0; 4095];
     let mut shorter = [0; 4094];
@@ -240,6 +299,7 @@ fn joint_tables() {
         &pairs,
         &enabled,
         &mut parents,
+        &mut sizes,
         &mut body_islands,
         &mut labels,
     );
@@ -249,6 +309,7 @@ fn joint_tables() {
         &pairs,
         &enabled,
         &mut parents,
+        &mut sizes,
         &mut body_islands,
         &mut shorter,
     );
@@ -258,6 +319,7 @@ fn joint_tables() {
 fn too_many_bodies() {
     let body_types = [2; 4097];
     let mut parents = [0; 4097];
+    let mut sizes = [0; 4097];
     let mut body_islands = [0; 4097];
     let mut none = [0; 1];
     let pairs = [0; 1];
@@ -266,6 +328,7 @@ fn too_many_bodies() {
         &body_types,
         &pairs[..0],
         &mut parents,
+        &mut sizes,
         &mut body_islands,
         &mut none[..0],
     );
@@ -274,6 +337,7 @@ fn too_many_bodies() {
         &body_types[..4096],
         &pairs[..0],
         &mut parents,
+        &mut sizes,
         &mut body_islands,
         &mut none[..0],
     );
@@ -283,6 +347,7 @@ fn main() {
     most_bodies();
     last_endpoint();
     short_tables();
+    size_tables();
     joint_tables();
     too_many_bodies();
 }
