@@ -20,7 +20,7 @@ use Rattle.island_sets.specs.Sets.{rootOf}
 use Rattle.island_sets.specs.Steps.{Balanced, SameSets, LowestOf}
 use Rattle.island_sets.proofs.Links.{root-root}
 use Rattle.island_sets.proofs.Weights.{ends, root-inside}
-use Rattle.island_labels.specs.Labels.{unnumbered, bare, inIslandBy, leadsBy, Together, Numberable, Flagged, nextLabel, Stepped, Numbered, NumberedByLowest}
+use Rattle.island_labels.specs.Labels.{unnumbered, bare, inIslandBy, leadsBy, Together, Numberable, Flagged, nextLabel, nextPlace, Stepped, Numbered, NumberedByLowest}
 
 -- ---- the flags, at body b: l₀ at the start, l as it is
 pub record Flagging (ts l₀ l : List ℕ) (b : ℕ) : Type 0 where
@@ -68,11 +68,19 @@ module _ (p l : List ℕ) (b n r : ℕ) (e : r ≡ rootOf p b) (k : r < length l
   root-label : getD l r 0 ≡ getD l (rootOf p b) none
   root-label = getD-any l r 0 none k ∙ ap (λ (x : ℕ). getD l x none) e
 
-  pub stepped : (v : ℕ) → v ≡ cond (eqb (getD l r 0) unnumbered) n (getD l r 0) → (n′ : ℕ) → n′ ≡ n + one (eqb (getD l r 0) unnumbered) → Stepped p l b n (set (set l r v) b v) n′
-  stepped v ev n′ en = record {
+  pub stepped : (v q : ℕ) → v ≡ cond (eqb (getD l r 0) unnumbered) n (getD l r 0) → q ≡ cond (eqb (getD l r 0) unnumbered) r b
+      → (n′ : ℕ) → n′ ≡ n + one (eqb (getD l r 0) unnumbered) → Stepped p l b n (set (set l q v) b v) n′
+  stepped v q ev eq n′ en = record {
     count = en ∙ ap (λ (x : ℕ). n + one (eqb x unnumbered)) root-label;
-    labels = ap (λ (x : ℕ). set (set l x v) b v) e ∙ ap (λ (x : ℕ). set (set l (rootOf p b) x) b x) (ev ∙ ap (λ (x : ℕ). cond (eqb x unnumbered) n x) root-label);
+    labels = ap (λ (x : ℕ). set (set l x v) b v) (eq ∙ ap (λ (x : ℕ). cond (eqb x unnumbered) r b) root-label ∙ ap (λ (x : ℕ). cond (eqb (getD l (rootOf p b) none) unnumbered) x b) e)
+        ∙ ap (λ (x : ℕ). set (set l (nextPlace p l b) x) b x) (ev ∙ ap (λ (x : ℕ). cond (eqb x unnumbered) n x) root-label);
   }
+
+  -- the place is in the table
+  pub place-in : (q : ℕ) → q ≡ cond (eqb (getD l r 0) unnumbered) r b → b < length l → q < length l
+  place-in q eq h = by-cases (eqb (getD l r 0) unnumbered)
+      (λ t. let z : q ≡ r = eq ∙ rw t in omega (arith, z, k))
+      (λ t. let z : q ≡ b = eq ∙ rw t in omega (arith, z, h))
 
 -- ---- the pass, for given lowest bodies low: m tells the bodies in islands
 module _ (p : List ℕ) (m : ℕ → Bool) (low : ℕ → ℕ) where
@@ -198,21 +206,36 @@ module _ (p : List ℕ) (m : ℕ → Bool) (low : ℕ → ℕ) where
           low-met : low y ≡ b → low y ≡ low b
           low-met e = sym (o .fixed y) ∙ ap low e
 
+      abbrev v : ℕ
+      v = nextLabel p l b n
+
+      abbrev q : ℕ
+      q = nextPlace p l b
+
+      -- where the root had no number it has one now; where it had one, that is the set's
+      with-first : (y : ℕ) → (y ≡ b → ⊥) → Dec (y ≡ r) → getD (set l r v) y none ≡ shown (suc b) y
+      with-first y z (yes s) = subst (λ (x : ℕ). getD (set l r v) x none ≡ shown (suc b) x) (sym s) (getD-set-same l r v none r-inside ∙ label-is ∙ sym shown-root)
+      with-first y z (no s) = getD-set-other l r y v none s ∙ w .table y ∙ shown-other y z s
+
+      with-later : v ≡ getD l r none → (y : ℕ) → (y ≡ b → ⊥) → Dec (y ≡ r) → getD (set l b v) y none ≡ shown (suc b) y
+      with-later e y z (yes s) = getD-set-other l b y v none z ∙ subst (λ (x : ℕ). getD l x none ≡ shown (suc b) x) (sym s) (sym e ∙ label-is ∙ sym shown-root)
+      with-later e y z (no s) = getD-set-other l b y v none z ∙ w .table y ∙ shown-other y z s
+
+      others : (y : ℕ) → (y ≡ b → ⊥) → getD (set l q v) y none ≡ shown (suc b) y
+      others y z = by-cases (eqb (getD l r none) unnumbered)
+          (λ t. let e : q ≡ r = rw t in ap (λ (x : ℕ). getD (set l x v) y none) e ∙ with-first y z (ℕ-discrete y r))
+          (λ t. let e : q ≡ b = rw t in let f : v ≡ getD l r none = rw t in ap (λ (x : ℕ). getD (set l x v) y none) e ∙ with-later f y z (ℕ-discrete y r))
+
       pub state-turns : (l′ : List ℕ) (n′ : ℕ) → Stepped p l b n l′ n′ → State l′ n′ (suc b)
       state-turns l′ n′ z = record {
         islands = z .count ∙ ap (λ (t : Bool). n + one t) first-is ∙ ap (λ (c : ℕ). c + one (leadsBy m low b)) (w .islands) ∙ sym (count-next (leadsBy m low) b);
-        table = λ y. ap (λ (t : List ℕ). getD t y none) (z .labels) ∙ at y (ℕ-discrete y b) (ℕ-discrete y r);
+        table = λ y. ap (λ (t : List ℕ). getD t y none) (z .labels) ∙ at y (ℕ-discrete y b);
       }
         where
-          v : ℕ
-          v = nextLabel p l b n
-
-          at : (y : ℕ) → Dec (y ≡ b) → Dec (y ≡ r) → getD (set (set l r v) b v) y none ≡ shown (suc b) y
-          at y (yes q) d = subst (λ (x : ℕ). getD (set (set l r v) b v) x none ≡ shown (suc b) x) (sym q)
-              (getD-set-same (set l r v) b v none (omega (arith, length-set l r v, long, k)) ∙ label-is ∙ sym shown-here)
-          at y (no q) (yes s) = getD-set-other (set l r v) b y v none q ∙ subst (λ (x : ℕ). getD (set l r v) x none ≡ shown (suc b) x) (sym s)
-              (getD-set-same l r v none r-inside ∙ label-is ∙ sym shown-root)
-          at y (no q) (no s) = getD-set-other (set l r v) b y v none q ∙ getD-set-other l r y v none s ∙ w .table y ∙ shown-other y q s
+          at : (y : ℕ) → Dec (y ≡ b) → getD (set (set l q v) b v) y none ≡ shown (suc b) y
+          at y (yes z) = subst (λ (x : ℕ). getD (set (set l q v) b v) x none ≡ shown (suc b) x) (sym z)
+              (getD-set-same (set l q v) b v none (omega (arith, length-set l q v, long, k)) ∙ label-is ∙ sym shown-here)
+          at y (no z) = getD-set-other (set l q v) b y v none z ∙ others y z
 
 -- ---- the loop, at body b: f has the flags
 abbrev waits : List ℕ → ℕ → Bool

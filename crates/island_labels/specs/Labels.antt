@@ -44,13 +44,16 @@ pub record Numberable (ts p l : List ℕ) : Type 0 where
 pub record Flagged (m : ℕ → Bool) (l : List ℕ) : Type 0 where
   pub labels : (x : ℕ) → getD l x none ≡ cond (m x) unnumbered none
 
--- body b with n islands before it: the label of its root, or n where that has no number yet, goes to the root and to the body
+-- body b with n islands before it: it gets the label of its root, or n where that has no number yet, and then so does the root
 abbrev pub nextLabel : List ℕ → List ℕ → ℕ → ℕ → ℕ
 nextLabel p l b n = cond (eqb (getD l (rootOf p b) none) unnumbered) n (getD l (rootOf p b) none)
 
+abbrev pub nextPlace : List ℕ → List ℕ → ℕ → ℕ
+nextPlace p l b = cond (eqb (getD l (rootOf p b) none) unnumbered) (rootOf p b) b
+
 pub record Stepped (p l : List ℕ) (b n : ℕ) (l′ : List ℕ) (n′ : ℕ) : Type 0 where
   pub count : n′ ≡ n + one (eqb (getD l (rootOf p b) none) unnumbered)
-  pub labels : l′ ≡ set (set l (rootOf p b) (nextLabel p l b n)) b (nextLabel p l b n)
+  pub labels : l′ ≡ set (set l (nextPlace p l b) (nextLabel p l b n)) b (nextLabel p l b n)
 
 -- the constrained bodies have the number of constrained lowest bodies below their own, any other has none
 pub record Numbered (m : ℕ → Bool) (low : ℕ → ℕ) (size islands : ℕ) (l : List ℕ) : Type 0 where

@@ -39,7 +39,8 @@ fn flag_bodies(body_types: &[u8], body_islands: &mut [u16])
 }
 
 // A body gets the label of its root; where that has no number yet, the body is the lowest of its set, and both get the next number.
-// Answers how many islands there are so far. There is no branch to guess wrong.
+// Answers how many islands there are so far. There is no branch to guess wrong, and the root's label is written once, so that no body
+// waits for the one before.
 fn number_one(parents: &[u16], body_islands: &mut [u16], body: usize, count: u16) -> u16
     requires { ⌜ Balanced (now parents) × (length (now parents) ≡ length (now «body_islands»)) × (body < length (now parents)) × (count ≤ 4096) ⌝ }
     ensures { λ r. ⌜ Stepped (now (parents .entry)) (now («body_islands» .entry)) body count (now («body_islands» .exit)) r ⌝ }
@@ -49,7 +50,8 @@ fn number_one(parents: &[u16], body_islands: &mut [u16], body: usize, count: u16
     let label = body_islands[root];
     let first = label == UNNUMBERED;
     let number = pick(first, count, label);
-    body_islands[root] = number;
+    let place = pick(first, found.root, body as u16);
+    body_islands[place as usize] = number;
     body_islands[body] = number;
     count + first as u16
 }

@@ -196,6 +196,7 @@ fn labelled_samples() {
         &[4, 5, 1, 2, 2, 4, 0, 3],
     );
     sample(b"root above lowest", &[2, 2, 2], &[1, 2, 0, 2]);
+    sample(b"lower root", &[2; 6], &[0, 5, 1, 2, 5, 2]);
     sample(b"static first", &[0, 2, 2, 2, 2], &[3, 4, 1, 2, 0, 1]);
 }
 
@@ -221,7 +222,8 @@ fn refused_samples() {
     );
 }
 
-// Every sample, in the order of the request's page but for the last, a size table that is too short.
+// Every sample, in the order of the request's page; besides, two pairs of which the lower body asked has the higher root, and a size
+// table that is too short.
 fn main() {
     dynamic_samples();
     eight_pairs();

@@ -1,5 +1,5 @@
 -- A union: the two lookups change no root, the loser of the two roots hangs under the winner, and that is `hang`; of a root and itself nothing changes.
-use Prim.Native.Nat.{ℕ, _+_, _-_, _*_, _≤_, _<_, min}
+use Prim.Native.Nat.{ℕ, _+_, _≤_, _<_, min}
 use native.Mathlib.Omega.{arith}
 use mathlib.Core.Path.{_≡_, refl, sym, ap, _∙_, subst, fun-ext}
 use mathlib.Core.Logic.{_⊎_, inl, inr, ⊎-elim}
@@ -16,20 +16,7 @@ use Rattle.island_sets.proofs.Links.{root-root}
 use Rattle.island_sets.proofs.Weights.{ends, root-inside, told-at}
 use Rattle.island_sets.proofs.Hangs.{moved, total-most, roots-hung, sets-hung}
 
--- ---- which root wins
-
--- size and root as one number
-pub left-wins : (m n u v : ℕ) → u < 65536 → v < 65536 → n * 65536 + u < m * 65536 + v → u ≡ winnerOf m n u v
-left-wins m n u v hu hv h = by-cases (ltb m n)
-    (λ t. absurd (omega (arith, h, hv, ltb-true m n t)))
-    (λ t. by-cases (ltb n m) (λ k. rw (t, k)) (λ k. rw (t, k) (omega (arith, h, ltb-false m n t, ltb-false n m k))))
-
-pub right-wins : (m n u v : ℕ) → u < 65536 → v < 65536 → m * 65536 + v ≤ n * 65536 + u → v ≡ winnerOf m n u v
-right-wins m n u v hu hv h = by-cases (ltb m n)
-    (λ t. rw t)
-    (λ t. by-cases (ltb n m) (λ k. absurd (omega (arith, h, hu, ltb-true n m k))) (λ k. rw (t, k) (omega (arith, h, ltb-false m n t, ltb-false n m k))))
-
--- the winner is one of the two, and its set is no smaller
+-- ---- which root wins: one of the two, and its set is no smaller
 one-wins : (m n u v : ℕ) → ((winnerOf m n u v ≡ u) × (n ≤ m)) ⊎ ((winnerOf m n u v ≡ v) × (m ≤ n))
 one-wins m n u v = by-cases (ltb m n)
     (λ t. inr (rw t, omega (arith, ltb-true m n t)))
@@ -88,41 +75,29 @@ module _ (p s : List ℕ) (h : Sets p s) (u v : ℕ) (ku : u < length p) (kv : v
       (λ w. omega (arith, total-most p s h v u kv ku ev eu (λ q. ne (sym q)) (w .1), h .few))
       (one-wins (getD s u 0) (getD s v 0) u v)
 
-  -- the winner t, the other root o, and the tables after the stores
-  module _ (t o : ℕ) (et : t ≡ winnerOf (getD s u 0) (getD s v 0) u v) (eo : o ≡ u + v - t) where
+  -- the tables after the stores, where t is the winner
+  module _ (t : ℕ) (et : t ≡ winnerOf (getD s u 0) (getD s v 0) u v) (p′ s′ : List ℕ) where
     abbrev Made : Type 0
-    Made = Sets (set p o t) (set s t (getD s u 0 + getD s v 0)) × (rootOf (set p o t) ≡ hang (length p) (rootOf p) u v)
+    Made = Sets p′ s′ × (rootOf p′ ≡ hang (length p) (rootOf p) u v)
 
-    under-left : t ≡ u → getD s v 0 ≤ getD s u 0 → Made
-    under-left e le =
-        let eq : o ≡ v = omega (arith, eo, e) in
-        rw (eq, e) (
-          sets-hung p s h u v ku kv eu ev ne le,
-          roots-hung p s h u v ku kv eu ev ne le ∙ fun-ext (λ z. moves-right u v (rootOf p z) (winner (length p) (rootOf p) u v) (winner-is ∙ sym et ∙ e)) ∙ hang-roots,
-        )
+    under-left : t ≡ u → getD s v 0 ≤ getD s u 0 → p′ ≡ set p v u → s′ ≡ set s u (getD s u 0 + getD s v 0) → Made
+    under-left e le ep es = rw (ep, es) (
+      sets-hung p s h u v ku kv eu ev ne le,
+      roots-hung p s h u v ku kv eu ev ne le ∙ fun-ext (λ z. moves-right u v (rootOf p z) (winner (length p) (rootOf p) u v) (winner-is ∙ sym et ∙ e)) ∙ hang-roots,
+    )
 
-    under-right : t ≡ v → getD s u 0 ≤ getD s v 0 → Made
-    under-right e le =
-        let eq : o ≡ u = omega (arith, eo, e) in
-        let en : v ≡ u → ⊥ = λ q. ne (sym q) in
-        let sum : getD s v 0 + getD s u 0 ≡ getD s u 0 + getD s v 0 = omega arith in
-        rw (eq, e) (
-          subst (λ (n : ℕ). Sets (set p u v) (set s v n)) sum (sets-hung p s h v u kv ku ev eu en le),
+    under-right : t ≡ v → getD s u 0 ≤ getD s v 0 → p′ ≡ set p u v → s′ ≡ set s v (getD s v 0 + getD s u 0) → Made
+    under-right e le ep es =
+        let en : v ≡ u → ⊥ = λ q. ne (sym q) in rw (ep, es) (
+          sets-hung p s h v u kv ku ev eu en le,
           roots-hung p s h v u kv ku ev eu en le ∙ fun-ext (λ z. moves-left u v (rootOf p z) (winner (length p) (rootOf p) u v) (winner-is ∙ sym et ∙ e)) ∙ hang-roots,
         )
 
-    pub joined-roots : Made
-    joined-roots = ⊎-elim (λ w. under-left (et ∙ w .0) (w .1)) (λ w. under-right (et ∙ w .0) (w .1)) (one-wins (getD s u 0) (getD s v 0) u v)
+    pub left-stays : t ≡ u → p′ ≡ set p v u → s′ ≡ set s u (getD s u 0 + getD s v 0) → Made
+    left-stays e = ⊎-elim (λ w. under-left e (w .1)) (λ w. absurd (ne (sym e ∙ et ∙ w .0))) (one-wins (getD s u 0) (getD s v 0) u v)
 
-    -- both places are in the tables
-    pub winner-inside : t < length p
-    winner-inside = ⊎-elim (λ w. omega (arith, et, w .0, ku)) (λ w. omega (arith, et, w .0, kv)) (one-wins (getD s u 0) (getD s v 0) u v)
-
-    pub loser-inside : o < length p
-    loser-inside = ⊎-elim (λ w. omega (arith, et, eo, w .0, kv)) (λ w. omega (arith, et, eo, w .0, ku)) (one-wins (getD s u 0) (getD s v 0) u v)
-
-    pub winner-most : t ≤ u + v
-    winner-most = ⊎-elim (λ w. omega (arith, et, w .0)) (λ w. omega (arith, et, w .0)) (one-wins (getD s u 0) (getD s v 0) u v)
+    pub right-stays : (t ≡ u → ⊥) → p′ ≡ set p u v → s′ ≡ set s v (getD s v 0 + getD s u 0) → Made
+    right-stays n = ⊎-elim (λ w. absurd (n (et ∙ w .0))) (λ w. under-right (et ∙ w .0) (w .1)) (one-wins (getD s u 0) (getD s v 0) u v)
 
 -- ---- p₀ at entry, p₁ and p₂ after the two lookups, which give u and v
 module _ (p₀ p₁ p₂ s : List ℕ) (a b u v : ℕ) (h : Sets p₀ s) (ka : a < length p₀) (kb : b < length p₀)

@@ -2,8 +2,8 @@
 // Internal: what an islands call joins its bodies with. A lookup compresses its way, and a union hangs the smaller set under the larger, so
 // that 2 to the number of links on a way is at most the number of bodies in the set: never more than 12 links among 4,096 bodies.
 ghost use mathlib.Core.Path.{_≡_};
-ghost use Prim.Native.Nat.{_<_, _≤_};
-ghost use lib.ListN.{length, replicate};
+ghost use Prim.Native.Nat.{_+_, _<_, _≤_};
+ghost use lib.ListN.{length, getD, set, replicate};
 ghost use Rattle.lists.specs.Basics.{range};
 ghost use Rattle.island_sets.specs.Sets.{rootOf, winnerOf, hang};
 ghost use Rattle.island_sets.specs.Steps.{Sets, Balanced, LookedUp, Shortened};
@@ -59,20 +59,34 @@ fn find(parents: &mut [u16], body: u16) -> Found
     found
 }
 
-// Which of two roots stays one: that of the larger set, and on equal sizes the lower. Size and root are compared as one number, with
-// one branch less to guess.
+// Which of two roots stays one: that of the larger set, and on equal sizes the lower.
 fn winner(size_left: u16, size_right: u16, left: u16, right: u16) -> u16
     ensures { λ r. ⌜ r ≡ winnerOf «size_left» «size_right» left right ⌝ }
 {
-    let weight_left = (size_left as usize) * 65536 + right as usize;
-    let weight_right = (size_right as usize) * 65536 + left as usize;
-    if weight_left > weight_right {
+    if size_left < size_right {
+        return right;
+    }
+    if size_right < size_left {
+        return left;
+    }
+    if left < right {
         return left;
     }
     right
 }
 
-// The sets of two different roots become one: one root is linked to the other, whose set grows. The size of the one stays as it was.
+// One root is linked to another, whose set grows; the size of the one stays as it was.
+fn link_under(parents: &mut [u16], sizes: &mut [u16], top: u16, under: u16)
+    requires { ⌜ (top < length (now sizes)) × (under < length (now sizes)) × (under < length (now parents)) × (getD (now sizes) top 0 + getD (now sizes) under 0 < 65536) ⌝ }
+    ensures { λ _. ⌜ (now (parents .exit) ≡ set (now (parents .entry)) under top)
+        × (now (sizes .exit) ≡ set (now (sizes .entry)) top (getD (now (sizes .entry)) top 0 + getD (now (sizes .entry)) under 0)) ⌝ }
+{
+    parents[under as usize] = top;
+    sizes[top as usize] = sizes[top as usize] + sizes[under as usize];
+}
+
+// The sets of two different roots become one. In long chains and stars the same side stays, so the branch is guessed right; without one
+// each union would wait for the sizes of the one before.
 fn join_roots(parents: &mut [u16], sizes: &mut [u16], left: u16, right: u16)
     requires { ⌜ Sets (now parents) (now sizes) × (left < length (now parents)) × (right < length (now parents))
         × (rootOf (now parents) left ≡ left) × (rootOf (now parents) right ≡ right) × (left ≡ right → ⊥) ⌝ }
@@ -81,10 +95,11 @@ fn join_roots(parents: &mut [u16], sizes: &mut [u16], left: u16, right: u16)
 {
     let size_left = sizes[left as usize];
     let size_right = sizes[right as usize];
-    let top = winner(size_left, size_right, left, right);
-    let under = left + right - top;
-    parents[under as usize] = top;
-    sizes[top as usize] = size_left + size_right;
+    if winner(size_left, size_right, left, right) == left {
+        link_under(parents, sizes, left, right);
+        return;
+    }
+    link_under(parents, sizes, right, left);
 }
 
 // The sets of `left` and `right` become one: the smaller hangs under the larger, and on equal sizes the lower root stays. A set joined

@@ -7,7 +7,7 @@ use lib.ListN.{length, getD, length-set}
 use Rattle.lists.proofs.Bits.{byte-one, one-le}
 use Rattle.island_sets.proofs.Weights.{root-inside}
 use Rattle.island_labels.specs.Labels.{unnumbered}
-use Rattle.island_labels.proofs.Numbering.{stepped}
+use Rattle.island_labels.proofs.Numbering.{stepped, place-in}
 use Rattle.island_labels.proofs.number_one.Statement.{statement}
 use Rattle.island_labels.proofs.number_one.Tie as tie
 
@@ -41,24 +41,47 @@ slice-read-label c = root-in c
 pick-requires : tie.Need-pick-requires
 pick-requires c κs = search needs
 
+-- the place that gets the number besides the body's own
+abbrev Placed : Type 0
+Placed = tie.After-pick2
+
+abbrev looked : Placed → Looked
+looked c = c .before .before
+
+place-inside : (c : Placed) → c .pick2 .result < length (start (looked c) .args .body-islands .now)
+place-inside c =
+    let d = looked c in
+    let a = start d .args in
+    let r = d .before .before .root-of in
+    place-in (a .parents .now) (a .body-islands .now) (a .body) (a .count) (r .result .root) (r .ensures .root) (root-in d) (c .pick2 .result) (c .pick2 .ensures) (omega (arith, start d .pre .1, start d .pre .2))
+
+cast-pick : tie.Need-cast-pick
+cast-pick c = search needs
+
+pick-requires-2 : tie.Need-pick-requires-2
+pick-requires-2 c κs = search needs
+
+cast-body-islands : tie.Need-cast-body-islands
+cast-body-islands c = search needs
+
 mul-body-islands : tie.Need-mul-body-islands
 mul-body-islands c = search needs
 
 slice-write-body-islands : tie.Need-slice-write-body-islands
-slice-write-body-islands c = root-in (c .before)
+slice-write-body-islands c = place-inside c
 
 mul-body-islands-2 : tie.Need-mul-body-islands-2
 mul-body-islands-2 c = search needs
 
 slice-write-body-islands-2 : tie.Need-slice-write-body-islands-2
-slice-write-body-islands-2 c = let s = start (c .before) in omega (arith, length-set (s .args .body-islands .now) (c .before .before .before .root-of .result .root) (c .pick .result), s .pre .1, s .pre .2)
+slice-write-body-islands-2 c = let s = start (looked c) in omega (arith, length-set (s .args .body-islands .now) (c .pick2 .result) (c .before .pick .result), s .pre .1, s .pre .2)
 
 cast-result : tie.Need-cast-result
 cast-result c = search needs
 
 add-result : tie.Need-add-result
 add-result c =
-    let d = c .before in
+    let d = looked c in
     let t = eqb (getD (start d .args .body-islands .now) (d .before .before .root-of .result .root) 0) unnumbered in
     omega (arith, byte-one t, one-le t, start d .pre .3)
 
@@ -67,11 +90,11 @@ same-length c = search needs
 
 returns : tie.Need-returns
 returns c =
-    let d = c .before in
+    let d = looked c in
     let a = start d .args in
     let r = d .before .before .root-of in
     let t = eqb (getD (a .body-islands .now) (r .result .root) 0) unnumbered in
-    stepped (a .parents .now) (a .body-islands .now) (a .body) (a .count) (r .result .root) (r .ensures .root) (root-in d) (c .pick .result) (c .pick .ensures) _ (omega (arith, byte-one t))
+    stepped (a .parents .now) (a .body-islands .now) (a .body) (a .count) (r .result .root) (r .ensures .root) (root-in d) (c .before .pick .result) (c .pick2 .result) (c .before .pick .ensures) (c .pick2 .ensures) _ (omega (arith, byte-one t))
 
 pub number-one-spec : {M : Type 1} → statement M
 number-one-spec =
@@ -83,6 +106,9 @@ number-one-spec =
     mul-label
     slice-read-label
     pick-requires
+    cast-pick
+    pick-requires-2
+    cast-body-islands
     mul-body-islands
     slice-write-body-islands
     mul-body-islands-2

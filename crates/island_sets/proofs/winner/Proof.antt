@@ -1,29 +1,20 @@
--- `island_sets::winner` meets its contract: a larger size decides, since a root is below 65,536; on equal sizes the lower root has the larger number.
+-- `island_sets::winner` meets its contract: each of its tests is one of the definition's.
 use native.Mathlib.Omega.{arith}
-use borrow.Author.Needs.{needs}
-use Rattle.island_sets.proofs.Unions.{left-wins, right-wins}
+use borrow.Author.Tests.{lt-ltb, le-ltb}
 use Rattle.island_sets.proofs.winner.Statement.{statement}
 use Rattle.island_sets.proofs.winner.Tie as tie
 
-mul-weight-left : tie.Need-mul-weight-left
-mul-weight-left c = search needs
-
-add-weight-left : tie.Need-add-weight-left
-add-weight-left c = search needs
-
-mul-weight-right : tie.Need-mul-weight-right
-mul-weight-right c = search needs
-
-add-weight-right : tie.Need-add-weight-right
-add-weight-right c = search needs
-
 returns : tie.Need-returns
-returns c = let a = c .before .args in left-wins (a .size-left) (a .size-right) (a .left) (a .right) (omega arith) (omega arith) (c .if1 .taken)
+returns c = let s = c .before in rw (lt-ltb (s .args .size-left) (s .args .size-right) (c .if1 .taken))
 
 returns-2 : tie.Need-returns-2
-returns-2 c = let a = c .before .args in right-wins (a .size-left) (a .size-right) (a .left) (a .right) (omega arith) (omega arith) (c .if1 .left)
+returns-2 c = let s = c .before .before in rw (le-ltb (s .args .size-left) (s .args .size-right) (c .before .if1 .left), lt-ltb (s .args .size-right) (s .args .size-left) (c .if2 .taken))
+
+returns-3 : tie.Need-returns-3
+returns-3 c = let s = c .before .before .before in rw (le-ltb (s .args .size-left) (s .args .size-right) (c .before .before .if1 .left), le-ltb (s .args .size-right) (s .args .size-left) (c .before .if2 .left)) (omega arith)
+
+returns-4 : tie.Need-returns-4
+returns-4 c = let s = c .before .before .before in rw (le-ltb (s .args .size-left) (s .args .size-right) (c .before .before .if1 .left), le-ltb (s .args .size-right) (s .args .size-left) (c .before .if2 .left)) (omega arith)
 
 pub winner-spec : {M : Type 1} → statement M
-winner-spec =
-    tie.close
-    (tie.spec mul-weight-left add-weight-left mul-weight-right add-weight-right returns returns-2)
+winner-spec = tie.close (tie.spec returns returns-2 returns-3 returns-4)
