@@ -4,9 +4,9 @@ mod run;
 use colored_bodies::BodyBinding;
 use frame::Frame;
 ghost use mathlib.Core.List.{[], _∷_};
-ghost use lib.ListN.{length, getD};
+ghost use lib.ListN.{getD};
 ghost use Rattle.frame.specs.Frames.{frameOf};
-ghost use Rattle.island.specs.Calls.{islandRefusal, Built};
+ghost use Rattle.island.specs.Calls.{islandTablesOf, roomsOf, islandRefusal, Built};
 ghost use Rattle.colored_bodies.specs.Answers.{Binds};
 ghost use Rattle.generator.specs.Calls.{Made};
 ghost use Rattle.plan_questions.specs.Plans.{tablesOf};
@@ -20,15 +20,17 @@ pub extern "C" fn engkarupi_islands(
     joints: &[u16],
     enabled: &[u8],
     parents: &mut [u16],
+    sizes: &mut [u16],
     body_islands: &mut [u16],
     manifold_islands: &mut [u16],
     joint_islands: &mut [u16],
     island_count: &mut u16,
 ) -> u8
     ensures { λ r. ⌜ Built (frameOf (now (types .entry)) (now (manifolds .entry)) (now (joints .entry)) (now (enabled .entry)))
-        (islandRefusal (now (types .entry)) (now (manifolds .entry)) (now (joints .entry)) (now (enabled .entry)) (record { parents = length (now (parents .entry)); bodies = length (now («body_islands» .entry)); manifolds = length (now («manifold_islands» .entry)); joints = length (now («joint_islands» .entry)) }))
-        (now (parents .entry)) (now («body_islands» .entry)) (now («manifold_islands» .entry)) (now («joint_islands» .entry))
-        (now (parents .exit)) (now («body_islands» .exit)) (now («manifold_islands» .exit)) (now («joint_islands» .exit))
+        (islandRefusal (now (types .entry)) (now (manifolds .entry)) (now (joints .entry)) (now (enabled .entry))
+        (roomsOf (islandTablesOf (now (parents .entry)) (now (sizes .entry)) (now («body_islands» .entry)) (now («manifold_islands» .entry)) (now («joint_islands» .entry)))))
+        (islandTablesOf (now (parents .entry)) (now (sizes .entry)) (now («body_islands» .entry)) (now («manifold_islands» .entry)) (now («joint_islands» .entry)))
+        (islandTablesOf (now (parents .exit)) (now (sizes .exit)) (now («body_islands» .exit)) (now («manifold_islands» .exit)) (now («joint_islands» .exit)))
         r (now («island_count» .exit)) ⌝ }
 {
     let answer = island::build_with_joints(
@@ -37,6 +39,7 @@ pub extern "C" fn engkarupi_islands(
         joints,
         enabled,
         parents,
+        sizes,
         body_islands,
         manifold_islands,
         joint_islands,

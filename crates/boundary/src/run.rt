@@ -1,4 +1,5 @@
 // The frame run for C and Rust.
+ghost use Rattle.island.specs.Calls.{islandTablesOf};
 ghost use Rattle.plan_questions.specs.Plans.{tablesOf};
 ghost use Rattle.frame_run.specs.Calls.{lentOf};
 ghost use Rattle.boundary.specs.Exports.{Runs};
@@ -8,6 +9,7 @@ ghost use Rattle.boundary.specs.Exports.{Runs};
 pub extern "C" fn engkarupi_run(
     frame: &[u8],
     parents: &mut [u16],
+    sizes: &mut [u16],
     body_islands: &mut [u16],
     manifold_islands: &mut [u16],
     joint_islands: &mut [u16],
@@ -34,14 +36,14 @@ pub extern "C" fn engkarupi_run(
     report: &mut [usize; 4],
 ) -> u8
     ensures { λ r. ⌜ Runs (now (frame .entry))
-        (lentOf (now (parents .entry)) (now («body_islands» .entry)) (now («manifold_islands» .entry)) (now («joint_islands» .entry))
+        (lentOf (islandTablesOf (now (parents .entry)) (now (sizes .entry)) (now («body_islands» .entry)) (now («manifold_islands» .entry)) (now («joint_islands» .entry)))
         (now (turns .entry)) (now (types .entry)) (now (flags .entry)) (now (pairs .entry))
         (now («island_pairs» .entry)) (now (enabled .entry)) (now (numbers .entry))
         (tablesOf (now («dynamic_bodies» .entry)) (now (endpoints .entry)) (now («body_offsets» .entry))
         (now («body_constraints» .entry)) (now («scratch_offsets» .entry)) (now («constraint_colors» .entry))
         (now («color_stamps» .entry)) (now («body_stamps» .entry)) (now («color_offsets» .entry))
         (now («colored_constraints» .entry)) (now («color_body_offsets» .entry)) (now («color_bodies» .entry)) (now («constraint_body_positions» .entry))))
-        (lentOf (now (parents .exit)) (now («body_islands» .exit)) (now («manifold_islands» .exit)) (now («joint_islands» .exit))
+        (lentOf (islandTablesOf (now (parents .exit)) (now (sizes .exit)) (now («body_islands» .exit)) (now («manifold_islands» .exit)) (now («joint_islands» .exit)))
         (now (turns .exit)) (now (types .exit)) (now (flags .exit)) (now (pairs .exit))
         (now («island_pairs» .exit)) (now (enabled .exit)) (now (numbers .exit))
         (tablesOf (now («dynamic_bodies» .exit)) (now (endpoints .exit)) (now («body_offsets» .exit))
@@ -52,6 +54,7 @@ pub extern "C" fn engkarupi_run(
     let answer = frame_run::run(
         frame,
         parents,
+        sizes,
         body_islands,
         manifold_islands,
         joint_islands,

@@ -14,9 +14,11 @@ use Rattle.generator.specs.Draws.{stateAfter}
 use Rattle.generator.specs.Calls.{Made}
 use Rattle.generator.specs.Lifts.{Lift}
 use Rattle.generator.proofs.Lifts.{lift-made, states-from-0}
-use Rattle.connected_sets.specs.Islands.{Connected, lowest, inIsland, islandCount, bodyLabel, label}
+use Rattle.island_sets.specs.Sets.{linksOf}
+use Rattle.connected_sets.specs.Islands.{Connected, lowest, inIsland, islandCount, bodyLabel, label, heaviest, setSize}
 use Rattle.island.specs.Calls.{IslandTables, Built}
 use Rattle.connected_sets.proofs.Theorem.{connected-label, label-connected, lowest-in, lowest-least, label-rises, body-below, label-each}
+use Rattle.connected_sets.proofs.Weights.{root-connected, connected-root}
 use Rattle.groups.specs.Groups.{Plan, flagged, free, usedBy, colorsOf}
 use Rattle.groups.proofs.Colors.{colors-snoc, free-new, free-least, proper}
 use Rattle.coloring.specs.Coloring.{Walked}
@@ -102,6 +104,20 @@ constraint-label = label-each
 -- After an accepted islands call, whatever its tables held before, the answer and the labels in the tables give these islands.
 pub islands-in-tables : (f : Frame) (t u : IslandTables) (number islands : ℕ) → Built f 0 t u number islands → IslandsRead f (u .manifold-islands) (u .joint-islands) islands
 islands-in-tables = islands-read
+
+-- ---- weighted union (document 02, request 7)
+
+-- The sets that it makes are the connected sets: bodies have one root exactly if they are connected.
+pub one-root-connected : (f : Frame) (x y : ℕ) → heaviest f x ≡ heaviest f y → Connected f x y
+one-root-connected = root-connected
+
+pub connected-one-root : (f : Frame) (x y : ℕ) → Connected f x y → heaviest f x ≡ heaviest f y
+connected-one-root = connected-root
+
+-- After an accepted islands call, 2 to the number of links from a body to its root is at most the number of bodies in its set.
+pub few-links : (f : Frame) (t u : IslandTables) (number islands b : ℕ) → Built f 0 t u number islands → b < length (f .types)
+    → 2 ^ linksOf (take (length (f .types)) (u .parents)) b ≤ setSize f b
+few-links f t u number islands b h = h .sets refl .links b
 
 -- ---- colors
 

@@ -1,3 +1,4 @@
 pub mod Joins
 pub mod Theorem
 pub mod Weights
+pub mod Samples

@@ -114,9 +114,12 @@ module _ (p : List ℕ) (m : ℕ → Bool) (low : ℕ → ℕ) where
     same-root x y e = eqb-true (rootOf p x) (rootOf p y) (o .same x y ∙ eq-eqb (low x) (low y) e)
 
     pub state-ends : (l : List ℕ) (n b : ℕ) → State l n b → b ≡ length p → Numbered m low b n l
-    state-ends l n b w e = record { islands-are = w .islands; labels-are = λ x. w .table x ∙ by-cases (m x)
-        (λ i. rw (i, or-left (ltb x b) (eqb (rootOf p x) x && ltb (low x) b) (lt-ltb x b (omega (arith, e, few x i)))))
-        (λ i. rw i) }
+    state-ends l n b w e = record {
+      islands-are = w .islands;
+      labels-are = λ x. w .table x ∙ by-cases (m x)
+          (λ i. rw (i, or-left (ltb x b) (eqb (rootOf p x) x && ltb (low x) b) (lt-ltb x b (omega (arith, e, few x i)))))
+          (λ i. rw i);
+    }
 
     -- ---- body b's turn
     module _ (l : List ℕ) (n b : ℕ) (w : State l n b) (k : b < length p) (long : length l ≡ length p) where
@@ -285,8 +288,10 @@ module _ (ts p l₀ f : List ℕ) (h : Numberable ts p l₀) (w : Flagged (inIsl
     }
 
     pub numbering-ends : length l ≤ b → NumberedByLowest ts p l₀ n l
-    numbering-ends k = record { numbered = λ low o. subst (λ (c : ℕ). Numbered (inIslandBy ts l₀) low c n l) (e ∙ h .long-parents)
-        (subst (λ (m : ℕ → Bool). Numbered m low b n l) waits-are (state-ends p (waits f) low (h .balanced) waits-inside together o l n b (v .states low o) e)) }
+    numbering-ends k = record {
+      numbered = λ low o. subst (λ (c : ℕ). Numbered (inIslandBy ts l₀) low c n l) (e ∙ h .long-parents)
+          (subst (λ (m : ℕ → Bool). Numbered m low b n l) waits-are (state-ends p (waits f) low (h .balanced) waits-inside together o l n b (v .states low o) e));
+    }
       where
         e : b ≡ length p
         e = omega (arith, k, long-now, v .inside)

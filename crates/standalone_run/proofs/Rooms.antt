@@ -21,10 +21,11 @@ use Rattle.standalone_run.specs.Runs.{roomyTurns, RanAlone}
 
 -- the largest sizes, but for the turn table
 pub record Ample (l : Lent) : Type 0 where
-  pub parents : 4096 ≤ length (l .parents)
-  pub body-islands : 4096 ≤ length (l .body-islands)
-  pub manifold-islands : 4096 ≤ length (l .manifold-islands)
-  pub joint-islands : 4096 ≤ length (l .joint-islands)
+  pub parents : 4096 ≤ length (l .islands .parents)
+  pub sizes : 4096 ≤ length (l .islands .sizes)
+  pub body-islands : 4096 ≤ length (l .islands .body-islands)
+  pub manifold-islands : 4096 ≤ length (l .islands .manifold-islands)
+  pub joint-islands : 4096 ≤ length (l .islands .joint-islands)
   pub types : 4096 ≤ length (l .types)
   pub flags : 4096 ≤ length (l .flags)
   pub pairs : 16384 ≤ length (l .pairs)
@@ -57,10 +58,11 @@ module _ (bs : List ℕ) (l : Lent) (h : Ample l) where
       let b = s .bodies in
       let m = s .manifolds in
       let j = s .joints in simp (
-        le-leb (countB bs) (length (l .parents)) (omega (arith, b, h .parents)),
-        le-leb (countB bs) (length (l .body-islands)) (omega (arith, b, h .body-islands)),
-        le-leb (countM bs) (length (l .manifold-islands)) (omega (arith, m, h .manifold-islands)),
-        le-leb (countJ bs) (length (l .joint-islands)) (omega (arith, j, h .joint-islands)),
+        le-leb (countB bs) (length (l .islands .parents)) (omega (arith, b, h .parents)),
+        le-leb (countB bs) (length (l .islands .sizes)) (omega (arith, b, h .sizes)),
+        le-leb (countB bs) (length (l .islands .body-islands)) (omega (arith, b, h .body-islands)),
+        le-leb (countM bs) (length (l .islands .manifold-islands)) (omega (arith, m, h .manifold-islands)),
+        le-leb (countJ bs) (length (l .islands .joint-islands)) (omega (arith, j, h .joint-islands)),
         le-leb (countB bs) (length (l .types)) (omega (arith, b, h .types)),
         le-leb (countB bs) (length (l .flags)) (omega (arith, b, h .flags)),
         le-leb (2 * (countM bs + countJ bs)) (length (l .pairs)) (omega (arith, m, j, h .pairs)),

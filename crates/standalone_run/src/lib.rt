@@ -8,6 +8,7 @@ pub fn run_file(file: &[u8], turns: &mut [u16]) -> Answer
     ensures { λ r. ⌜ RanAlone (now (file .entry)) (now (turns .entry)) (now (turns .exit)) r ⌝ }
 {
     let mut parents = [0u16; Frame::MAX_BODIES];
+    let mut sizes = [0u16; Frame::MAX_BODIES];
     let mut body_islands = [0u16; Frame::MAX_BODIES];
     let mut manifold_islands = [0u16; Frame::MAX_MANIFOLDS];
     let mut joint_islands = [0u16; Frame::MAX_JOINTS];
@@ -33,6 +34,7 @@ pub fn run_file(file: &[u8], turns: &mut [u16]) -> Answer
     frame_run::run(
         file,
         &mut parents,
+        &mut sizes,
         &mut body_islands,
         &mut manifold_islands,
         &mut joint_islands,

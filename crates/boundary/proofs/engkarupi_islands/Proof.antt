@@ -26,9 +26,12 @@ same-length-3 c = search needs
 same-length-4 : tie.Need-same-length-4
 same-length-4 c = search needs
 
+same-length-5 : tie.Need-same-length-5
+same-length-5 c = search needs
+
 returns : tie.Need-returns
 returns c =
-    let built = c .before .before .before .before .before .before .before .before .before .before .build-with-joints .ensures .built in
+    let built = c .before .before .before .before .before .before .before .before .before .before .before .before .build-with-joints .ensures .built in
     built-as (sym (c .refusal-of .ensures)) (sym (c .before .islands-of .ensures)) built
 
 pub engkarupi-islands-spec : {M : Type 1} → statement M
@@ -42,4 +45,5 @@ engkarupi-islands-spec =
     same-length-2
     same-length-3
     same-length-4
+    same-length-5
     returns)

@@ -56,7 +56,7 @@ returns-2 c =
     let n = length (a .body-types .now) in (
       f .ensures .0,
       f .ensures .1 ∙ ap (λ (m : ℕ). hang m (rootOf (a .parents .now)) (a .a) (a .b)) (s .pre .1)
-      ∙ join-on n (rootOf (a .parents .now)) (a .body-types .now) (a .a) (a .b) (u .result) (v .result) (u .ensures .0) (v .ensures .0) (v .ensures .1) (c .before .before .before .before .before .before .before .if1 .left),
+          ∙ join-on n (rootOf (a .parents .now)) (a .body-types .now) (a .a) (a .b) (u .result) (v .result) (u .ensures .0) (v .ensures .0) (v .ensures .1) (c .before .before .before .before .before .before .before .if1 .left),
     )
 
 pub join-dynamic-spec : {M : Type 1} → statement M

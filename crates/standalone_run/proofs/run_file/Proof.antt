@@ -4,6 +4,7 @@ use mathlib.Core.List.{List}
 use native.Mathlib.Omega.{arith}
 use borrow.Author.Needs.{needs}
 use lib.ListN.{length, replicate, length-replicate}
+use Rattle.island.specs.Calls.{islandTablesOf}
 use Rattle.frame_run.specs.Calls.{Lent}
 use Rattle.standalone_run.proofs.Rooms.{Ample, ran-alone}
 use Rattle.standalone_run.proofs.run_file.Statement.{statement}
@@ -15,10 +16,7 @@ zeros n = replicate n 0
 -- the tables as they are lent
 abbrev own : List ℕ → Lent
 own ts = record {
-  parents = zeros 4096;
-  body-islands = zeros 4096;
-  manifold-islands = zeros 4096;
-  joint-islands = zeros 4096;
+  islands = islandTablesOf (zeros 4096) (zeros 4096) (zeros 4096) (zeros 4096) (zeros 4096);
   turns = ts;
   types = zeros 4096;
   flags = zeros 4096;
@@ -49,6 +47,7 @@ long n = omega (arith, length-replicate {A = ℕ} n 0)
 ample : (ts : List ℕ) → Ample (own ts)
 ample ts = record {
   parents = long 4096;
+  sizes = long 4096;
   body-islands = long 4096;
   manifold-islands = long 4096;
   joint-islands = long 4096;
@@ -142,18 +141,21 @@ slice-aggregate-run-22 c = search needs
 slice-aggregate-run-23 : tie.Need-slice-aggregate-run-23
 slice-aggregate-run-23 c = search needs
 
+slice-aggregate-run-24 : tie.Need-slice-aggregate-run-24
+slice-aggregate-run-24 c = search needs
+
 run-requires : tie.Need-run-requires
 run-requires c κs = search needs
 
 -- the run, seen from the end, and the start from there
 abbrev ran : tie.After-constraint-body-positions2 → tie.After-run
-ran c = c .before .before .before .before .before .before .before .before .before .before .before .before .before .before .before .before .before .before .before .before .before .before .before .before .before
+ran c = c .before .before .before .before .before .before .before .before .before .before .before .before .before .before .before .before .before .before .before .before .before .before .before .before .before .before
 
 abbrev start : tie.After-run → tie.Start
-start w = w .before .before .before .before .before .before .before .before .before .before .before .before .before .before .before .before .before .before .before .before .before .before .before .before .before .before .before
+start w = w .before .before .before .before .before .before .before .before .before .before .before .before .before .before .before .before .before .before .before .before .before .before .before .before .before .before .before .before
 
 same-length : tie.Need-same-length
-same-length c = ran c .run .kept .1 .1 .1 .1 .1 .0
+same-length c = ran c .run .kept .1 .1 .1 .1 .1 .1 .0
 
 returns : tie.Need-returns
 returns c = ran-alone _ (own (start (ran c) .args .turns .now)) (ample (start (ran c) .args .turns .now)) _ _ (ran c .run .ensures)
@@ -185,6 +187,7 @@ run-file-spec =
     slice-aggregate-run-21
     slice-aggregate-run-22
     slice-aggregate-run-23
+    slice-aggregate-run-24
     run-requires
     same-length
     returns)

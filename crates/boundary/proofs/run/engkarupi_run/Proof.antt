@@ -7,7 +7,7 @@ use Rattle.boundary.proofs.run.engkarupi_run.Tie as tie
 
 -- the place after the run, seen from the end
 abbrev ran : tie.After-refusal-of → tie.After-run
-ran c = c .before .before .before .before .before .before .before .before .before .before .before .before .before .before .before .before .before .before .before .before .before .before .before .before .before .before .before .before .before .before .before .before .before .before .before .before .before .before .before .before .before .before .before .before .before .before .before .before .before .before .before
+ran c = c .before .before .before .before .before .before .before .before .before .before .before .before .before .before .before .before .before .before .before .before .before .before .before .before .before .before .before .before .before .before .before .before .before .before .before .before .before .before .before .before .before .before .before .before .before .before .before .before .before .before .before .before .before
 
 run-requires : tie.Need-run-requires
 run-requires c κs = search needs
@@ -90,6 +90,9 @@ same-length-23 c = ran c .run .kept .1 .1 .1 .1 .1 .1 .1 .1 .1 .1 .1 .1 .1 .1 .1
 same-length-24 : tie.Need-same-length-24
 same-length-24 c = ran c .run .kept .1 .1 .1 .1 .1 .1 .1 .1 .1 .1 .1 .1 .1 .1 .1 .1 .1 .1 .1 .1 .1 .1 .1 .1 .0
 
+same-length-25 : tie.Need-same-length-25
+same-length-25 c = ran c .run .kept .1 .1 .1 .1 .1 .1 .1 .1 .1 .1 .1 .1 .1 .1 .1 .1 .1 .1 .1 .1 .1 .1 .1 .1 .1 .0
+
 returns : tie.Need-returns
 returns c =
     record {
@@ -130,4 +133,5 @@ engkarupi-run-spec =
     same-length-22
     same-length-23
     same-length-24
+    same-length-25
     returns)
