@@ -24,6 +24,15 @@ fn pick(test: bool, yes: u16, no: u16) -> u16
     no
 }
 
+fn pick_place(test: bool, yes: usize, no: usize) -> usize
+    ensures { λ r. ⌜ r ≡ cond test yes no ⌝ }
+{
+    if test {
+        return yes;
+    }
+    no
+}
+
 // The bodies in islands, dynamic and constrained, have no number yet; any other has none. A loop of wide compares.
 fn flag_bodies(body_types: &[u8], body_islands: &mut [u16])
     requires { ⌜ length (now «body_islands») ≡ length (now «body_types») ⌝ }
@@ -50,8 +59,8 @@ fn number_one(parents: &[u16], body_islands: &mut [u16], body: usize, count: u16
     let label = body_islands[root];
     let first = label == UNNUMBERED;
     let number = pick(first, count, label);
-    let place = pick(first, found.root, body as u16);
-    body_islands[place as usize] = number;
+    let place = pick_place(first, root, body);
+    body_islands[place] = number;
     body_islands[body] = number;
     count + first as u16
 }

@@ -19,18 +19,21 @@ pub fn root_of(parents: &[u16], body: u16) -> Found
     requires { ⌜ Balanced (now parents) × (body < length (now parents)) ⌝ }
     ensures { λ r. ⌜ LookedUp (now (parents .entry)) body r ⌝ }
 {
-    let mut root = parents[body as usize];
-    let mut links = (root != body) as u16;
+    let mut root = parents[body as usize] as usize;
+    let mut links = (root != body as usize) as u16;
     // `root` is `links` links on from `body`.
     loop {
-        let parent = parents[root as usize];
+        let parent = parents[root] as usize;
         if parent == root {
             break;
         }
         root = parent;
         links += 1;
     }
-    Found { root, links }
+    Found {
+        root: root as u16,
+        links: links,
+    }
 }
 
 // Every body on the way from `start` to its root is linked to that root: `start` without a branch, as it is linked already if it has

@@ -43,29 +43,23 @@ pick-requires c κs = search needs
 
 -- the place that gets the number besides the body's own
 abbrev Placed : Type 0
-Placed = tie.After-pick2
+Placed = tie.After-pick-place
 
 abbrev looked : Placed → Looked
 looked c = c .before .before
 
-place-inside : (c : Placed) → c .pick2 .result < length (start (looked c) .args .body-islands .now)
+place-inside : (c : Placed) → c .pick-place .result < length (start (looked c) .args .body-islands .now)
 place-inside c =
     let d = looked c in
     let a = start d .args in
     let r = d .before .before .root-of in
-    place-in (a .parents .now) (a .body-islands .now) (a .body) (a .count) (r .result .root) (r .ensures .root) (root-in d) (c .pick2 .result) (c .pick2 .ensures) (omega (arith, start d .pre .1, start d .pre .2))
+    place-in (a .parents .now) (a .body-islands .now) (a .body) (a .count) (r .result .root) (r .ensures .root) (root-in d) (c .pick-place .result) (c .pick-place .ensures) (omega (arith, start d .pre .1, start d .pre .2))
 
-cast-pick : tie.Need-cast-pick
-cast-pick c = search needs
-
-pick-requires-2 : tie.Need-pick-requires-2
-pick-requires-2 c κs = search needs
-
-cast-body-islands : tie.Need-cast-body-islands
-cast-body-islands c = search needs
+pick-place-requires : tie.Need-pick-place-requires
+pick-place-requires c κs = search needs
 
 mul-body-islands : tie.Need-mul-body-islands
-mul-body-islands c = search needs
+mul-body-islands c = let s = start (looked c) in omega (arith, place-inside c, s .pre .1, s .pre .0 .1 .few)
 
 slice-write-body-islands : tie.Need-slice-write-body-islands
 slice-write-body-islands c = place-inside c
@@ -74,7 +68,7 @@ mul-body-islands-2 : tie.Need-mul-body-islands-2
 mul-body-islands-2 c = search needs
 
 slice-write-body-islands-2 : tie.Need-slice-write-body-islands-2
-slice-write-body-islands-2 c = let s = start (looked c) in omega (arith, length-set (s .args .body-islands .now) (c .pick2 .result) (c .before .pick .result), s .pre .1, s .pre .2)
+slice-write-body-islands-2 c = let s = start (looked c) in omega (arith, length-set (s .args .body-islands .now) (c .pick-place .result) (c .before .pick .result), s .pre .1, s .pre .2)
 
 cast-result : tie.Need-cast-result
 cast-result c = search needs
@@ -94,7 +88,7 @@ returns c =
     let a = start d .args in
     let r = d .before .before .root-of in
     let t = eqb (getD (a .body-islands .now) (r .result .root) 0) unnumbered in
-    stepped (a .parents .now) (a .body-islands .now) (a .body) (a .count) (r .result .root) (r .ensures .root) (root-in d) (c .before .pick .result) (c .pick2 .result) (c .before .pick .ensures) (c .pick2 .ensures) _ (omega (arith, byte-one t))
+    stepped (a .parents .now) (a .body-islands .now) (a .body) (a .count) (r .result .root) (r .ensures .root) (root-in d) (c .before .pick .result) (c .pick-place .result) (c .before .pick .ensures) (c .pick-place .ensures) _ (omega (arith, byte-one t))
 
 pub number-one-spec : {M : Type 1} → statement M
 number-one-spec =
@@ -106,9 +100,7 @@ number-one-spec =
     mul-label
     slice-read-label
     pick-requires
-    cast-pick
-    pick-requires-2
-    cast-body-islands
+    pick-place-requires
     mul-body-islands
     slice-write-body-islands
     mul-body-islands-2

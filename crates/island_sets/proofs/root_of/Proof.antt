@@ -30,6 +30,9 @@ mul-root c = search needs
 shared-slice-read-root : tie.Need-shared-slice-read-root Inv-loop μ-loop
 shared-slice-read-root c = search needs
 
+cast-root : tie.Need-cast-root Inv-loop μ-loop
+cast-root c = let s = c .before in let p = s .args .parents .now in omega (arith, read-inside p (s .pre .0) (s .args .body) (s .pre .1), s .pre .0 .1 .few)
+
 cast-links : tie.Need-cast-links Inv-loop μ-loop
 cast-links c = search needs
 
@@ -40,14 +43,17 @@ loop-holds c =
     let b = s .args .body in
     (read-inside p (s .pre .0) b (s .pre .1), read-root p (s .pre .0) b (s .pre .1), omega (arith, byte-one (not (eqb (getD p b 0) b)), first-link p (s .pre .0) b (s .pre .1)))
 
-cast-parent : tie.Need-cast-parent Inv-loop μ-loop
-cast-parent c = search needs
-
 mul-parent : tie.Need-mul-parent Inv-loop μ-loop
-mul-parent c = search needs
+mul-parent c = let s = c .before .before in omega (arith, c .loop .inv .0, s .pre .0 .1 .few)
 
 shared-slice-read-parent : tie.Need-shared-slice-read-parent Inv-loop μ-loop
-shared-slice-read-parent c = search needs
+shared-slice-read-parent c = c .before .loop .inv .0
+
+cast-parent : tie.Need-cast-parent Inv-loop μ-loop
+cast-parent c =
+    let s = start c in
+    let l = c .before .loop in
+    omega (arith, read-inside (s .args .parents .now) (s .pre .0) (l .root) (l .inv .0), s .pre .0 .1 .few)
 
 add-links : tie.Need-add-links Inv-loop μ-loop
 add-links c =
@@ -73,6 +79,9 @@ loop-again c =
       omega (arith, l .inv .2, read-links p (s .pre .0) (l .root) (l .inv .0) (c .if1 .left)),
     )
 
+cast-t9 : tie.Need-cast-t9 Inv-loop μ-loop
+cast-t9 c = let s = start (c .before) in omega (arith, c .before .before .loop .inv .0, s .pre .0 .1 .few)
+
 returns : tie.Need-returns Inv-loop μ-loop
 returns c =
     let s = start (c .before) in
@@ -93,12 +102,14 @@ root-of-spec =
     μ-loop
     mul-root
     shared-slice-read-root
+    cast-root
     cast-links
     loop-holds
-    cast-parent
     mul-parent
     shared-slice-read-parent
+    cast-parent
     add-links
     loop-less
     loop-again
+    cast-t9
     returns)
