@@ -64,6 +64,7 @@ hangAll nb root (e ∷ es) = hangAll nb (hang nb root (e .from) (e .to)) es
 unfoldable pub heaviest : Frame → ℕ → ℕ
 heaviest f = hangAll (length (f .types)) (λ x. x) (edges f (constraints f))
 
+-- how many bodies are connected with b
 unfoldable pub setSize : Frame → ℕ → ℕ
 setSize f b = sizeIn (length (f .types)) (lowest f) (lowest f b)
 

@@ -39,6 +39,7 @@ pub record Rooms : Type 0 where
   pub manifolds : ℕ
   pub joints : ℕ
 
+-- how many entries each table has
 abbrev pub roomsOf : IslandTables → Rooms
 roomsOf t = record {
   parents = length (t .parents);

@@ -15,15 +15,7 @@ pub const NONE: u16 = 65535;
 // The label of a body that is in an island and has no number yet.
 const UNNUMBERED: u16 = 65534;
 
-fn pick(test: bool, yes: u16, no: u16) -> u16
-    ensures { λ r. ⌜ r ≡ cond test yes no ⌝ }
-{
-    if test {
-        return yes;
-    }
-    no
-}
-
+// One of two places, by a test.
 fn pick_place(test: bool, yes: usize, no: usize) -> usize
     ensures { λ r. ⌜ r ≡ cond test yes no ⌝ }
 {
@@ -42,7 +34,7 @@ fn flag_bodies(body_types: &[u8], body_islands: &mut [u16])
     // The bodies passed are flagged, and the others have the labels that they had.
     while body < body_islands.len() {
         let in_island = (body_types[body] == 2) & (body_islands[body] != NONE);
-        body_islands[body] = pick(in_island, UNNUMBERED, NONE);
+        body_islands[body] = tables::pick(in_island, UNNUMBERED, NONE);
         body += 1;
     }
 }
@@ -54,11 +46,11 @@ fn number_one(parents: &[u16], body_islands: &mut [u16], body: usize, count: u16
     requires { ⌜ Balanced (now parents) × (length (now parents) ≡ length (now «body_islands»)) × (body < length (now parents)) × (count ≤ 4096) ⌝ }
     ensures { λ r. ⌜ Stepped (now (parents .entry)) (now («body_islands» .entry)) body count (now («body_islands» .exit)) r ⌝ }
 {
-    let found = island_sets::root_of(parents, body as u16);
+    let found = island_sets::root_of(parents, body);
     let root = found.root as usize;
     let label = body_islands[root];
     let first = label == UNNUMBERED;
-    let number = pick(first, count, label);
+    let number = tables::pick(first, count, label);
     let place = pick_place(first, root, body);
     body_islands[place] = number;
     body_islands[body] = number;

@@ -1,5 +1,5 @@
 -- A union: the two lookups change no root, the loser of the two roots hangs under the winner, and that is `hang`; of a root and itself nothing changes.
-use Prim.Native.Nat.{ℕ, _+_, _≤_, _<_, min}
+use Prim.Native.Nat.{ℕ, _+_, _-_, _≤_, _<_, min}
 use native.Mathlib.Omega.{arith}
 use mathlib.Core.Path.{_≡_, refl, sym, ap, _∙_, subst, fun-ext}
 use mathlib.Core.Logic.{_⊎_, inl, inr, ⊎-elim}
@@ -28,6 +28,12 @@ one-wins m n u v = by-cases (ltb m n)
     tie : winnerOf m n u v ≡ min u v → n ≤ m → m ≤ n → Dec (u ≤ v) → ((winnerOf m n u v ≡ u) × (n ≤ m)) ⊎ ((winnerOf m n u v ≡ v) × (m ≤ n))
     tie e a b (yes l) = inl (omega (arith, e, l), a)
     tie e a b (no l) = inr (omega (arith, e, l), b)
+
+pub top-most : (u v t m n : ℕ) → t ≡ winnerOf m n u v → t ≤ u + v
+top-most u v t m n e = ⊎-elim (λ w. omega (arith, e ∙ w .0)) (λ w. omega (arith, e ∙ w .0)) (one-wins m n u v)
+
+pub lower-is : (u v : ℕ) → cond (ltb u v) u v ≡ min u v
+lower-is u v = by-cases (ltb u v) (λ t. rw t (omega (arith, ltb-true u v t))) (λ t. rw t (omega (arith, ltb-false u v t)))
 
 wins-self : (m u : ℕ) → winnerOf m m u u ≡ u
 wins-self m u = ⊎-elim (λ w. w .0) (λ w. w .0) (one-wins m m u u)
@@ -98,6 +104,26 @@ module _ (p s : List ℕ) (h : Sets p s) (u v : ℕ) (ku : u < length p) (kv : v
 
     pub right-stays : (t ≡ u → ⊥) → p′ ≡ set p u v → s′ ≡ set s v (getD s v 0 + getD s u 0) → Made
     right-stays n = ⊎-elim (λ w. absurd (n (et ∙ w .0))) (λ w. under-right (et ∙ w .0) (w .1)) (one-wins (getD s u 0) (getD s v 0) u v)
+
+    -- the two as they are picked: the winner, and what is left of their sum
+    module _ (w : ℕ) (ew : w ≡ u + v - t) where
+      pub picked-fit : (t < length p) × (w < length p) × (getD s t 0 + getD s w 0 ≤ 4096)
+      picked-fit = ⊎-elim (λ k. fit u v (et ∙ k .0) (omega (arith, et ∙ k .0)) ku kv both-fit) (λ k. fit v u (et ∙ k .0) (omega (arith, et ∙ k .0)) kv ku (omega (arith, both-fit))) (one-wins (getD s u 0) (getD s v 0) u v)
+        where
+          fit : (x y : ℕ) → t ≡ x → w ≡ y → x < length p → y < length p → getD s x 0 + getD s y 0 ≤ 4096 → (t < length p) × (w < length p) × (getD s t 0 + getD s w 0 ≤ 4096)
+          fit x y ex ey kx ky k = rw (ex, ey) (kx, ky, k)
+
+      pub picked-stays : p′ ≡ set p w t → s′ ≡ set s t (getD s t 0 + getD s w 0) → Made
+      picked-stays ep es = ⊎-elim
+          (λ k. under-left (et ∙ k .0) (k .1) (ep ∙ stored (et ∙ k .0) (omega (arith, et ∙ k .0))) (es ∙ summed (et ∙ k .0) (omega (arith, et ∙ k .0))))
+          (λ k. under-right (et ∙ k .0) (k .1) (ep ∙ stored (et ∙ k .0) (omega (arith, et ∙ k .0))) (es ∙ summed (et ∙ k .0) (omega (arith, et ∙ k .0))))
+          (one-wins (getD s u 0) (getD s v 0) u v)
+        where
+          stored : {x y : ℕ} → t ≡ x → w ≡ y → set p w t ≡ set p y x
+          stored ex ey = rw (ex, ey)
+
+          summed : {x y : ℕ} → t ≡ x → w ≡ y → set s t (getD s t 0 + getD s w 0) ≡ set s x (getD s x 0 + getD s y 0)
+          summed ex ey = rw (ex, ey)
 
 -- ---- p₀ at entry, p₁ and p₂ after the two lookups, which give u and v
 module _ (p₀ p₁ p₂ s : List ℕ) (a b u v : ℕ) (h : Sets p₀ s) (ka : a < length p₀) (kb : b < length p₀)

@@ -50,6 +50,7 @@ sizeIn nb root r = count (λ (y : ℕ). eqb (root y) r) (range nb)
 abbrev pub winnerOf : ℕ → ℕ → ℕ → ℕ → ℕ
 winnerOf m n p q = cond (ltb m n) q (cond (ltb n m) p (min p q))
 
+-- of the roots p and q of two sets: the one that stays a root
 unfoldable pub winner : ℕ → (ℕ → ℕ) → ℕ → ℕ → ℕ
 winner nb root p q = winnerOf (sizeIn nb root p) (sizeIn nb root q) p q
 

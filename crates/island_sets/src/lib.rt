@@ -15,12 +15,12 @@ pub struct Found {
 }
 
 // Where the links of `body` end, and how many there are. The first link is followed without a branch: most ways have none or one.
-pub fn root_of(parents: &[u16], body: u16) -> Found
+pub fn root_of(parents: &[u16], body: usize) -> Found
     requires { ⌜ Balanced (now parents) × (body < length (now parents)) ⌝ }
     ensures { λ r. ⌜ LookedUp (now (parents .entry)) body r ⌝ }
 {
-    let mut root = parents[body as usize] as usize;
-    let mut links = (root != body as usize) as u16;
+    let mut root = parents[body] as usize;
+    let mut links = (root != body) as u16;
     // `root` is `links` links on from `body`.
     loop {
         let parent = parents[root] as usize;
@@ -57,10 +57,13 @@ fn find(parents: &mut [u16], body: u16) -> Found
     requires { ⌜ Balanced (now parents) × (body < length (now parents)) ⌝ }
     ensures { λ r. ⌜ LookedUp (now (parents .entry)) body r × Shortened (now (parents .entry)) (now (parents .exit)) ⌝ }
 {
-    let found = root_of(parents, body);
+    let found = root_of(parents, body as usize);
     compress(parents, body, found.root);
     found
 }
+
+// The number of bodies below which two sets are joined without a branch on their sizes.
+const FEW: u16 = 32;
 
 // Which of two roots stays one: that of the larger set, and on equal sizes the lower.
 fn winner(size_left: u16, size_right: u16, left: u16, right: u16) -> u16
@@ -78,6 +81,15 @@ fn winner(size_left: u16, size_right: u16, left: u16, right: u16) -> u16
     right
 }
 
+// The same without a branch.
+fn pick_winner(size_left: u16, size_right: u16, left: u16, right: u16) -> u16
+    ensures { λ r. ⌜ r ≡ winnerOf «size_left» «size_right» left right ⌝ }
+{
+    let lower = tables::pick(left < right, left, right);
+    let not_right = tables::pick(size_right < size_left, left, lower);
+    tables::pick(size_left < size_right, right, not_right)
+}
+
 // One root is linked to another, whose set grows; the size of the one stays as it was.
 fn link_under(parents: &mut [u16], sizes: &mut [u16], top: u16, under: u16)
     requires { ⌜ (top < length (now sizes)) × (under < length (now sizes)) × (under < length (now parents)) × (getD (now sizes) top 0 + getD (now sizes) under 0 < 65536) ⌝ }
@@ -88,8 +100,9 @@ fn link_under(parents: &mut [u16], sizes: &mut [u16], top: u16, under: u16)
     sizes[top as usize] = sizes[top as usize] + sizes[under as usize];
 }
 
-// The sets of two different roots become one. In long chains and stars the same side stays, so the branch is guessed right; without one
-// each union would wait for the sizes of the one before.
+// The sets of two different roots become one. Of few bodies either side may be the larger, and a wrong guess would cost more than the choice;
+// in long chains and stars the same side stays, so that a branch is guessed right, and without one each union would wait for the sizes of
+// the one before.
 fn join_roots(parents: &mut [u16], sizes: &mut [u16], left: u16, right: u16)
     requires { ⌜ Sets (now parents) (now sizes) × (left < length (now parents)) × (right < length (now parents))
         × (rootOf (now parents) left ≡ left) × (rootOf (now parents) right ≡ right) × (left ≡ right → ⊥) ⌝ }
@@ -98,6 +111,11 @@ fn join_roots(parents: &mut [u16], sizes: &mut [u16], left: u16, right: u16)
 {
     let size_left = sizes[left as usize];
     let size_right = sizes[right as usize];
+    if size_left + size_right < FEW {
+        let top = pick_winner(size_left, size_right, left, right);
+        link_under(parents, sizes, top, left + right - top);
+        return;
+    }
     if winner(size_left, size_right, left, right) == left {
         link_under(parents, sizes, left, right);
         return;

@@ -23,9 +23,6 @@ root-in c =
     let s = start c in
     omega (arith, c .before .before .root-of .ensures .root, root-inside (s .args .parents .now) (s .pre .0 .0) (s .pre .0 .1 .weighed) (s .args .body) (s .pre .2), s .pre .1)
 
-cast-root-of : tie.Need-cast-root-of
-cast-root-of c = search needs
-
 root-of-requires : tie.Need-root-of-requires
 root-of-requires c κs = search needs
 
@@ -94,7 +91,6 @@ pub number-one-spec : {M : Type 1} → statement M
 number-one-spec =
     tie.close
     (tie.spec
-    cast-root-of
     root-of-requires
     cast-root
     mul-label

@@ -79,8 +79,8 @@ loop-again c =
       omega (arith, l .inv .2, read-links p (s .pre .0) (l .root) (l .inv .0) (c .if1 .left)),
     )
 
-cast-t9 : tie.Need-cast-t9 Inv-loop μ-loop
-cast-t9 c = let s = start (c .before) in omega (arith, c .before .before .loop .inv .0, s .pre .0 .1 .few)
+cast-t8 : tie.Need-cast-t8 Inv-loop μ-loop
+cast-t8 c = let s = start (c .before) in omega (arith, c .before .before .loop .inv .0, s .pre .0 .1 .few)
 
 returns : tie.Need-returns Inv-loop μ-loop
 returns c =
@@ -111,5 +111,5 @@ root-of-spec =
     add-links
     loop-less
     loop-again
-    cast-t9
+    cast-t8
     returns)
