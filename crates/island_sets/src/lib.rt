@@ -8,6 +8,9 @@ ghost use Rattle.lists.specs.Basics.{range};
 ghost use Rattle.island_sets.specs.Sets.{rootOf, winnerOf, hang};
 ghost use Rattle.island_sets.specs.Steps.{Sets, Balanced, LookedUp, Shortened};
 
+// Of fewer bodies than this, two sets are joined without a branch on their sizes.
+const FEW: u16 = 32;
+
 // A set's root, and how many links a lookup followed to it.
 pub struct Found {
     pub root: u16,
@@ -61,9 +64,6 @@ fn find(parents: &mut [u16], body: u16) -> Found
     compress(parents, body, found.root);
     found
 }
-
-// The number of bodies below which two sets are joined without a branch on their sizes.
-const FEW: u16 = 32;
 
 // Which of two roots stays one: that of the larger set, and on equal sizes the lower.
 fn winner(size_left: u16, size_right: u16, left: u16, right: u16) -> u16
