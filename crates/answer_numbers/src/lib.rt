@@ -1,4 +1,6 @@
 // Answers as numbers, for the calls of C. Internal to the boundary.
+#![tactic(auto)]
+
 ghost use Rattle.std.specs.Prelude.{◌≡◌, cond, eqb, get_or};
 ghost use Rattle.colored_bodies.specs.Answers.{takeNumber, withBodies, Placed};
 ghost use Rattle.constraint_coloring.specs.Calls.{positionsNumber};

@@ -1,6 +1,8 @@
 // Bindings at document 01's take sample, at request 6's and at their limits. Each bind prints how many types and bodies it is given, its refusal and
 // the binding's count; each take its two positions, its refusal, and the two bodies if there is none, each with 1 for "dynamic".
 // `take` is the take by value, `take_at` the take over a binding lent by `&mut`.
+#![tactic(auto)]
+
 ghost use Rattle.std.specs.Prelude.{◌≡◌, [], ◌∷◌, length};
 ghost use Rattle.colored_bodies.specs.Answers.{Takes};
 

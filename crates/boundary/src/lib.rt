@@ -1,4 +1,6 @@
 // The calls for C and Rust: numbers and slices only. include/engkarupi.h says what each is lent and refuses.
+#![tactic(auto)]
+
 mod run;
 
 ghost use Rattle.std.specs.Prelude.{[], ◌∷◌, get_or};

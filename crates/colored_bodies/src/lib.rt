@@ -3,6 +3,8 @@
 // `bind` lists a group's bodies and marks held those that make conflicts, the dynamic and the logged ones. A take hands two bodies over,
 // in the order asked, and marks the held ones taken, so that none of these is handed over twice. `bind` refuses too many bodies (3),
 // unknown types (5) and a list that does not rise inside them (8); a take refuses bad positions (9) and bodies that are gone (10, 11).
+#![tactic(auto)]
+
 ghost use Rattle.std.specs.Prelude.{◌≡◌, ◌&&◌, cond, List, [], ◌∷◌, map, ℕ, ◌<◌, leb, eqb, take, replicate};
 ghost use Rattle.lists.specs.Basics.{rises};
 ghost use Rattle.colored_bodies.specs.Bindings.{lastBelow, bindRefusal, Known, mark_of, padded, bindOf, placed, spend, refusalFrom, marksFrom};
@@ -11,7 +13,7 @@ ghost use Rattle.colored_bodies.specs.Answers.{withBodies, Placed, Fillable, Bin
 use frame::Frame;
 
 // For each place a body number and a mark: 0 read-only, 1 held, and any other number taken.
-#[derive(Drop)]
+#[derive(Clone, Copy)]
 pub struct BodyBinding {
     pub bodies: [u16; Frame::MAX_BODIES],
     pub marks: [u8; Frame::MAX_BODIES],
@@ -19,14 +21,14 @@ pub struct BodyBinding {
 }
 
 // What bind answers: 0 and the binding, or the refusal's number and an empty one.
-#[derive(Drop)]
+#[derive(Clone, Copy)]
 pub struct Bound {
     pub refusal: u8,
     pub binding: BodyBinding,
 }
 
 // What a take answers: the two bodies in the order asked, each "dynamic" or "read-only", or the refusal's number.
-#[derive(Drop)]
+#[derive(Clone, Copy)]
 pub enum Take {
     Taken {
         first: u16,
@@ -38,14 +40,14 @@ pub enum Take {
 }
 
 // A take by value: the binding after it, and its answer.
-#[derive(Drop)]
+#[derive(Clone, Copy)]
 pub struct Step {
     pub binding: BodyBinding,
     pub take: Take,
 }
 
 // What a take of marks answers: a take's answer without the bodies' numbers.
-#[derive(Drop)]
+#[derive(Clone, Copy)]
 pub enum Marked {
     Taken {
         first_dynamic: bool,

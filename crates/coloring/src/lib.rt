@@ -3,6 +3,8 @@
 // order is ours. While a color is open, a dynamic body is busy (1, else 0) if a constraint of the color is on it: the color fits a
 // constraint if no body of it is busy. A walk lists the constraints of its color, in list order; when the color is closed they get its
 // number. Cost: a constraint is met once for each color up to its own.
+#![tactic(auto)]
+
 ghost use Rattle.std.specs.Prelude.{◌≡◌, true, ℕ, ◌<◌, ◌≤◌, ltb, length, get_or, take};
 ghost use Rattle.lists.specs.Basics.{all, range};
 ghost use Rattle.parts.specs.Parts.{Bounded, parts_at};

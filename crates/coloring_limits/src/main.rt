@@ -1,13 +1,15 @@
 // Updates at their limits, one plan on one set of tables, first on cleared tables and then on dirty ones: a line each with the case, the
 // refusal, whether the answer is "changed", the groups, the largest group and a checksum of the positions. Then one update on tables
 // of just the lengths that are asked for, and with each of them one place short.
+#![tactic(auto)]
+
 ghost use Rattle.std.specs.Prelude.{◌≡◌, ◌+◌, ◌*◌, ◌≤◌, length};
 
 use constraint_coloring::{ConstraintColoring, Update};
 
 // The input of an update: body 0 has the flag `first` and all others 1; the pairs start at (0, `b`), and from pair to pair the
 // first body grows by `a_step` and the second by `b_step`. If `last` is not 0, it is the last entry.
-#[derive(Drop)]
+#[derive(Clone, Copy)]
 struct Case {
     bodies: usize,
     entries: usize,
@@ -222,7 +224,7 @@ fn step(
 }
 
 // A plan and its tables.
-#[derive(Drop)]
+#[derive(Clone, Copy)]
 struct Stage {
     plan: ConstraintColoring,
     dynamic_bodies: [u8; 4096],

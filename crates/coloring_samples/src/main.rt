@@ -1,5 +1,7 @@
 // The samples of the coloring in the paper's order, each an update of a fresh plan: a line with the number of groups and the six places
 // of the color table, which hold 9 where no color goes. Every body has the stamp of group 0, as an earlier update may leave it.
+#![tactic(auto)]
+
 use constraint_coloring::{ConstraintColoring, Update};
 use libc::STDOUT_FILENO;
 

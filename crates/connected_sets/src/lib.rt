@@ -1,1 +1,2 @@
 // Islands as connected sets: definitions and laws, no code.
+#![tactic(auto)]

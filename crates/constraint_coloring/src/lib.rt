@@ -1,4 +1,6 @@
 // Conflict-free groups of constraints (constraint_coloring.rs): the plan that an update builds, and the lookups in it.
+#![tactic(auto)]
+
 ghost use Rattle.std.specs.Prelude.{◌≡◌, ◌≤◌, length};
 ghost use Rattle.lists.specs.Basics.{one, over};
 ghost use Rattle.groups.specs.Groups.{groupCount};
@@ -12,7 +14,7 @@ ghost use Rattle.constraint_coloring.specs.Stages.{Scheduled, Rebuilt};
 use frame::Frame;
 
 // What a plan carries by value; the rest stands in the tables that its caller lends.
-#[derive(Drop)]
+#[derive(Clone, Copy)]
 pub struct ConstraintColoring {
     pub body_count: usize,
     pub constraint_count: usize,
@@ -21,7 +23,7 @@ pub struct ConstraintColoring {
 }
 
 // The answer of an update: "changed" with the plan, "unchanged", or the number of the first question that got a "no".
-#[derive(Drop)]
+#[derive(Clone, Copy)]
 pub enum Update {
     Changed(ConstraintColoring),
     Unchanged,
@@ -60,7 +62,7 @@ pub fn plan_after(plan: ConstraintColoring, answer: Update) -> ConstraintColorin
 }
 
 // The answer of a lookup of positions: a's, then b's; or the number of the first question that got a "no".
-#[derive(Drop)]
+#[derive(Clone, Copy)]
 pub enum Positions {
     At(u16, u16),
     Refused(u8),

@@ -1,4 +1,6 @@
 // D, internal to the frame run: the largest number of constraints with an island on one body that makes conflicts.
+#![tactic(auto)]
+
 ghost use Rattle.std.specs.Prelude.{◌≤◌, ◌<◌, ◌≡◌, true, [], ◌∷◌, length, get_or};
 ghost use Rattle.lists.specs.Basics.{max_of, range};
 ghost use Rattle.frame.specs.Frames.{constraint, constraints, constraintsOf, frame_of, touches, allSound, degreeMax};

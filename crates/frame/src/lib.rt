@@ -1,6 +1,8 @@
 // Frames in the file form: the limits, questions 1 to 5 over a file's bytes, the decoding of an accepted file into lent
 // tables, and the questions that several calls put to their lists (5 and 7). `Frame::read` answers every byte string.
 // `decode` is internal: a stage of the frame run, which calls it on a file that `Frame::read` accepted.
+#![tactic(auto)]
+
 ghost use Rattle.std.specs.Prelude.{◌≡◌, ◌&&◌, map, ◌++◌, ◌+◌, ◌-◌, ◌*◌, ◌/◌, ◌%◌, ◌≤◌, ◌<◌, leb, ltb, eqb, length, get_or, take, drop};
 ghost use Rattle.lists.specs.Basics.{all};
 ghost use Rattle.frame.specs.Frames.{constraint, constraintsOf, sound, conflicts, flagOf};
@@ -17,7 +19,7 @@ pub const PAIR: usize = 4;
 pub const JOINT: usize = 5;
 
 // How many bodies, manifolds and joints a frame has.
-#[derive(Drop)]
+#[derive(Clone, Copy)]
 pub struct Frame {
     pub bodies: usize,
     pub manifolds: usize,
@@ -25,7 +27,7 @@ pub struct Frame {
 }
 
 // The answer of reading a file: its sizes, or the number of the first question that got a "no".
-#[derive(Drop)]
+#[derive(Clone, Copy)]
 pub enum Reading {
     Accepted(Frame),
     Refused(u8),

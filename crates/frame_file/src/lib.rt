@@ -1,6 +1,8 @@
 // Writing a frame in the file form, part by part where the file is to stand: the header, a pair of endpoints, and an enabled byte.
 // The caller has room. Internal: what `generate` writes with. The whole file is `fileOf` in specs/Written; proofs/Whole says that
 // the parts, each behind the one before, are the file, and proofs/Decoded that reading it gives the frame back.
+#![tactic(auto)]
+
 ghost use Rattle.std.specs.Prelude.{◌≡◌, true, ◌∷◌, [], ◌+◌, ◌≤◌, ◌<◌, length};
 ghost use Rattle.lists.specs.Basics.{put};
 ghost use Rattle.frame.specs.Questions.{fewEach};

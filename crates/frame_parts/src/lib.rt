@@ -1,5 +1,7 @@
 // What fills the tables of a decoded frame, internal to the run: its islands are built, D counted, and the constraints' numbers sorted by
 // island, on tables that hold the manifolds' part before the joints'.
+#![tactic(auto)]
+
 ghost use Rattle.std.specs.Prelude.{◌+◌, ◌*◌, ◌≤◌, ◌≡◌, cond, ◌++◌, eqb, length, take, drop};
 ghost use Rattle.frame.specs.Frames.{frame_of, degreeMax};
 ghost use Rattle.island.specs.Calls.{islandTablesOf, rooms_of, islandRefusal, Built};

@@ -1,5 +1,7 @@
 // One input read and printed: read, ask for the next piece, write it, until there is none. The pieces are made in `print_pieces`, which says
 // what they are. Nothing goes to standard error.
+#![tactic(auto)]
+
 ghost use Rattle.std.specs.Prelude.{◌≤◌, length};
 
 use libc::{STDIN_FILENO, STDOUT_FILENO};

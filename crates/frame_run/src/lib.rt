@@ -1,5 +1,7 @@
 // The frame run: from the bytes of a file to the turns of its constraints. Questions 1 to 6 are asked before anything is written; after
 // that the tables are filled (question 7), and each island in number order is colored and its groups taken.
+#![tactic(auto)]
+
 ghost use Rattle.frame.specs.Decodes.{Decodable};
 ghost use Rattle.island.specs.Calls.{islandTablesOf};
 ghost use Rattle.plan_questions.specs.Plans.{tables_of};

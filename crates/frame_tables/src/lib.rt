@@ -1,11 +1,13 @@
 // The tables of a frame, internal to the run: the file is decoded, its islands labelled (question 7), D counted, and the constraints'
 // numbers sorted by island.
+#![tactic(auto)]
+
 ghost use Rattle.frame.specs.Decodes.{Decodable};
 ghost use Rattle.island.specs.Calls.{islandTablesOf};
 ghost use Rattle.frame_tables.specs.Filled.{Roomy, Fills};
 
 // The refusal or 0, the island count, and D; all 0 after a refusal but its number.
-#[derive(Drop)]
+#[derive(Clone, Copy)]
 pub struct Filling {
     pub refusal: u8,
     pub islands: u16,

@@ -1,5 +1,6 @@
 // Gathering, internal: the stage of an update that lists the bodies of each group. A body that is met in a group gets the group's stamp, its
 // color plus 1, so that it is listed once.
+#![tactic(auto)]
 
 ghost use Rattle.std.specs.Prelude.{◌≡◌, [], ◌∷◌, ◌≤◌, ◌<◌, length};
 ghost use Rattle.lists.specs.Basics.{joinMap};

@@ -1,6 +1,8 @@
 // The program `generate_frame`: a line of four numbers from standard input, seed, bodies, manifolds and joints, in decimal and parted by
 // one space; the test lift that it asks for, in the file form, to standard output. A lift that can't be made is `refused N`. A line that
 // can't be read gets a message on standard error, and nothing goes to standard output. What is printed is made by `lift_print`.
+#![tactic(auto)]
+
 use frame::Frame;
 use libc::{STDERR_FILENO, STDIN_FILENO, STDOUT_FILENO};
 

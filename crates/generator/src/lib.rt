@@ -1,6 +1,8 @@
 // Test lifts from a number: one seed gives the same frame on every unit. A linear congruential generator draws the types, then the
 // manifolds' pairs, then the joints, each pair of two different bodies, straight into the lent bytes in the file form. `generate`
 // answers every seed and all sizes; its time is linear in the frame's bytes, and the largest frame has 40,971 of them.
+#![tactic(auto)]
+
 ghost use Rattle.std.specs.Prelude.{◌≡◌, ◌+◌, ◌*◌, ◌/◌, ◌%◌, ◌^◌, ◌<◌, ◌≤◌, true, [], ◌∷◌, ◌++◌, length};
 ghost use Rattle.lists.specs.Basics.{put, over};
 ghost use Rattle.frame.specs.Questions.{fewEach};
@@ -11,7 +13,7 @@ ghost use Rattle.generator.specs.Calls.{pairsPossible, generateRefusal, generate
 use frame::{HEADER, JOINT, PAIR};
 
 // The answer of `generate`: the frame's length, or the number of the first question that got a "no".
-#[derive(Drop)]
+#[derive(Clone, Copy)]
 pub enum Generated {
     Frame(usize),
     Refused(u8),

@@ -1,5 +1,7 @@
 // The samples of test lifts: for each its number, its length and all lent bytes in hexadecimal, or for a long one their sum and their
 // FNV-1a hash of 32 bits. The lent bytes are 0xab before the call.
+#![tactic(auto)]
+
 use frame::Frame;
 use generator::Generated;
 use libc::STDOUT_FILENO;

@@ -1,5 +1,7 @@
 // The groups of one island's plan, internal to the frame run: for each group in order its bodies are bound and its members taken, and
 // each take that is not refused appends a turn: island, group, constraint number.
+#![tactic(auto)]
+
 ghost use Rattle.std.specs.Prelude.{◌≡◌, [], ◌∷◌, ◌≤◌, get_or};
 ghost use Rattle.colored_bodies.specs.Bindings.{bindOf, Known};
 ghost use Rattle.schedules.specs.Runs.{callsFrom};

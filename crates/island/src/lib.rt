@@ -2,6 +2,8 @@
 // Every table is lent by the caller; a call that is refused says so by the number of the first question that got a "no".
 // Cost: two lookups for each live constraint between dynamic bodies and one for each body (crate island_sets, after Tarjan 1975), and else
 // a few passes over the bodies and the constraints.
+#![tactic(auto)]
+
 ghost use Rattle.std.specs.Prelude.{◌≡◌, ◌&&◌, [], ◌/◌, ◌%◌, ◌≤◌, eqb, length, replicate};
 ghost use Rattle.lists.specs.Basics.{range};
 ghost use Rattle.frame.specs.Frames.{frame_of, none};
@@ -13,7 +15,7 @@ ghost use Rattle.island.specs.Steps.{Sized, Ready, Labelled, BuiltSized};
 use island_labels::NONE;
 
 // How many islands there are, or the number of the first question that got a "no".
-#[derive(Drop)]
+#[derive(Clone, Copy)]
 pub enum Answer {
     Islands(u16),
     Refused(u8),

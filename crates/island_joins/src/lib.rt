@@ -1,4 +1,6 @@
 // The constraints of a frame are asked question 7 and joined, one after another. Internal: a stage of an islands call.
+#![tactic(auto)]
+
 ghost use Rattle.std.specs.Prelude.{◌≡◌, true, ◌∷◌, [], ◌<◌, length, set};
 ghost use Rattle.frame.specs.Frames.{constraint, constraints, constraintsOf, frame_of};
 ghost use Rattle.connected_sets.specs.Islands.{edgesOf, hangAll};

@@ -1,4 +1,6 @@
 // The labels of bodies and constraints, once the constraints are joined. Internal: stages of an islands call.
+#![tactic(auto)]
+
 ghost use Rattle.std.specs.Prelude.{◌≡◌, true, cond, map, ◌<◌, ◌≤◌, length};
 ghost use Rattle.lists.specs.Basics.{all};
 ghost use Rattle.frame.specs.Frames.{constraint, constraintsOf, sound};

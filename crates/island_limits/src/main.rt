@@ -1,9 +1,11 @@
 // Frames at the limits: prints for each its refusal, or how many islands it has, the last body's label, the sum of the bodies' labels
 // (none is 65535), and the parent of body 0 with the size there.
+#![tactic(auto)]
+
 ghost use Rattle.std.specs.Prelude.{◌≤◌, ◌<◌, length};
 
 // The chain 0-1, 1-2, 2-3, ..; the same chain from its other end, .., 3-2, 2-1, 1-0; every body on a hub, 0-hub, 1-hub, 2-hub, ..
-#[derive(Drop)]
+#[derive(Clone, Copy)]
 enum Shape {
     Rising,
     Falling,

@@ -1,4 +1,6 @@
 // The islands of the run, internal: one after another, each with its part of the sorted constraint numbers.
+#![tactic(auto)]
+
 ghost use Rattle.std.specs.Prelude.{◌++◌};
 ghost use Rattle.plan_questions.specs.Plans.{tables_of};
 ghost use Rattle.colored_bodies.specs.Bindings.{Known};

@@ -2,6 +2,8 @@
 // links to it and the size at the root, then the labels of bodies, manifolds and joints, where a dash is none. After a refusal the
 // two tables of parents and sizes are printed as they were left, with a dash for a place that was not lent. Every lent place holds 9
 // before the call.
+#![tactic(auto)]
+
 use island::Answer;
 use libc::STDOUT_FILENO;
 
@@ -9,14 +11,14 @@ use libc::STDOUT_FILENO;
 const NONE: usize = 65535;
 
 // Where the links of a body end, and how many there are.
-#[derive(Drop)]
+#[derive(Clone, Copy)]
 struct Way {
     root: usize,
     links: usize,
 }
 
 // What is printed of a body's set.
-#[derive(Drop)]
+#[derive(Clone, Copy)]
 enum Figure {
     Root,
     Links,

@@ -1,6 +1,8 @@
 // Sets of bodies by union-find (Tarjan 1975): each body links to a parent, and following the links ends at the root of its set.
 // Internal: what an islands call joins its bodies with. A lookup compresses its way, and a union hangs the smaller set under the larger, so
 // that 2 to the number of links on a way is at most the number of bodies in the set: never more than 12 links among 4,096 bodies.
+#![tactic(auto)]
+
 ghost use Rattle.std.specs.Prelude.{◌≡◌, ◌+◌, ◌<◌, ◌≤◌, length, get_or, set, replicate};
 ghost use Rattle.lists.specs.Basics.{range};
 ghost use Rattle.island_sets.specs.Sets.{rootOf, winnerOf, hang};
@@ -10,7 +12,7 @@ ghost use Rattle.island_sets.specs.Steps.{Sets, Balanced, LookedUp, Shortened};
 const FEW: u16 = 32;
 
 // A set's root, and how many links a lookup followed to it.
-#[derive(Drop)]
+#[derive(Clone, Copy)]
 pub struct Found {
     pub root: u16,
     pub links: u16,

@@ -1,17 +1,19 @@
 // Reads the line that asks for a test lift: seed, bodies, manifolds and joints, in decimal, parted by one space. `read_line` answers
 // every text. A number has at most 19 digits, so that 64 bits hold it.
+#![tactic(auto)]
+
 ghost use Rattle.std.specs.Prelude.{◌≡◌, ◌&&◌, ◌<◌, ltb, eqb, get_or};
 ghost use Rattle.lift_line.specs.Lines.{digit, end_of, numberAt, line_of};
 
 // What a line asks for.
-#[derive(Drop)]
+#[derive(Clone, Copy)]
 pub enum Line {
     Wanted(u32, usize, usize, usize),
     Unreadable,
 }
 
 // A number and the place after it.
-#[derive(Drop)]
+#[derive(Clone, Copy)]
 struct Number {
     value: usize,
     end: usize,

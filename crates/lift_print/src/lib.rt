@@ -1,5 +1,7 @@
 // What the program `generate_frame` prints for a text, made in a buffer: the test lift that its line asks for, a refusal, or nothing where the
 // line can't be read. Each function answers how many bytes it made.
+#![tactic(auto)]
+
 ghost use Rattle.std.specs.Prelude.{◌≡◌, length};
 ghost use Rattle.lift_line.specs.Lines.{line_of};
 ghost use Rattle.lift_print.specs.Prints.{liftOf, liftAsked, Printed};

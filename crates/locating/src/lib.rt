@@ -1,4 +1,5 @@
 // Locating, internal: the stage of an update that finds the positions of each constraint among its group's bodies.
+#![tactic(auto)]
 
 ghost use Rattle.std.specs.Prelude.{◌≡◌, true, map, ◌≤◌, ltb, length};
 ghost use Rattle.lists.specs.Basics.{all, mem, place, rises, joinMap};

@@ -1,4 +1,6 @@
 // One island of the run, internal: its constraints are colored on a fresh plan and its groups taken in order.
+#![tactic(auto)]
+
 ghost use Rattle.plan_questions.specs.Plans.{tables_of};
 ghost use Rattle.colored_bodies.specs.Bindings.{Known};
 ghost use Rattle.turn_table.specs.Turns.{Room, Appended};

@@ -1,5 +1,7 @@
 // Internal: the endpoints of a constraint are a part of the endpoint list, and a group is a part of its table. The stages of an update
 // read both here, so that they need not know how many endpoints a constraint has.
+#![tactic(auto)]
+
 ghost use Rattle.std.specs.Prelude.{◌*◌, ◌≤◌, ◌<◌, ◌≡◌, length};
 ghost use Rattle.parts.specs.Parts.{cut, Cut, Present, part_at};
 ghost use Rattle.parts.specs.Steps.{start_at, Ordered, widest};

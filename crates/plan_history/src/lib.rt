@@ -1,1 +1,2 @@
 // The memory of a plan: what its updates answer, one after another, and what it holds then. There is no code here.
+#![tactic(auto)]

@@ -1,5 +1,7 @@
 // What an update and the lookups of a plan ask, internal but for `roomy`: room, questions 3 to 7, whether the input is the
 // remembered one, and the part of a group.
+#![tactic(auto)]
+
 ghost use Rattle.std.specs.Prelude.{◌≡◌, ◌&&◌, ◌+◌, ◌*◌, ◌/◌, ◌≤◌, leb, eqb, length, take};
 ghost use Rattle.lists.specs.Basics.{same};
 ghost use Rattle.plan_questions.specs.Plans.{updateRefusal, part, groupPart};

@@ -1,5 +1,7 @@
 // Fields of a print, put into a lent buffer from a place on: a number, and a word with a number. Each answers the place after what it
 // wrote. Internal: the caller has room.
+#![tactic(auto)]
+
 ghost use Rattle.std.specs.Prelude.{◌≡◌, ◌∷◌, [], ◌++◌, ◌+◌, ◌≤◌, ◌<◌, length};
 ghost use Rattle.schedules.specs.Print.{decimal};
 ghost use Rattle.print_fields.specs.Puts.{Put};

@@ -1,6 +1,8 @@
 // What the program `turns` prints for one input, made piece by piece in a buffer: the first line, a run's head or a refusal, and a line a
 // turn. A piece is as much as the buffer has room for; a piece of no bytes says that all is printed. Input above the longest frame's
 // length is refused 3 before any question. The pieces from first to last are the whole print (`WholePrint` in specs/Pieces).
+#![tactic(auto)]
+
 ghost use Rattle.std.specs.Prelude.{◌*◌, ◌≤◌, ◌≡◌, true, length, take};
 ghost use Rattle.print_fields.specs.Puts.{Put, longest};
 ghost use Rattle.printing.specs.Turns.{Lines};
@@ -28,7 +30,7 @@ pub fn buffers_fit() -> bool
 }
 
 // A piece: its bytes in the buffer, how many turns the run has, and the first turn that is left to print.
-#[derive(Drop)]
+#[derive(Clone, Copy)]
 pub struct Piece {
     pub size: usize,
     pub turns: usize,

@@ -1,6 +1,8 @@
 // The bytes that the program `turns` prints, appended to a lent buffer: a head, a line of a turn, a refusal, and the
 // lines of a turn table as far as the buffer goes. The public functions answer every buffer and every place: where
 // fewer than `MAX_LINE` bytes are left they write nothing. Each answers the place after what it wrote.
+#![tactic(auto)]
+
 ghost use Rattle.std.specs.Prelude.{◌≡◌, ◌∷◌, [], ◌+◌, leb, length};
 ghost use Rattle.schedules.specs.Print.{head_of, turnLine, refusalLine};
 ghost use Rattle.print_fields.specs.Puts.{Put, longest, ifRoom};
@@ -10,7 +12,7 @@ ghost use Rattle.printing.specs.Turns.{ifReady, Lines};
 pub const MAX_LINE: usize = 111;
 
 // How far the lines of a turn table were gathered: the place after them, and the first turn that is left.
-#[derive(Drop)]
+#[derive(Clone, Copy)]
 pub struct Gathered {
     pub at: usize,
     pub turn: usize,

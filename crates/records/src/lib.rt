@@ -1,4 +1,6 @@
 // The oracle's stored answers, as the programs that replay them read, make and compare them: bytes, with numbers of 16 bits high byte first.
+#![tactic(auto)]
+
 ghost use Rattle.std.specs.Prelude.{◌-◌, ◌≤◌};
 
 // ---- reading a question: past its end every byte is 0
@@ -107,7 +109,7 @@ fn sum_of(bytes: &[u8], start: u32) -> u32 {
 // A record is a kind, the lengths of its question and its answer in 16 bits each, the question, the answer. A head of zeros ends the list.
 
 // A record that was read: its kind, the two lengths, and the sum of the list's bytes so far.
-#[derive(Drop)]
+#[derive(Clone, Copy)]
 pub struct Record {
     pub kind: u8,
     pub question: usize,
@@ -116,7 +118,7 @@ pub struct Record {
 }
 
 // What was replayed: the program's two counts, how many answers differ, the sum of the bytes, and how many records may follow.
-#[derive(Drop)]
+#[derive(Clone, Copy)]
 pub struct Tally {
     pub first: u64,
     pub second: u64,

@@ -4,7 +4,7 @@ use constraint_coloring::{ConstraintColoring, Positions, Update};
 use records::{after, least, number_at, put, put_bytes, put_half, put_halves};
 
 // Where the next update stands and the next answer goes; the plan, and its tables, which have room for 7 bodies and 7 constraints.
-#[derive(Drop)]
+#[derive(Clone, Copy)]
 struct Stage {
     place: usize,
     next: usize,

@@ -3,6 +3,8 @@
 // over all bytes of the list.
 //
 // The list is records of kind 1, a history of updates, and 2, a binding with takes.
+#![tactic(auto)]
+
 mod bindings;
 mod histories;
 mod questions;

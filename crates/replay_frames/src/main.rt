@@ -4,6 +4,8 @@
 //
 // The list is records of kind 1. A question is the length of the turn table in 16 bits, and the file. An answer is the refusal or 0,
 // the four numbers and the turn table in 16 bits each. The other tables have the largest frame's sizes.
+#![tactic(auto)]
+
 ghost use Rattle.std.specs.Prelude.{◌-◌, ◌≤◌};
 
 use records::{

@@ -1,5 +1,7 @@
 // What a run asks before it begins, and what it answers. The questions and the report of a frame that was not refused are internal: stages
 // of the frame run.
+#![tactic(auto)]
+
 ghost use Rattle.std.specs.Prelude.{◌+◌, ◌*◌, ◌≤◌, ◌≡◌, ◌&&◌, cond, leb, eqb};
 ghost use Rattle.run_answer.specs.Answers.{runNumber, runReport, Asks, AnswerOf};
 
@@ -8,7 +10,7 @@ use frame_tables::Filling;
 use turn_table::Tally;
 
 // What a run carries: islands, turns, takes, and D, the largest number of constraints with an island on one body that makes conflicts.
-#[derive(Drop)]
+#[derive(Clone, Copy)]
 pub struct Report {
     pub islands: usize,
     pub turns: usize,
@@ -17,7 +19,7 @@ pub struct Report {
 }
 
 // The answer of a run: its report, or the number of the first question that got a "no".
-#[derive(Drop)]
+#[derive(Clone, Copy)]
 pub enum Answer {
     Ran(Report),
     Refused(u8),
@@ -101,7 +103,7 @@ fn first_refusal(read: u8, room: bool) -> u8
 }
 
 // What questions 1 to 6 answer: the refusal or 0, and the sizes of a file that was read.
-#[derive(Drop)]
+#[derive(Clone, Copy)]
 pub struct Asked {
     pub refusal: u8,
     pub bodies: usize,

@@ -1,4 +1,6 @@
 // The run of a file on tables of its own, for programs: all but the turn table have the largest frame's sizes.
+#![tactic(auto)]
+
 ghost use Rattle.standalone_run.specs.Runs.{RanAlone};
 
 use frame::Frame;

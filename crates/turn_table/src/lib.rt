@@ -1,4 +1,6 @@
 // The turn table, internal to the frame run: a take that is not refused appends a turn, island, group and constraint number.
+#![tactic(auto)]
+
 ghost use Rattle.std.specs.Prelude.{◌≡◌, [], ◌∷◌, ◌+◌, ◌≤◌, length};
 ghost use Rattle.lists.specs.Basics.{put};
 ghost use Rattle.turn_table.specs.Turns.{addedByTake, Room, Appended, none};
@@ -6,7 +8,7 @@ ghost use Rattle.turn_table.specs.Turns.{addedByTake, Room, Appended, none};
 use colored_bodies::Marked;
 
 // The next place of the turn table, and how many dynamic bodies were taken.
-#[derive(Drop)]
+#[derive(Clone, Copy)]
 pub struct Tally {
     pub place: usize,
     pub takes: usize,

@@ -1,5 +1,7 @@
 // What the program `turns` writes for each of several inputs: their number in one byte, then each after its length in three, the
 // high one first.
+#![tactic(auto)]
+
 use libc::STDIN_FILENO;
 
 fn length_of(high: u8, middle: u8, low: u8) -> usize {
