@@ -62,10 +62,10 @@ fn main() {
     println!("cargo::rustc-env=KAPITSA_COLLISION={}", collision.display());
 
     if env::var_os("CARGO_FEATURE_OURS").is_some() {
-        let folder = repository.join("target/staticlib");
+        let folder = repository.join("crates/boundary/out");
         let archive = folder.join("libboundary.a");
         if !archive.is_file() {
-            println!("cargo::error=no {}: run `rt staticlib boundary` first", archive.display());
+            println!("cargo::error=no {}: run `rt lib` in crates/boundary first", archive.display());
             return;
         }
         println!("cargo::rerun-if-changed={}", archive.display());

@@ -1,8 +1,8 @@
 /* The frame run from C: prints what the program `turns` prints of a frame on standard input.
  *
- *     rt staticlib boundary
- *     cc -std=c99 -Iinclude samples/run.c target/staticlib/libboundary.a -o target/run
- *     target/run < samples/lift.frame
+ *     (cd crates/boundary && rt lib)
+ *     cc -std=c99 -Iinclude samples/run.c crates/boundary/out/libboundary.a -o run
+ *     ./run < samples/lift.frame
  */
 #include <stdio.h>
 

@@ -6,8 +6,8 @@ fn main() {
     let mut words = std::env::args().skip(1);
     let more = words.next().map_or(1, |n| n.parse().expect("how many times the default"));
     let mut program = |default: &str| words.next().unwrap_or(default.to_string()).into();
-    let turns = program("../target/bin/turns");
-    let generate_frame = program("../target/bin/generate_frame");
+    let turns = program("../crates/turns/out/turns");
+    let generate_frame = program("../crates/generate_frame/out/generate_frame");
     let sample = program("../target/run");
     oracle::compare::compare(&oracle::kapitsa::Rust, &Ours { turns, generate_frame, sample }, more);
 }
