@@ -3,24 +3,26 @@
 #![tactic(auto)]
 
 use constraint_coloring::{ConstraintColoring, Update};
-use libc::STDOUT_FILENO;
+
+// Standard streams, by their file descriptors.
+const STDOUT: i32 = 1;
 
 fn put(n: u16) {
-    io::write_all(STDOUT_FILENO, b" ");
-    io::print_decimal(STDOUT_FILENO, n as u64);
+    io::write_all(STDOUT, b" ");
+    io::print_decimal(STDOUT, n as u64);
 }
 
 fn show(answer: Update, constraint_colors: &[u16; 6]) {
     match answer {
         Update::Changed(plan) => {
-            io::print_decimal(STDOUT_FILENO, plan.color_count as u64);
+            io::print_decimal(STDOUT, plan.color_count as u64);
         }
         Update::Unchanged => {
-            io::write_all(STDOUT_FILENO, b"unchanged");
+            io::write_all(STDOUT, b"unchanged");
         }
         Update::Refused(number) => {
-            io::write_all(STDOUT_FILENO, b"refused ");
-            io::print_decimal(STDOUT_FILENO, number as u64);
+            io::write_all(STDOUT, b"refused ");
+            io::print_decimal(STDOUT, number as u64);
         }
     }
     put(constraint_colors[0]);
@@ -29,7 +31,7 @@ fn show(answer: Update, constraint_colors: &[u16; 6]) {
     put(constraint_colors[3]);
     put(constraint_colors[4]);
     put(constraint_colors[5]);
-    io::write_all(STDOUT_FILENO, b"\n");
+    io::write_all(STDOUT, b"\n");
 }
 
 // At most 5 bodies and 6 constraints.

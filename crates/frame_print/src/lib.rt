@@ -4,12 +4,16 @@
 
 ghost use Rattle.std.specs.Prelude.{◌≤◌, length};
 
-use libc::{STDIN_FILENO, STDOUT_FILENO};
+// Standard streams, by their file descriptors.
+const STDIN: i32 = 0;
+
+const STDOUT: i32 = 1;
+
 
 fn write_first(text: &[u8], size: usize)
     requires { size ≤ length text.now }
 {
-    io::write_all(STDOUT_FILENO, &text[..size]);
+    io::write_all(STDOUT, &text[..size]);
 }
 
 // Prints an input.
@@ -27,6 +31,6 @@ pub fn print_frame(frame: &[u8]) {
 // Prints what standard input holds, as far as one byte past the longest frame.
 pub fn print_input() {
     let mut frame = [0u8; print_pieces::INPUT];
-    let size = io::read_full(STDIN_FILENO, &mut frame);
+    let size = io::read_full(STDIN, &mut frame);
     print_frame(&frame[..size]);
 }

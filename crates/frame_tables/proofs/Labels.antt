@@ -30,6 +30,7 @@ module _ {A : Type 0} where
   any-listed p (x ∷ xs) h = or_cases (p x) (any p xs) h (λ e. (x, Memᴰ.head refl, e)) (λ k. let o = any-listed p xs k in (o.0, Memᴰ.tail o.1, o.2))
 
   mem-listed : (g : A → ℕ) (x : A) (xs : List A) → Memᴰ x xs → mem (g x) (map g xs) ≡ true
+  mem-listed g x [] m = elim m [ ]
   mem-listed g x (y ∷ ys) m =
       ⊎_elim
       (λ e. or_left (eqb (g x) (g y)) (mem (g x) (map g ys)) (eq-eqb (g x) (g y) (ap g e)))

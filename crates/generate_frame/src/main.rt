@@ -4,7 +4,13 @@
 #![tactic(auto)]
 
 use frame::Frame;
-use libc::{STDERR_FILENO, STDIN_FILENO, STDOUT_FILENO};
+
+// Standard streams, by their file descriptors.
+const STDERR: i32 = 2;
+
+const STDIN: i32 = 0;
+
+const STDOUT: i32 = 1;
 
 // One byte more than a line can have that is read: four numbers of 19 digits and three spaces.
 const LINE: usize = 80;
@@ -12,13 +18,13 @@ const LINE: usize = 80;
 // Writes the first bytes of a text. (The caller has them.)
 fn write_first(text: &[u8], size: usize) {
     if size <= text.len() {
-        io::write_all(STDOUT_FILENO, &text[..size]);
+        io::write_all(STDOUT, &text[..size]);
     }
 }
 
 fn complain() {
     io::write_all(
-        STDERR_FILENO,
+        STDERR,
         b"generate_frame: write one line of four numbers of at most 19 digits, parted by one space: seed bodies manifolds joints (the seed at most 4294967295)\n",
     );
 }
@@ -26,7 +32,7 @@ fn complain() {
 fn main() {
     let mut text = [0u8; LINE];
     let mut out = [0u8; Frame::MAX_BYTES];
-    let read = io::read_full(STDIN_FILENO, &mut text);
+    let read = io::read_full(STDIN, &mut text);
     let size = lift_print::put_print(&text[..read], &mut out);
     if size == 0 {
         complain();

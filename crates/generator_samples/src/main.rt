@@ -4,20 +4,22 @@
 
 use frame::Frame;
 use generator::Generated;
-use libc::STDOUT_FILENO;
+
+// Standard streams, by their file descriptors.
+const STDOUT: i32 = 1;
 
 fn wide(x: u8) -> u32 {
     x as u32
 }
 
 fn write_number(word: &[u8], n: u64) {
-    io::write_all(STDOUT_FILENO, word);
-    io::print_decimal(STDOUT_FILENO, n);
+    io::write_all(STDOUT, word);
+    io::print_decimal(STDOUT, n);
 }
 
 // The answer's number, 0 where a frame was made, and the frame's length, 0 where it was refused.
 fn write_answer(name: &[u8], answer: Generated) {
-    io::write_all(STDOUT_FILENO, name);
+    io::write_all(STDOUT, name);
     match answer {
         Generated::Frame(length) => {
             write_number(b" ", 0);
@@ -34,7 +36,7 @@ fn write_hex(bytes: &[u8]) {
     let mut i = 0;
     // The first i bytes are printed.
     while i < bytes.len() {
-        io::print_hex(STDOUT_FILENO, wide(bytes[i]) as u64, 2);
+        io::print_hex(STDOUT, wide(bytes[i]) as u64, 2);
         i += 1;
     }
 }
@@ -72,10 +74,10 @@ fn show_bytes(
     let answer = generator::generate(seed, bodies, manifolds, joints, bytes);
     write_answer(name, answer);
     if 0 < bytes.len() {
-        io::write_all(STDOUT_FILENO, b" ");
+        io::write_all(STDOUT, b" ");
     }
     write_hex(bytes);
-    io::write_all(STDOUT_FILENO, b"\n");
+    io::write_all(STDOUT, b"\n");
 }
 
 fn show_sums(
@@ -90,7 +92,7 @@ fn show_sums(
     write_answer(name, answer);
     write_number(b" sum ", sum(bytes) as u64);
     write_number(b" fnv ", fnv(bytes) as u64);
-    io::write_all(STDOUT_FILENO, b"\n");
+    io::write_all(STDOUT, b"\n");
 }
 
 // A sample with at most 99 bytes lent.

@@ -5,7 +5,9 @@
 #![tactic(auto)]
 
 use island::Answer;
-use libc::STDOUT_FILENO;
+
+// Standard streams, by their file descriptors.
+const STDOUT: i32 = 1;
 
 // The label of what has no island.
 const NONE: usize = 65535;
@@ -67,16 +69,16 @@ fn figure_of(parents: &[u16], sizes: &[u16], bodies: usize, body: usize, figure:
 // A number, or a dash for none.
 fn put(value: usize) {
     if value == NONE {
-        io::write_all(STDOUT_FILENO, b" -");
+        io::write_all(STDOUT, b" -");
         return;
     }
-    io::write_all(STDOUT_FILENO, b" ");
-    io::print_decimal(STDOUT_FILENO, value as u64);
+    io::write_all(STDOUT, b" ");
+    io::print_decimal(STDOUT, value as u64);
 }
 
 // A word, and one figure of the set of each body.
 fn put_figures(word: &[u8], parents: &[u16], sizes: &[u16], bodies: usize, figure: Figure) {
-    io::write_all(STDOUT_FILENO, word);
+    io::write_all(STDOUT, word);
     let mut body = 0;
     // The figures of the bodies below `body` are printed.
     while body < bodies {
@@ -90,7 +92,7 @@ fn put_values(word: &[u8], values: &[u16], count: usize) {
     if count == 0 {
         return;
     }
-    io::write_all(STDOUT_FILENO, word);
+    io::write_all(STDOUT, word);
     let mut i = 0;
     // The first i values are printed.
     while i < count {
@@ -103,14 +105,14 @@ fn put_values(word: &[u8], values: &[u16], count: usize) {
 fn put_answer(answer: Answer, bodies: usize, parents: &[u16], sizes: &[u16]) {
     match answer {
         Answer::Islands(count) => {
-            io::write_all(STDOUT_FILENO, b" islands");
+            io::write_all(STDOUT, b" islands");
             put(wide(count));
             put_figures(b" roots", parents, sizes, bodies, Figure::Root);
             put_figures(b" links", parents, sizes, bodies, Figure::Links);
             put_figures(b" sizes", parents, sizes, bodies, Figure::Size);
         }
         Answer::Refused(number) => {
-            io::write_all(STDOUT_FILENO, b" refused");
+            io::write_all(STDOUT, b" refused");
             put(number as usize);
             put_values(b" parents", parents, bodies);
             put_values(b" sizes", sizes, bodies);
@@ -142,12 +144,12 @@ fn show(
         &mut manifold_islands,
         &mut joint_islands,
     );
-    io::write_all(STDOUT_FILENO, name);
+    io::write_all(STDOUT, name);
     put_answer(answer, body_types.len(), parents, sizes);
     put_values(b" bodies", &body_islands, body_types.len());
     put_values(b" manifolds", &manifold_islands, manifolds.len() / 2);
     put_values(b" joints", &joint_islands, joints.len() / 2);
-    io::write_all(STDOUT_FILENO, b"\n");
+    io::write_all(STDOUT, b"\n");
 }
 
 // A frame of manifolds.

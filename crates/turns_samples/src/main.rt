@@ -2,14 +2,16 @@
 // high one first.
 #![tactic(auto)]
 
-use libc::STDIN_FILENO;
+// Standard streams, by their file descriptors.
+const STDIN: i32 = 0;
+
 
 fn length_of(high: u8, middle: u8, low: u8) -> usize {
     65536 * high as usize + 256 * middle as usize + low as usize
 }
 
 fn print_next(frame: &mut [u8]) {
-    let size = io::read_full(STDIN_FILENO, frame);
+    let size = io::read_full(STDIN, frame);
     frame_print::print_frame(&frame[..size]);
 }
 
@@ -23,12 +25,12 @@ fn print_sample(stated: usize) {
 
 fn main() {
     let mut first = [0u8; 1];
-    io::read_full(STDIN_FILENO, &mut first);
+    io::read_full(STDIN, &mut first);
     let mut left = first[0];
     // `left` inputs are still to be read and printed.
     while 0 < left {
         let mut length = [0u8; 3];
-        io::read_full(STDIN_FILENO, &mut length);
+        io::read_full(STDIN, &mut length);
         print_sample(length_of(length[0], length[1], length[2]));
         left -= 1;
     }
