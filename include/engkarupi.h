@@ -3,8 +3,8 @@
  *
  * A port of parts of nepridumalnik/Kapitsa-Physics, commit 2c13ed98e8, MIT licence: see NOTICE.
  *
- * Link libboundary.a (`rt staticlib boundary`). docs/LANES.md says what the lanes do with the turns, what to do on a refusal,
- * and what the archive asks of the machine and the stack.
+ * Link libboundary.a (`rt lib` in crates/boundary writes it to out/ there). docs/LANES.md says what the lanes do with the
+ * turns, what to do on a refusal, and what the archive asks of the machine and the stack.
  *
  * No call allocates, keeps a pointer or has state of its own: all memory is lent by the caller for the length of the call.
  * No two tables of one call may overlap, and none may overlap what is read. Every pointer must be aligned as its C type, and
