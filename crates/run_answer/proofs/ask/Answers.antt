@@ -1,0 +1,6 @@
+-- `ask`: the file is read first; where it is refused its sizes are 0, and its refusal stands.
+use Rattle.run_answer.proofs.Sizes.{few-constraints}
+use Rattle.run_answer.proofs.ask.Goals as goal
+
+pub roomy_for-room-requires : goal.roomy_for-room-requires
+roomy_for-room-requires c = few-constraints _ _ c.read-reading.ensures _ c.sizes_of-counts.ensures
