@@ -13,7 +13,7 @@ ghost use Rattle.colored_bodies.specs.Answers.{withBodies, Placed, Fillable, Bin
 use frame::Frame;
 
 // For each place a body number and a mark: 0 read-only, 1 held, and any other number taken.
-#[derive(Clone, Copy)]
+#[derive(Drop)]
 pub struct BodyBinding {
     pub bodies: [u16; Frame::MAX_BODIES],
     pub marks: [u8; Frame::MAX_BODIES],
@@ -21,7 +21,7 @@ pub struct BodyBinding {
 }
 
 // What bind answers: 0 and the binding, or the refusal's number and an empty one.
-#[derive(Clone, Copy)]
+#[derive(Drop)]
 pub struct Bound {
     pub refusal: u8,
     pub binding: BodyBinding,
@@ -40,7 +40,7 @@ pub enum Take {
 }
 
 // A take by value: the binding after it, and its answer.
-#[derive(Clone, Copy)]
+#[derive(Drop)]
 pub struct Step {
     pub binding: BodyBinding,
     pub take: Take,
