@@ -1,0 +1,33 @@
+-- `body_positions_for_constraint`: the three tests are the questions, in their order.
+use borrow.Author.Tests.{le-leb, lt-leb, lt-ltb, le-ltb}
+use Rattle.plan_questions.specs.Plans.{positionsRefusal}
+use Rattle.constraint_coloring.proofs.ConstraintColoring.body_positions_for_constraint.Goals as goal
+
+pub returns-then-self-gt-MAX_PAIRS : goal.returns-then-self-gt-MAX_PAIRS
+unfolding positionsRefusal
+returns-then-self-gt-MAX_PAIRS c =
+    let a = lt-leb _ _ c.if-self-gt-MAX_PAIRS.true in
+    record { refusal = simp a; refused = simp a; values = simp a }
+
+pub returns-then-constraint_body_positions-self : goal.returns-then-constraint_body_positions-self
+unfolding positionsRefusal
+returns-then-constraint_body_positions-self c =
+    let a = le-leb _ _ c.if-self-gt-MAX_PAIRS.false in
+    let b = lt-leb _ _ c.if-constraint_body_positions-self.true in
+    record { refusal = simp (a, b); refused = simp (a, b); values = simp (a, b) }
+
+pub returns-then-self-constraint : goal.returns-then-self-constraint
+unfolding positionsRefusal
+returns-then-self-constraint c =
+    let a = le-leb _ _ c.if-self-gt-MAX_PAIRS.false in
+    let b = le-leb _ _ c.if-constraint_body_positions-self.false in
+    let d = le-ltb _ _ c.if-self-constraint.true in
+    record { refusal = simp (a, b, d); refused = simp (a, b, d); values = simp (a, b, d) }
+
+pub returns : goal.returns
+unfolding positionsRefusal
+returns c =
+    let a = le-leb _ _ c.if-self-gt-MAX_PAIRS.false in
+    let b = le-leb _ _ c.if-constraint_body_positions-self.false in
+    let d = lt-ltb _ _ c.if-self-constraint.false in
+    record { refusal = simp (a, b, d); refused = simp (a, b, d); values = simp (a, b, d) }
