@@ -2,7 +2,7 @@
 -- changes nothing; otherwise the tables have room, and the run's answer is that of the tables cut to size.
 use Prim.Native.Nat.{ℕ, ◌+◌, ◌*◌, ◌≤◌}
 use mathlib.Core.Path.{◌≡◌, refl, sym, ◌∙◌}
-use mathlib.Core.Bool.{Bool, true, false, ◌&&◌, cond}
+use mathlib.Core.Bool.{true, false, cond}
 use mathlib.Core.List.{List, [], ◌∷◌}
 use native.Mathlib.Omega.{arith}
 use lib.Dec.{leb, eqb}
@@ -20,6 +20,8 @@ use Rattle.schedules.specs.Runs.{refused, run_of}
 use Rattle.island_run.proofs.Rooms.{SameLengths}
 use Rattle.frame_tables.specs.Filled.{soundRefusal}
 use Rattle.run_answer.specs.declared.Answer.{Answer}
+use Rattle.run_answer.specs.declared.Asked.{Asked}
+use Rattle.run_answer.specs.Answers.{Asks}
 use Rattle.run_answer.specs.declared.Answer.TheVariants as answer
 use Rattle.frame_run.specs.Calls.{Lent, roomyFor, roomyIn, refusalIn, Worked, Ran}
 use Rattle.frame_run.specs.Sized.{RoomySized, RanSized}
@@ -206,3 +208,45 @@ module _ (bs : List ℕ) (l : Lent) where
       color-bodies = worked _ _ s.plan.color-bodies;
       constraint-body-positions = worked _ _ s.plan.constraint-body-positions;
     }
+
+-- what the code hands on once questions 1 to 6 are passed: the file's sizes, and a workspace that is long enough to be cut to them
+pub record Cuttable (bs : List ℕ) (l : Lent) (a : Asked) : Type 0 where
+  pub file : asked (fileQuestions bs) ≡ 0
+  pub room : roomyIn bs l ≡ true
+  pub bodies : a.bodies ≡ countB bs
+  pub manifolds : a.manifolds ≡ countM bs
+  pub joints : a.joints ≡ countJ bs
+  pub types : a.bodies ≤ length l.types
+  pub flags : a.bodies ≤ length l.flags
+  pub pairs : 2 * (a.manifolds + a.joints) ≤ length l.pairs
+  pub enabled : a.joints ≤ length l.enabled
+  pub numbers : a.manifolds + a.joints ≤ length l.numbers
+
+module _ (bs : List ℕ) (l : Lent) (a : Asked) (h : Asks bs (λ b m j. roomyFor b m j l) a) where
+  first : a.refusal ≡ cond (eqb (asked (fileQuestions bs)) 0) (cond (roomyIn bs l) 0 6) (asked (fileQuestions bs))
+  unfolding roomyIn
+  first = h.refusal
+
+  pub stopped-run : (a.refusal ≡ 0 → ⊥) → Ran bs l l (answer.Refused a.refusal)
+  stopped-run = stopped bs l a.refusal first
+
+  pub cuttable : a.refusal ≡ 0 → Cuttable bs l a
+  cuttable z =
+      let q = file-passed bs l a.refusal first z in
+      let r = room-passed bs l a.refusal first z in
+      let w = wanted-fit bs l q r in
+      let b = h.bodies q in
+      let m = h.manifolds q in
+      let j = h.joints q in
+      record {
+        file = q;
+        room = r;
+        bodies = b;
+        manifolds = m;
+        joints = j;
+        types = omega (arith, w.1.1.1.1.1.1.0, b);
+        flags = omega (arith, w.1.1.1.1.1.1.1.0, b);
+        pairs = omega (arith, w.1.1.1.1.1.1.1.1.0, m, j);
+        enabled = omega (arith, w.1.1.1.1.1.1.1.1.1.1.0, j);
+        numbers = omega (arith, w.1.1.1.1.1.1.1.1.1.1.1.0, m, j);
+      }

@@ -7,7 +7,7 @@ use mathlib.Core.List.{List, [], ◌∷◌, ◌++◌, map}
 use native.Mathlib.Omega.{arith}
 use lib.Dec.{eqb}
 use lib.ListN.{length, get_or, length-map, length-append, get_or-map}
-use Rattle.lists.specs.Basics.{count, joinMap, range}
+use Rattle.lists.specs.Basics.{joinMap, range}
 use Rattle.lists.proofs.Laws.{by_cases, filter-mem, range-high, get_d_any, length-range, filter-length-le, count-few, sum_one}
 use Rattle.lists.proofs.Ranges.{map-append, filter-ext-in, joinMap-ext-in}
 use Rattle.lists.proofs.Sums.{length-filter, sum-le, sum-times}
