@@ -8,7 +8,7 @@ use native.Mathlib.Omega.{arith}
 use native.Mathlib.Numerals.{add-one}
 use lib.Dec.{eqb, ltb}
 use lib.ListN.{length, get_or, set, take, drop, length-append, length-set, get_or-eq_default}
-use lib.Seq.{take_at, take_all, take-length, take-suc-set, drop-append-add, drop-drop}
+use lib.Seq.{take_at, take-length, take-suc-set, drop-append-add, drop-drop}
 use borrow.Author.Tests.{eqb-true, eqb-false, lt-ltb, le-ltb, ltb-true, ltb-false}
 use Rattle.lists.specs.Basics.{one, all, sum_of, range, mem, over, joinMap}
 use Rattle.lists.proofs.Sums.{sum-le, sum-ext, sum-add, sum-filter, sum-getD}
@@ -18,7 +18,7 @@ use Rattle.parts.specs.Parts.{cut, Cut}
 use Rattle.groups.specs.Groups.{members, groupBodies, flatten, offsets}
 use Rattle.groups.proofs.Tables.{flatten-zero, flatten-suc, start-suc}
 use Rattle.groups.proofs.Members.{member_is}
-use Rattle.gathering.specs.Gathers.{among, Fresh, Listed, Gatherable, Gathered}
+use Rattle.gathering.specs.Gathers.{among, Fresh, Listed, Gatherable}
 use Rattle.parts.proofs.Groups.{group-cut, group-is}
 use Rattle.gathering.proofs.Ends.{group-bodies, among-few}
 
@@ -97,9 +97,6 @@ module _ {nb n : ℕ} {cs : List (List ℕ)} {colors color-offsets constraints s
         started = take-suc-set starts₀ 0 0 (omega (arith, p.ends));
       }
 
-  pub scratch-room : {st scratch starts bodies : List ℕ} {end color : ℕ} → Gathering nb cs colors n scratch₀ (set starts₀ 0 0) bodies₀ st scratch starts bodies end color → length st ≤ length scratch
-  scratch-room v = omega (arith, v.st-size, v.scratch-size, p.scratch)
-
   constraints-listed : take (length (flatten (members colors) n)) constraints ≡ flatten (members colors) n
   constraints-listed = rw p.constraints (take-length (flatten (members colors) n))
 
@@ -169,11 +166,3 @@ module _ {nb n : ℕ} {cs : List (List ℕ)} {colors color-offsets constraints s
               listed = rw add-one listed_more;
               started = rw (t, v.started, end_is, add-one) (sym (map-range-suc (λ k. length (flatten (groupBodies nb cs colors) k)) (suc color)));
             }
-
-  pub gathering-done : {st scratch starts bodies : List ℕ} {end color : ℕ} → Gathering nb cs colors n scratch₀ (set starts₀ 0 0) bodies₀ st scratch starts bodies end color → n ≤ color → Gathered nb cs colors n starts bodies₀ bodies
-  gathering-done {starts = starts} {color = color} v h =
-      let e : color ≡ n = omega (arith, v.inside) in
-      record {
-        starts = sym (take_all (color + 1) starts (omega (arith, v.starts-size, length-set starts₀ 0 0, p.ends))) ∙ v.started ∙ ap (offsets (groupBodies nb cs colors)) e;
-        bodies = v.listed ∙ ap (λ (k : ℕ). over (flatten (groupBodies nb cs colors) k) bodies₀) e;
-      }
