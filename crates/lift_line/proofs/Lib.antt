@@ -1,5 +1,4 @@
 pub mod Tests
 pub mod Numbers
-pub mod Lines
 pub mod Written
 pub mod Samples

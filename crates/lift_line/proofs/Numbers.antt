@@ -45,10 +45,6 @@ module _ (text : List ℕ) (at value end read : ℕ) (s : NumberRead text at val
   at-end : digitsOf (19 - read) (drop end text) ≡ [] → (value ≡ numberAt text at) × (end ≡ end_of text at)
   at-end e = (ap (value_of value) (sym e) ∙ s.number, omega (arith, ap length e, s.stop))
 
-  -- 19 digits were read
-  pub read_all : 19 ≤ read → (value ≡ numberAt text at) × (end ≡ end_of text at)
-  read_all h = let e : 19 - read ≡ 0 = omega arith in at-end (ap (λ (n : ℕ). digitsOf n (drop end text)) e)
-
   module _ (byte : ℕ) (b : byte ≡ get_or text end 0) where
     -- no digit is left
     pub read_none : digit byte ≡ false → (value ≡ numberAt text at) × (end ≡ end_of text at)
