@@ -1,14 +1,11 @@
--- The questions in order, one "no" after another, and the two ways in which a call ends.
-use Rattle.std.proofs.Common.{◌≡◌, ℕ, ◌+◌, ◌<◌, ◌≤◌, true, false, eqb, leb, List, length, sym, ◌∙◌, arith, eq-eqb, ne_eqb, eqb-true, le-leb, leb-true}
+-- The questions in order, one "no" after another.
+use Rattle.std.proofs.Common.{◌≡◌, ℕ, ◌+◌, ◌<◌, ◌≤◌, true, false, eqb, leb, arith, eq-eqb, eqb-true, le-leb, leb-true}
 use borrow.Author.Tests.{lt-leb}
-use Rattle.lists.specs.Basics.{over}
 use Rattle.lists.proofs.Laws.{or_cases, or_left, or_right}
 use Rattle.frame.specs.Questions.{fewEach}
 use Rattle.frame.proofs.Questions.{passed}
 use Rattle.frame_file.specs.Written.{fileLength}
-use Rattle.generator.specs.declared.Generated.TheVariants.{Frame, Refused}
-use Rattle.generator.specs.Draws.{generatedBytes}
-use Rattle.generator.specs.Calls.{pairsPossible, generateRefusal, Makes}
+use Rattle.generator.specs.Calls.{pairsPossible, generateRefusal}
 
 -- a pair is wanted, so there are two bodies for it
 pub two-bodies : (b m j : ℕ) → pairsPossible b m j ≡ true → 1 ≤ m + j → 2 ≤ b
@@ -47,15 +44,3 @@ module _ (b m j room : ℕ) where
       let q13 = passed (pairsPossible b m j) _ 12 q3.1 in
       let q6 = passed (leb (fileLength b m j) room) _ 5 q13.1 in
       (q3.0, q13.0, leb-true (fileLength b m j) room q6.0)
-
--- ---- how a call ends
-
-module _ (seed b m j : ℕ) (old : List ℕ) where
-  pub made_none : (k : ℕ) → k ≡ generateRefusal b m j (length old) → (k ≡ 0 → ⊥) → Makes seed b m j old old (Refused k)
-  made_none k e n =
-      let z : eqb (generateRefusal b m j (length old)) 0 ≡ false = ne_eqb (generateRefusal b m j (length old)) 0 (λ h. n (e ∙ h)) in
-      record { made = record { refusal = e; as_long = rw z; bytes = rw z }; refused = rw z }
-
-  pub made-frame : (n : ℕ) (new : List ℕ) → generateRefusal b m j (length old) ≡ 0 → n ≡ fileLength b m j → new ≡ over (generatedBytes seed b m j) old
-      → Makes seed b m j old new (Frame n)
-  made-frame n new z e f = record { made = record { refusal = sym z; as_long = rw z e; bytes = rw z f }; refused = rw z }

@@ -1,7 +1,7 @@
 -- What the loops keep: after i turns the first i types, pairs or joints stand in the bytes, and the state is the one that they left.
 use Rattle.std.proofs.Common.{◌≡◌, ℕ, ◌+◌, ◌-◌, ◌*◌, ◌/◌, ◌%◌, ◌<◌, ◌≤◌, List, [], ◌∷◌, ◌++◌, length, set, sym, refl, ap, ◌∙◌, arith}
 use Rattle.lists.specs.Basics.{put}
-use Rattle.lists.proofs.Puts.{put-none, set-put, put-long, put_then}
+use Rattle.lists.proofs.Puts.{put-none, set-put, put_then}
 use Rattle.lists.proofs.Ranges.{joinMap-append}
 use Rattle.frame_file.specs.Written.{halfBytes, pairBytes, jointBytes}
 use Rattle.frame_file.proofs.Decoded.{pair-bytes-long, joint-bytes-long}
@@ -20,9 +20,6 @@ module _ (d size : ℕ) (text : ℕ → List ℕ) (at s : ℕ) (old : List ℕ) 
   drawn-first = record { bytes = sym (ap (λ (l : List ℕ). put at l old) none ∙ put-none at old); state-left = let e : 0 ≡ d * 0 = omega arith in ap (λ (n : ℕ). stateAfter n s) e }
 
   module _ (i : ℕ) (out : List ℕ) (state : ℕ) (h : Drawn d text at s i old out state) where
-    pub drawn-long : at + size * i ≤ length old → length out ≡ length old
-    drawn-long r = put-long at (text i) old out h.bytes (omega (arith, long i))
-
     -- one more: the piece stands behind
     pub drawn-next : (piece new : List ℕ) (next : ℕ) → text (i + 1) ≡ text i ++ piece → new ≡ put (at + size * i) piece out → at + size * i + length piece ≤ length old → next ≡ stateAfter d state → Drawn d text at s (i + 1) old new next
     drawn-next piece new next e f r g = record {
