@@ -96,21 +96,9 @@ pub record Counting (ts : List ℕ) (cs rest : List Constraint) (old now : List 
   pub long : length now ≡ length old
   pub each : (b : ℕ) → b < length old → get_or now b 0 + count (countsFor ts b) rest ≡ get_or old b 0 + count (countsFor ts b) cs
 
-pub counting-first : {ts : List ℕ} {cs : List Constraint} {counts : List ℕ} → Countable ts cs counts → Counting ts cs cs counts counts
-counting-first h = record { sound = h.sound; long = refl; each = λ b l. refl }
-
 module _ {ts : List ℕ} {cs rest later : List Constraint} {c : Constraint} {old now : List ℕ} (h : Countable ts cs old) (g : Counting ts cs rest old now) (e : rest ≡ c ∷ later) where
   next : Counting ts cs (c ∷ later) old now
   next = rw e at g
-
-  pub counting-room : Countable ts (c ∷ []) now
-  counting-room = record {
-    sound = rw next.long (ap (λ (t : Bool). t && true) (and_left (sound (length old) c) (all (sound (length old)) later) next.sound));
-    long = next.long ∙ h.long;
-    fits = λ b l.
-        let k : b < length old = omega (arith, next.long) in
-        omega (arith, next.each b k, h.fits b k);
-  }
 
   pub counting_more : (new : List ℕ) → length new ≡ length now → Counted ts (c ∷ []) now new → Counting ts cs later old new
   counting_more new l d = record {
