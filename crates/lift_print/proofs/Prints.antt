@@ -1,6 +1,6 @@
 -- A frame that was made stands in the buffer already, and a refusal kept the buffer, so that its line is all that was put into it.
 use Prim.Native.Nat.{ℕ, ◌+◌, ◌≤◌}
-use mathlib.Core.Path.{◌≡◌, sym, ap, subst, ◌∙◌}
+use mathlib.Core.Path.{◌≡◌, sym, ap, ◌∙◌}
 use mathlib.Core.Bool.{true, false}
 use mathlib.Core.List.{List}
 use native.Mathlib.Omega.{arith}
@@ -12,7 +12,6 @@ use Rattle.schedules.specs.Print.{refusalLine}
 use Rattle.print_fields.specs.Puts.{Put, longest, ifRoom}
 use Rattle.frame_file.specs.Written.{fileLength}
 use Rattle.lists.proofs.Puts.{put_first}
-use Rattle.generator.specs.declared.Generated.{Generated}
 use Rattle.generator.specs.declared.Generated.TheVariants.{Frame, Refused}
 use Rattle.generator.specs.Draws.{generatedBytes}
 use Rattle.generator.specs.Calls.{generateRefusal, Makes}
@@ -24,7 +23,7 @@ over-long : (text old new : List ℕ) → new ≡ over text old → length text 
 over-long text old new e h = ap length e ∙ length-append text (drop (length text) old) ∙ omega (arith, length-drop (length text) old)
 
 module _ (seed b m j : ℕ) (old new : List ℕ) (room : length old ≡ 40971) where
-  frame-printed : (n : ℕ) → Makes seed b m j old new (Frame n) → Printed (liftOf seed b m j) old new n
+  pub frame-printed : (n : ℕ) → Makes seed b m j old new (Frame n) → Printed (liftOf seed b m j) old new n
   unfolding liftOf
   frame-printed n makes =
       let made = makes.made in
@@ -38,7 +37,7 @@ module _ (seed b m j : ℕ) (old new : List ℕ) (room : length old ≡ 40971) w
         as_long = made.as_long ∙ rw (room, none) (sym size);
       }
 
-  refusal-printed : (k : ℕ) (out : List ℕ) (r : ℕ) → Makes seed b m j old new (Refused k)
+  pub refusal-printed : (k : ℕ) (out : List ℕ) (r : ℕ) → Makes seed b m j old new (Refused k)
       → Put (ifRoom (length new) 0 (refusalLine k)) new 0 out r → Printed (liftOf seed b m j) old out r
   unfolding liftOf ifRoom
   refusal-printed k out r makes put' =
@@ -54,11 +53,3 @@ module _ (seed b m j : ℕ) (old new : List ℕ) (room : length old ≡ 40971) w
         long = over-long (refusalLine k) old out there (omega (arith, size, put'.within (omega arith), ap length kept));
         as_long = rw (is, some) size;
       }
-
--- the same, as the code finds the answer
-module _ (seed b m j : ℕ) (old new : List ℕ) (room : length old ≡ 40971) (g : Generated) (makes : Makes seed b m j old new g) where
-  pub made-printed : (n : ℕ) → g ≡ Frame n → Printed (liftOf seed b m j) old new n
-  made-printed n e = frame-printed seed b m j old new room n (subst (Makes seed b m j old new) e makes)
-
-  pub refused-printed : (k : ℕ) (out : List ℕ) (r : ℕ) → g ≡ Refused k → Put (ifRoom (length new) 0 (refusalLine k)) new 0 out r → Printed (liftOf seed b m j) old out r
-  refused-printed k out r e = refusal-printed seed b m j old new room k out r (subst (Makes seed b m j old new) e makes)
