@@ -12,7 +12,7 @@ use native.Mathlib.Omega.{arith}
 use lib.Dec.{ltb, eqb}
 use lib.ListN.{length, get_or}
 use borrow.Author.Tests.{eqb-true, ne_eqb, lt-ltb, le-ltb}
-use Rattle.lists.specs.Basics.{one, any, all, sum_of, max_of, count, joinMap, rangeFrom, range, mem}
+use Rattle.lists.specs.Basics.{one, all, sum_of, max_of, count, joinMap, rangeFrom, range, mem}
 use Rattle.lists.proofs.Sums.{collapse, sum-swap, sum-ext, sum-null, sum-zero, sum-map, sum-filter, sum-joinMap, sum-getD, filter-all}
 use Rattle.lists.proofs.Laws.{or_right, by_cases, mem-self, range-high, max-in, getD-mem, same_sum, sum-ext-in, eqb-sym, sum_one, sum-distinct, all_map}
 use Rattle.lists.proofs.Ranges.{joinMap-ext-in}
