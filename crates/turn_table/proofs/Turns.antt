@@ -1,18 +1,15 @@
 -- A turn is three stores, and a take of marks adds it or nothing, by its answer.
-use Prim.Native.Nat.{ℕ, ◌+◌, ◌*◌, ◌≤◌}
-use mathlib.Core.Path.{◌≡◌, refl, sym, ap, ◌∙◌}
-use mathlib.Core.Bool.{Bool}
+use Prim.Native.Nat.{ℕ, ◌+◌, ◌≤◌}
+use mathlib.Core.Path.{◌≡◌, sym, ap, ◌∙◌}
 use mathlib.Core.List.{List, [], ◌∷◌}
 use native.Mathlib.Omega.{arith}
 use lib.ListN.{length, set}
-use mir.Val.{bool_byte}
 use Rattle.lists.specs.Basics.{put}
 use Rattle.lists.proofs.Puts.{put-none, length-put, put-put, set-put}
-use Rattle.lists.proofs.Bits.{byte_one}
 use Rattle.colored_bodies.specs.declared.Marked.{Marked}
 use Rattle.colored_bodies.specs.declared.Marked.TheVariants as marked
 use Rattle.turn_table.specs.declared.Tally.{Tally}
-use Rattle.turn_table.specs.Turns.{addedByTake, Room, Appended}
+use Rattle.turn_table.specs.Turns.{addedByTake, Appended}
 
 -- a turn: three stores
 pub set-turn : (n x y z : ℕ) (old : List ℕ) → n + 3 ≤ length old → set (set (set old n x) (n + 1) y) (n + 2) z ≡ put n (x ∷ y ∷ z ∷ []) old
@@ -28,17 +25,6 @@ set-turn n x y z old h =
 pub appended-none : (t : List ℕ) (s : Tally) → Appended (record { turns = []; takes = 0 }) t s t s
 appended-none t s = record { table = sym (put-none s.place t); place = omega arith; takes = omega arith }
 
--- ---- the two answers of a take of marks
-
-module _ (i k n : ℕ) (m : Marked) (t : List ℕ) (s : Tally) where
-  pub taken-room : (x y : Bool) → m ≡ marked.Taken x y → Room (addedByTake i k n m) t s → (s.place + 3 ≤ length t) × (s.takes + (bool_byte x + bool_byte y) ≤ 4096 * 8192)
-  taken-room x y e r =
-      let q : Room (addedByTake i k n (marked.Taken x y)) t s = rw e at r in
-      (omega (arith, q.places), omega (arith, q.count, byte_one x, byte_one y))
-
-  pub taken-added : (x y : Bool) (t' : List ℕ) → m ≡ marked.Taken x y → t' ≡ put s.place (i ∷ k ∷ n ∷ []) t
-      → Appended (addedByTake i k n m) t s t' (record { place = s.place + 3; takes = s.takes + (bool_byte x + bool_byte y) })
-  taken-added x y t' e h = rw (e, byte_one x, byte_one y) (record { table = h; place = refl; takes = refl })
-
-  pub refused-added : (r : ℕ) → m ≡ marked.Refused r → Appended (addedByTake i k n m) t s t s
-  refused-added r e = rw e (appended-none t s)
+-- and so after a take of marks that is refused
+pub refused-added : (i k n r : ℕ) (m : Marked) (t : List ℕ) (s : Tally) → m ≡ marked.Refused r → Appended (addedByTake i k n m) t s t s
+refused-added i k n r m t s e = rw e (appended-none t s)
