@@ -52,20 +52,6 @@ module _ {flags : List ℕ} {cs : List (List ℕ)} {k start count : ℕ} {remain
   pub many : length (uncolored flags cs k) ≡ count
   many = sym (ap length o.listed) ∙ length-take-le count remaining₀ (omega (arith, o.room, o.counted))
 
-  pub walk-starts : Passed flags cs k start remaining₀ colored₀ remaining₀ colored₀ busy₀ 0 start 0
-  walk-starts =
-      record {
-        remaining-length = refl;
-        members-length = refl;
-        busy-length = o.busy-length;
-        order = omega arith;
-        ended = omega arith;
-        rest = λ j h. refl;
-        kept = refl;
-        grown = sym (append-nil (take start colored₀));
-        busy-are = λ b l. o.idle b l ∙ rw (and-false (flagged flags b));
-      }
-
   module _ {remaining colored busies : List ℕ} {left end i : ℕ} (v : Passed flags cs k start remaining₀ colored₀ remaining colored busies left end i) where
     -- the next constraint
     abbrev next : ℕ
@@ -86,7 +72,7 @@ module _ {flags : List ℕ} {cs : List (List ℕ)} {k start count : ℕ} {remain
       next-in = omega (arith, next-listed.0, o.members-length)
 
       -- there is a place for it in the list of its group
-      pub end-in : end < length colored
+      end-in : end < length colored
       end-in = omega (arith, v.ended, v.order, v.members-length, o.members-length, o.counted)
 
       bodies-exist : all (λ b. ltb b (length flags)) (get_or cs next []) ≡ true

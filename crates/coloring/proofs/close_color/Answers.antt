@@ -1,0 +1,59 @@
+-- One member more has the color, and its bodies, which are those of its part, are idle too.
+use Prim.Native.Nat.{ℕ, ◌+◌, ◌<◌}
+use mathlib.Core.Path.{◌≡◌, refl, sym, ◌∙◌}
+use mathlib.Core.Bool.{true, or-true, or-false}
+use mathlib.Core.List.{List, []}
+use native.Mathlib.Omega.{arith}
+use lib.Dec.{ltb, eqb}
+use lib.ListN.{length, get_or, set, take}
+use lib.Seq.{get_or-set_same, get_or-set_other}
+use borrow.Author.Tests.{eqb-true, eqb-false, ltb-true}
+use Rattle.lists.specs.Basics.{all, mem}
+use Rattle.lists.proofs.Laws.{by_cases, all_in, all_get_d, getD-mem, cond-or}
+use Rattle.lists.proofs.Scans.{any_next}
+use Rattle.parts.specs.Parts.{parts_at}
+use Rattle.parts.proofs.Parts.{parts-at}
+use Rattle.coloring.specs.Coloring.{touched}
+use Rattle.coloring.specs.Steps.{MadeIdle, Closed}
+use Rattle.coloring.proofs.close_color.Goals as goal
+use Rattle.coloring.proofs.close_color.Goals.{After-part}
+
+-- one member more
+more : (cs : List (List ℕ)) (k : ℕ) (ms colors₀ busy₀ colors busy : List ℕ) (i : ℕ) → i < length ms → get_or ms i 0 < length colors → length busy ≡ length busy₀ → Closed cs k (take i ms) colors₀ busy₀ colors busy
+    → (bs busy' : List ℕ) → bs ≡ get_or cs (get_or ms i 0) [] → MadeIdle bs busy busy' → Closed cs k (take (i + 1) ms) colors₀ busy₀ (set colors (get_or ms i 0) k) busy'
+more cs k ms colors₀ busy₀ colors busy i l s size v bs busy' e w =
+    let next = get_or ms i 0 in
+    record {
+      given = λ r h. by_cases (eqb r next)
+          (λ q. rw (any_next (eqb r) ms i l, q, or-true, eqb-true r next q) (get_or-set_same colors next k 0 s))
+          (λ q. rw (any_next (eqb r) ms i l, q, or-false) (get_or-set_other colors next r k 0 (eqb-false r next q) ∙ v.given r h));
+      idle = λ b h. w b (omega (arith, size)) ∙ rw (e, v.idle b h, any_next (λ r. mem b (get_or cs r [])) ms i l) (cond-or (touched cs (take i ms) b) (mem b (get_or cs next [])) 0 (get_or busy₀ b 0));
+    }
+
+-- the member that is read is a constraint
+low : (n : ℕ) (ms : List ℕ) (i : ℕ) → i < length ms → all (λ r. ltb r n) ms ≡ true → get_or ms i 0 < n
+low n ms i l h = ltb-true (get_or ms i 0) n (all_in (λ r. ltb r n) (get_or ms i 0) ms (getD-mem ms i l) h)
+
+-- its part is its bodies
+bodies-are : (c : After-part) → c.part.result.now ≡ get_or (parts_at (length c.args.constraint_colors.now) c.args.bounds.now c.args.endpoints.now) (get_or c.args.members.now c.loop-place.place 0) []
+bodies-are c =
+    let n = length c.args.constraint_colors.now in
+    c.part.ensures ∙ sym (parts-at n c.args.bounds.now c.args.endpoints.now (get_or c.args.members.now c.loop-place.place 0) (low n c.args.members.now c.loop-place.place (omega arith) c.requires.closable.inside))
+
+pub make_idle-requires : goal.make_idle-requires
+make_idle-requires c =
+    let n = length c.args.busy_bodies.now in
+    let cs = parts_at (length c.args.constraint_colors.now) c.args.bounds.now c.args.endpoints.now in
+    let size : length c.loop-place.busy_bodies ≡ n = c.loop-place.auto.busy_bodies in
+    let e : all (λ b. ltb b (length c.loop-place.busy_bodies)) c.part.result.now ≡ true =
+    rw (bodies-are (goal.at.make_idle-requires c).After-part, size) (all_get_d (λ bs. all (λ b. ltb b n) bs) [] cs (get_or c.args.members.now c.loop-place.place 0) refl c.requires.closable.bodies) in
+    e
+
+pub loop-place-preserved : goal.loop-place-preserved
+loop-place-preserved c =
+    let l = c.loop-place in
+    let n = length c.args.constraint_colors.now in
+    let ms = c.args.members.now in
+    let size : length l.constraint_colors ≡ n = l.auto.constraint_colors in
+    more (parts_at n c.args.bounds.now c.args.endpoints.now) c.args.color ms c.args.constraint_colors.now c.args.busy_bodies.now l.constraint_colors l.busy_bodies l.place (omega arith)
+    (omega (arith, low n ms l.place (omega arith) c.requires.closable.inside, size)) l.auto.busy_bodies l.invariant c.part.result.now c.make_idle.new.busy_bodies (bodies-are (goal.at.loop-place-preserved c).After-part) c.make_idle.ensures

@@ -1,0 +1,8 @@
+-- The members passed have the color, and their bodies are not busy.
+use lib.ListN.{length, take}
+use Rattle.parts.specs.Parts.{parts_at}
+use Rattle.coloring.specs.Steps.{Closed}
+use Rattle.coloring.proofs.close_color.Given as goal
+
+abbrev pub invariant-loop-place : goal.invariant-loop-place
+invariant-loop-place l = Closed (parts_at (length l.initial.constraint_colors) l.bounds l.endpoints) l.color (take l.place l.members) l.initial.constraint_colors l.initial.busy_bodies l.constraint_colors l.busy_bodies

@@ -1,0 +1,10 @@
+-- The place that is written holds the number after those before it.
+use mathlib.Core.Path.{sym, ◌∙◌}
+use native.Mathlib.Numerals.{add-one}
+use native.Mathlib.Omega.{arith}
+use lib.Seq.{take-suc-set}
+use Rattle.lists.proofs.Ranges.{range_snoc}
+use Rattle.coloring.proofs.list_all.Goals as goal
+
+pub loop-constraint-preserved : goal.loop-constraint-preserved
+loop-constraint-preserved c = let v = c.loop-constraint in rw add-one (take-suc-set v.remaining v.constraint v.constraint (omega arith) ∙ rw v.invariant (sym (range_snoc v.constraint)))

@@ -1,0 +1,8 @@
+-- The places passed hold their own numbers.
+use mathlib.Core.Path.{◌≡◌}
+use lib.ListN.{take}
+use Rattle.lists.specs.Basics.{range}
+use Rattle.coloring.proofs.list_all.Given as goal
+
+abbrev pub invariant-loop-constraint : goal.invariant-loop-constraint
+invariant-loop-constraint l = take l.constraint l.remaining ≡ range l.constraint
