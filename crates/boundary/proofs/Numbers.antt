@@ -1,6 +1,6 @@
--- An answer as numbers says what the answer says: its refusal and its values are equal to them, and the tables are the same.
+-- A part of a group is told by where it starts in its table and by its size; an empty part starts at 0.
 use Prim.Native.Nat.{ℕ, ◌+◌, ◌-◌, ◌≤◌}
-use mathlib.Core.Path.{◌≡◌, refl, ap, subst, ◌∙◌}
+use mathlib.Core.Path.{◌≡◌, refl, ap, ◌∙◌}
 use mathlib.Core.Bool.{Bool, true, false, ◌&&◌, cond}
 use mathlib.Core.List.{List, []}
 use native.Mathlib.Omega.{arith}
@@ -8,29 +8,11 @@ use lib.Dec.{leb, ltb, eqb}
 use lib.ListN.{length, get_or, take, drop, length-drop}
 use lib.Seq.{length-take-le}
 use borrow.Author.Tests.{eqb-true, leb-true}
-use Rattle.lists.specs.Basics.{one}
 use Rattle.lists.proofs.Laws.{by_cases, and_left, and_right}
 use Rattle.constraint_coloring.specs.declared.ConstraintColoring.{ConstraintColoring}
-use Rattle.constraint_coloring.specs.declared.Update.{Update}
-use Rattle.constraint_coloring.specs.declared.Positions.{Positions}
-use Rattle.plan_questions.specs.Plans.{Tables, part, groupPart}
-use Rattle.constraint_coloring.specs.Calls.{updateNumber, updateChanged, planAfter, Updated, positionsNumber, Located}
-use Rattle.answer_numbers.specs.Numbers.{planOfNumbers, planNumbers, positionNumbers}
-use Rattle.boundary.specs.Exports.{Updates, Found, Locates}
-
-pub updated-by : {plan flags pairs : List ℕ} {p q : ConstraintColoring} {t u : Tables} {answer : Update} {number changed : ℕ}
-    → p ≡ planOfNumbers plan → Updated p flags pairs t u answer → number ≡ updateNumber answer → changed ≡ one (updateChanged answer) → q ≡ planAfter p answer
-    → Updates plan flags pairs t u number changed (planNumbers q)
-updated-by {plan} {flags} {pairs} {p} {q} {t} {u} {answer} e h n c after =
-    record {
-      answer = answer;
-      updated = subst (λ (x : ConstraintColoring). Updated x flags pairs t u answer) e h;
-      refusal = n;
-      change = c;
-      plan_after = ap planNumbers (after ∙ ap (λ (x : ConstraintColoring). planAfter x answer) e);
-    }
-
--- ---- the part of a group, by its start and size
+use Rattle.plan_questions.specs.Plans.{part, groupPart}
+use Rattle.answer_numbers.specs.Numbers.{planOfNumbers}
+use Rattle.boundary.specs.Exports.{Found}
 
 empty : (xs table : List ℕ) (start : ℕ) → xs ≡ [] → take (length xs) (drop start table) ≡ xs
 empty xs table start e = rw e refl
@@ -71,15 +53,4 @@ found-by {part} {p} {start} plan offsets table k e h from =
           ∙ group_at n offsets table k start (ltb k n && ltb (k + 1) (length offsets)) refl (from ∙ ap (λ (xs : List ℕ). cond (eqb (length xs) 0) 0 (get_or offsets k 0)) same);
       as_long = ap length same;
       from-offset = from;
-    }
-
-pub located-by : {table places : List ℕ} {p : ConstraintColoring} {r number : ℕ} {answer : Positions} (plan : List ℕ)
-    → p ≡ planOfNumbers plan → Located p.constraint_count table r answer → number ≡ positionsNumber answer → places ≡ positionNumbers answer
-    → Locates (get_or plan 1 0) table r number places
-located-by {table} {places} {p} {r} {number} {answer} plan e h n v =
-    record {
-      answer = answer;
-      located = subst (λ (x : ConstraintColoring). Located x.constraint_count table r answer) e h;
-      refusal = n;
-      numbers = v;
     }

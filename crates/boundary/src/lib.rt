@@ -170,7 +170,7 @@ pub extern "C" fn engkarupi_bind(
     marks: &mut [u8; Frame::MAX_BODIES],
     count: &mut usize,
 ) -> u8
-    ensures { Binds types.now indices.now (record { refusal = result; binding = record { bodies = bodies.exit.now; marks = marks.new; count = count.new } }) }
+    ensures { Binds types.now indices.now (record { refusal = result; binding = record { bodies = bodies.new; marks = marks.new; count = count.new } }) }
 {
     let bound = BodyBinding::bind(types, indices);
     let binding = bound.binding;
@@ -192,7 +192,7 @@ pub extern "C" fn engkarupi_take(
     b: usize,
     handed: &mut [u16; 4],
 ) -> u8
-    ensures { Took (record { bodies = bodies.entry.now; marks = marks.old; count = count }) (a ∷ b ∷ []) (record { bodies = bodies.entry.now; marks = marks.new; count = count }) result handed.new }
+    ensures { Took (record { bodies = bodies.now; marks = marks.old; count = count }) (a ∷ b ∷ []) (record { bodies = bodies.now; marks = marks.new; count = count }) result handed.new }
 {
     let marked = colored_bodies::take_marks(marks, count, a, b);
     answer_numbers::hand(bodies, a, b, marked, handed)
