@@ -1,7 +1,7 @@
 -- The positions of one group's constraints. Each member's part is written without touching another's, so the members have their
 -- positions, one after another, and the other constraints keep theirs.
 use Prim.Native.Nat.{ℕ, ◌+◌, ◌-◌, ◌*◌, ◌≤◌, ◌<◌}
-use mathlib.Core.Path.{◌≡◌, refl, sym, ap, ◌∙◌}
+use mathlib.Core.Path.{◌≡◌, sym, ap, ◌∙◌}
 use mathlib.Core.Bool.{Bool, true, false, ◌||◌}
 use mathlib.Core.List.{List, map}
 use native.Mathlib.Omega.{arith}
@@ -25,9 +25,6 @@ pub record Locating (bounds es ms bodies positions₀ table : List ℕ) (i : ℕ
   pub done : (r : ℕ) → mem r (take i ms) ≡ true → part_at bounds table r ≡ map (λ b. place b bodies) (part_at bounds es r)
   pub kept : (w : Arranged bounds es ms positions₀) (r : ℕ) → r < w.many → mem r (take i ms) ≡ false → part_at bounds table r ≡ part_at bounds positions₀ r
 
-pub locating-none : (bounds es ms bodies positions₀ : List ℕ) → Locating bounds es ms bodies positions₀ positions₀ 0
-locating-none bounds es ms bodies positions₀ = record { inside = omega arith; size = refl; done = λ r m. clashes false m refl; kept = λ w r h m. refl }
-
 pub locating-done : {bounds es ms bodies positions₀ table : List ℕ} {i : ℕ} → Locating bounds es ms bodies positions₀ table i → length ms ≤ i → MembersLocated bounds es ms bodies positions₀ table
 locating-done {ms} {i} v h =
     let e : take i ms ≡ ms = take_all i ms h in
@@ -42,7 +39,7 @@ module _ {bounds es ms positions₀ : List ℕ} (w : Arranged bounds es ms posit
     low : get_or ms i 0 < w.many
     low = member-low (get_or ms i 0) (getD-mem ms i h)
 
-    pub member-present : Present es bounds (get_or ms i 0)
+    member-present : Present es bounds (get_or ms i 0)
     member-present = w.bounded (get_or ms i 0) low
 
     pub member-start : (get_or ms i 0 ≤ 32767) × ((length bounds ≡ 0 → ⊥) → 2 * get_or ms i 0 < length bounds)

@@ -1,7 +1,7 @@
 -- One constraint's positions are filled in the order of its endpoints. Places by body: the bodies of a rising list differ, so the place
 -- written for one of them is not overwritten by a later one.
 use Prim.Native.Nat.{ℕ, ◌+◌, ◌≤◌, ◌<◌}
-use mathlib.Core.Path.{◌≡◌, refl, sym, ap, ◌∙◌}
+use mathlib.Core.Path.{◌≡◌, sym, ap, ◌∙◌}
 use mathlib.Core.Bool.{Bool, true}
 use mathlib.Core.List.{List, ◌++◌, map}
 use native.Mathlib.Omega.{arith}
@@ -11,10 +11,9 @@ use lib.Seq.{get_or-set_same, get_or-set_other}
 use borrow.Author.Tests.{eqb-true, eqb-false, ltb-true}
 use Rattle.lists.specs.Basics.{all, place, rises}
 use Rattle.lists.proofs.Laws.{by_cases, all_in, getD-mem, place-lt, place-get, get-place, rises-distinct}
-use Rattle.lists.proofs.Fills.{fill-turn, fill_end, map_next, map-end}
 use Rattle.locating.specs.Locates.{PlacesListed, PlacesKnown}
 
-pub entry-all : (p : ℕ → Bool) (xs : List ℕ) (i : ℕ) → all p xs ≡ true → i < length xs → p (get_or xs i 0) ≡ true
+entry-all : (p : ℕ → Bool) (xs : List ℕ) (i : ℕ) → all p xs ≡ true → i < length xs → p (get_or xs i 0) ≡ true
 entry-all p xs i h k = all_in p (get_or xs i 0) xs (getD-mem xs i k) h
 
 -- ---- the first i positions are what g gives the first i endpoints
@@ -22,18 +21,6 @@ pub record Filling (g : ℕ → ℕ) (ends positions₀ positions : List ℕ) (i
   pub inside : i ≤ length ends
   pub size : length positions ≡ length positions₀
   pub filled : take i positions ++ map g (drop i ends) ≡ map g ends
-
-module _ {g : ℕ → ℕ} {ends positions₀ positions : List ℕ} {i : ℕ} (room : length positions₀ ≡ length ends) (v : Filling g ends positions₀ positions i) where
-  pub filling-more : (x : ℕ) → i < length ends → x ≡ g (get_or ends i 0) → Filling g ends positions₀ (set positions i x) (i + 1)
-  filling-more x h e =
-      record {
-        inside = omega arith;
-        size = length-set positions i x ∙ v.size;
-        filled = fill-turn positions (map g (drop (i + 1) ends)) (map g ends) i x (omega (arith, v.size)) (rw (e, ← map_next g ends i 0 h) v.filled);
-      }
-
-  pub filling-done : length ends ≤ i → positions ≡ map g ends
-  filling-done h = fill_end positions (map g ends) i (omega (arith, v.size)) (rw (map-end g ends i h) at v.filled)
 
 -- ---- the first i bodies have their places
 pub record Placing (bodies places₀ places : List ℕ) (i : ℕ) : Type 0 where
@@ -65,10 +52,10 @@ module _ {bodies places₀ places : List ℕ} {i : ℕ} (v : Placing bodies plac
   placing-done h =
       record { placed = λ b m. ap (λ (x : ℕ). get_or places x 0) (sym (place-get b bodies m)) ∙ v.placed (place b bodies) (omega (arith, place-lt b bodies m)) }
 
--- ---- the table keeps its length, and of more than 4 bodies it has the places: they were listed, or there are no more than 4
+-- ---- of more than 4 bodies the table has the places: they were listed, or there are no more than 4
 module _ {bodies places : List ℕ} (places₀ : List ℕ) (p : all (λ b. ltb b (length places₀)) bodies ≡ true) where
-  pub known-listed : {listed : List ℕ} → length listed ≡ length places₀ → PlacesListed bodies listed → places ≡ listed → (length places ≡ length places₀) × PlacesKnown bodies places
-  known-listed e l q = rw q (e, record { below = rw e p; listed = λ h. l })
+  pub known-listed : {listed : List ℕ} → length listed ≡ length places₀ → PlacesListed bodies listed → places ≡ listed → PlacesKnown bodies places
+  known-listed e l q = rw q (record { below = rw e p; listed = λ h. l })
 
-  pub known-few : length bodies ≤ 4 → places ≡ places₀ → (length places ≡ length places₀) × PlacesKnown bodies places
-  known-few h q = rw q (refl, record { below = p; listed = λ k. absurd (omega arith) })
+  pub known-few : length bodies ≤ 4 → places ≡ places₀ → PlacesKnown bodies places
+  known-few h q = rw q (record { below = p; listed = λ k. absurd (omega arith) })

@@ -52,9 +52,6 @@ pub record Settling (nb : ℕ) (bounds es colors : List ℕ) (n : ℕ) (places�
   pub size : length table ≡ length positions₀
   pub located : (r : ℕ) → r < length colors → get_or colors r 0 < color → part_at bounds table r ≡ positions nb (parts_at (length colors) bounds es) colors r
 
-pub settling-none : (nb : ℕ) (bounds es colors : List ℕ) (n : ℕ) (places₀ positions₀ : List ℕ) → Settling nb bounds es colors n places₀ positions₀ places₀ positions₀ 0
-settling-none nb bounds es colors n places₀ positions₀ = record { inside = omega arith; places-size = refl; size = refl; located = λ r h c. absurd (omega arith) }
-
 module _ {nb n : ℕ} {bounds es colors offsets constraints starts bodies places₀ positions₀ places table : List ℕ} {k : ℕ} (w : Bounded (length colors) bounds es × Gapless (length colors) bounds es × (length positions₀ ≡ length es)) (p : Locatable nb (parts_at (length colors) bounds es) colors n offsets constraints starts bodies places₀) (v : Settling nb bounds es colors n places₀ positions₀ places table k) where
   pub settling-done : n ≤ k → table ≡ flatten (positions nb (parts_at (length colors) bounds es) colors) (length colors)
   unfolding groupCount

@@ -1,0 +1,13 @@
+-- `place_of`: the body stands in the list. `position` answers its place, which fits 16 bits; of more than 4 bodies the table has it.
+use native.Mathlib.Omega.{arith}
+use lib.Dec.{ltb}
+use lib.ListN.{length}
+use borrow.Author.Tests.{ltb-true}
+use Rattle.lists.proofs.Laws.{all_in, place-lt}
+use Rattle.locating.proofs.place_of.Goals as goal
+
+pub overflow_cast-result : goal.overflow_cast-result
+overflow_cast-result c = omega (arith, c.position.ensures, c.requires.0, place-lt c.args.body c.args.bodies.now c.requires.2)
+
+pub bounds-places-body : goal.bounds-places-body
+bounds-places-body c = let n = length c.args.places.now in ltb-true c.args.body n (all_in (λ b. ltb b n) c.args.body c.args.bodies.now c.requires.2 c.requires.3.below)
