@@ -1,0 +1,6 @@
+-- The loop ends at 14.
+use Prim.Native.Nat.{◌-◌}
+use Rattle.coloring_limits.proofs.main.Given as goal
+
+abbrev pub decreases-loop-short : goal.decreases-loop-short
+decreases-loop-short l = 14 - l.short

@@ -1,0 +1,6 @@
+-- The loop ends at 19.
+use Prim.Native.Nat.{◌-◌}
+use Rattle.coloring_limits.proofs.on_tables.Given as goal
+
+abbrev pub decreases-loop-case : goal.decreases-loop-case
+decreases-loop-case l = 19 - l.case
