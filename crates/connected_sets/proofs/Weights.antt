@@ -1,7 +1,7 @@
 -- Joining by weight and joining by lowest body make the same sets: so two bodies have one root exactly if they are connected, and the number of bodies
 -- that have a root is the size of its connected set.
 use Prim.Native.Nat.{ℕ}
-use mathlib.Core.Path.{◌≡◌, refl, sym, ap, ◌∙◌}
+use mathlib.Core.Path.{◌≡◌, refl, sym, ◌∙◌}
 use mathlib.Core.List.{List, [], ◌∷◌, ◌++◌}
 use lib.ListN.{length}
 use borrow.Author.Tests.{eqb-true, eq-eqb}
