@@ -1,6 +1,6 @@
 -- Every loop of the run keeps one invariant: the calls done and those still to come are the whole, and what is done has been added. So a
 -- turn of a loop moves the next calls from the one list to the other, and at the end all are done.
-use Prim.Native.Nat.{ℕ, ◌+◌, ◌-◌, ◌≤◌, ◌<◌}
+use Prim.Native.Nat.{ℕ, ◌+◌, ◌-◌, ◌<◌}
 use mathlib.Core.Path.{◌≡◌, sym, ap, ◌∙◌}
 use mathlib.Core.List.{List, [], ◌++◌, append_assoc, append-nil}
 use native.Mathlib.Omega.{arith}
@@ -93,8 +93,3 @@ module _ {whole rest : List Call} {t₀ t : List ℕ} {s₀ s : Tally} (room : R
 module _ (g : ℕ → List Call) (k n : ℕ) where
   pub parts_next : k < n → joinMap g (rangeFrom k (n - k)) ≡ g k ++ joinMap g (rangeFrom (k + 1) (n - (k + 1)))
   parts_next h = ap (joinMap g) (range-next n k h)
-
-  pub parts-end : n ≤ k → joinMap g (rangeFrom k (n - k)) ≡ []
-  parts-end h =
-      let e : n - k ≡ 0 = omega arith in
-      rw e
