@@ -77,9 +77,6 @@ module _ (ts ps js es : List ℕ) (t : IslandTables) where
     long-joints = length-take-le (length js / 2) t.joint-islands w.joints ∙ sym (pairs-length js es);
   }
 
-  pub sized-sizes : Room → length (take (length ts) t.sizes) ≡ length (take (length ts) t.parents)
-  sized-sizes w = length-take-le (length ts) t.sizes w.sizes ∙ sym (length-take-le (length ts) t.parents w.parents)
-
   -- ---- refused before question 7
   pub kept-builds : (k : ℕ) → k ≡ early ts ps js es rooms → (k ≡ 0 → ⊥) → Builds f (islandRefusal ts ps js es rooms) t t (Refused k)
   unfolding labelsAfter

@@ -29,21 +29,6 @@ module _ (ts ps js es : List ℕ) (r : Rooms) where
   abbrev pub early : ℕ
   early = asked (earlyQuestions ts ps js es r)
 
-  pub no-3 : q3 ≡ false → 3 ≡ early
-  no-3 a = rw a
-
-  pub no-4 : q3 ≡ true → q4 ≡ false → 4 ≡ early
-  no-4 a b = rw (a, b)
-
-  pub no-5 : q3 ≡ true → q4 ≡ true → q5 ≡ false → 5 ≡ early
-  no-5 a b c = rw (a, b, c)
-
-  pub no-6 : q3 ≡ true → q4 ≡ true → q5 ≡ true → q6 ≡ false → 6 ≡ early
-  no-6 a b c d = rw (a, b, c, d)
-
-  pub no_none : q3 ≡ true → q4 ≡ true → q5 ≡ true → q6 ≡ true → 0 ≡ early
-  no_none a b c d = rw (a, b, c, d)
-
   -- ---- where all got a "yes"
   pub early-few : early ≡ 0 → length ts ≤ 4096
   unfolding fewEach

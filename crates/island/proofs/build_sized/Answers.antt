@@ -1,0 +1,101 @@
+-- `island::build_sized` meets its contract: a frame whose constraints all pass is joined and labelled; any other leaves blank tables.
+use Rattle.std.proofs.Common.{ℕ, List, Bool, true, false, ◌≡◌, length, replicate, refl, sym, ap, ◌∙◌, arith}
+use mathlib.Core.Bool.{not, cond}
+use Rattle.lists.specs.Basics.{range}
+use Rattle.lists.proofs.Laws.{clashes}
+use Rattle.frame.specs.Frames.{Frame, frame_of, constraints, allSound, none}
+use Rattle.island_sets.specs.Sets.{rootOf}
+use Rattle.island_sets.specs.Steps.{Sets}
+use Rattle.island_sets.proofs.Starts.{fresh}
+use Rattle.island_joins.specs.Joins.{Joined}
+use Rattle.island.specs.Calls.{WeighedSets}
+use Rattle.island.specs.Steps.{Sized, Ready}
+use Rattle.island.proofs.Whole.{ready, weighed-sets}
+use Rattle.island.proofs.build_sized.Goals as goal
+
+-- each body is alone in the tables that were reset
+alone : (f : Frame) (p₀ s₀ b m j p z : List ℕ) → Sized f p₀ b m j → length s₀ ≡ length p₀ → p ≡ range (length p₀) → z ≡ replicate (length s₀) 1 → Sets p z × (rootOf p ≡ (λ (x : ℕ). x))
+alone f p₀ s₀ b m j p z h e = fresh (length p₀) (length s₀) p z (omega (arith, h.few, h.long-parents)) e
+
+pub join_frame-requires : goal.join_frame-requires
+join_frame-requires c =
+    let a = c.args in
+    let f = frame_of a.body_types.now a.manifolds.now a.joints.now a.enabled.now in
+    let r = c.reset in
+    let q = c.requires in
+    record {
+      sets = (alone f a.parents.now a.sizes.now a.body_islands.now a.manifold_islands.now a.joint_islands.now r.new.parents r.new.sizes q.sized q.sizes_len r.ensures.0 r.ensures.1).0;
+      long-parents = r.auto.parents ∙ q.sized.long-parents;
+      long-bodies = r.auto.body_islands ∙ q.sized.long-bodies;
+    }
+
+pub returns-then-not-join_frame : goal.returns-then-not-join_frame
+unfolding allSound
+returns-then-not-join_frame c =
+    let a = c.args in
+    let f = frame_of a.body_types.now a.manifolds.now a.joints.now a.enabled.now in
+    let h = c.requires in
+    let j = c.join_frame in
+    let r = c.reset in
+    let q = c.reset-then-not-join_frame in
+    let bad : allSound f ≡ false = sym j.ensures.answer ∙ c.if-not-join_frame.true in
+    record {
+      refusal = ap (λ (t : Bool). cond t 0 7) (sym bad);
+      refused = ap not (sym bad);
+      accepted = λ e. clashes (allSound f) e bad;
+      blank = λ e. record {
+        count = refl;
+        parents = q.ensures.0 ∙ ap range (j.auto.parents ∙ r.auto.parents ∙ h.sized.long-parents);
+        sizes = q.ensures.1 ∙ ap (λ (n : ℕ). replicate n 1) (j.auto.sizes ∙ r.auto.sizes ∙ h.sizes_len ∙ h.sized.long-parents);
+        body-labels = q.ensures.2 ∙ ap (λ (n : ℕ). replicate n none) (j.auto.body_islands ∙ r.auto.body_islands ∙ h.sized.long-bodies);
+        manifold-labels = c.fill.ensures ∙ ap (λ (n : ℕ). replicate n none) h.sized.long-manifolds;
+        joint-labels = c.fill-then-not-join_frame.ensures ∙ ap (λ (n : ℕ). replicate n none) h.sized.long-joints;
+      };
+    }
+
+-- where all constraints passed: the tables that were reset (p₁, s₁, b₁), and what the joining left of them (p, s, b)
+module _ (f : Frame) (p₀ s₀ b₀ m j p₁ s₁ b₁ p s b : List ℕ) (h : Sized f p₀ b₀ m j) (e : length s₀ ≡ length p₀)
+    (ep : p₁ ≡ range (length p₀)) (es : s₁ ≡ replicate (length s₀) 1) (eb : b₁ ≡ replicate (length b₀) none)
+    (lp : length p ≡ length p₀) (lb : length b ≡ length b₀) (w : Joined f.types (constraints f) p₁ b₁ p s b) where
+  fits : Sized f p b m j
+  fits = record { few = h.few; long-parents = lp ∙ h.long-parents; long-bodies = lb ∙ h.long-bodies; long-manifolds = h.long-manifolds; long-joints = h.long-joints }
+
+  roots : rootOf p₁ ≡ (λ (x : ℕ). x)
+  roots = (alone f p₀ s₀ b₀ m j p₁ s₁ h e ep es).1
+
+  joined-ready : allSound f ≡ true → Ready f p b m j
+  joined-ready = ready f p₁ b₁ p s b m j (length b₀) roots eb fits w
+
+  joined-sets : WeighedSets f p s
+  joined-sets = weighed-sets f p₁ b₁ p s b m j (length b₀) roots eb fits w
+
+pub label_frame-requires : goal.label_frame-requires
+unfolding allSound
+label_frame-requires c =
+    let a = c.args in
+    let f = frame_of a.body_types.now a.manifolds.now a.joints.now a.enabled.now in
+    let h = c.requires in
+    let r = c.reset in
+    let j = c.join_frame in
+    let ok = c.if-not-join_frame.false in
+    joined-ready f a.parents.now a.sizes.now a.body_islands.now a.manifold_islands.now a.joint_islands.now r.new.parents r.new.sizes r.new.body_islands j.new.parents j.new.sizes j.new.body_islands
+    h.sized h.sizes_len r.ensures.0 r.ensures.1 r.ensures.2 (j.auto.parents ∙ r.auto.parents) (j.auto.body_islands ∙ r.auto.body_islands) (j.ensures.joined ok) (sym j.ensures.answer ∙ ok)
+
+pub returns : goal.returns
+unfolding allSound
+returns c =
+    let a = c.args in
+    let f = frame_of a.body_types.now a.manifolds.now a.joints.now a.enabled.now in
+    let h = c.requires in
+    let r = c.reset in
+    let j = c.join_frame in
+    let ok = c.if-not-join_frame.false in
+    let passed : allSound f ≡ true = sym j.ensures.answer ∙ ok in
+    let sets = joined-sets f a.parents.now a.sizes.now a.body_islands.now a.manifold_islands.now a.joint_islands.now r.new.parents r.new.sizes r.new.body_islands j.new.parents j.new.sizes j.new.body_islands
+    h.sized h.sizes_len r.ensures.0 r.ensures.1 r.ensures.2 (j.auto.parents ∙ r.auto.parents) (j.auto.body_islands ∙ r.auto.body_islands) (j.ensures.joined ok) in
+    record {
+      refusal = ap (λ (t : Bool). cond t 0 7) (sym passed);
+      refused = ap not (sym passed);
+      accepted = λ e. (sets, c.label_frame.ensures);
+      blank = λ e. clashes (allSound f) passed e;
+    }
