@@ -4,17 +4,17 @@ use Prim.Native.Nat.{ℕ, ◌+◌, ◌*◌, ◌≤◌, ◌<◌}
 use native.Mathlib.Omega.{arith}
 use native.Mathlib.Decide.{ℕ_discrete}
 use mathlib.Core.Path.{◌≡◌, refl, sym, ap, ◌∙◌, subst}
-use mathlib.Core.Bool.{Bool, true, false, ◌&&◌, ◌||◌, cond, and-true}
+use mathlib.Core.Bool.{Bool, true, false, ◌&&◌, ◌||◌, cond}
 use mathlib.Core.List.{List, [], ◌∷◌, ◌++◌, append_assoc, append-nil}
 use lib.Dec.{eqb}
 use lib.ListN.{length, get_or, set, drop, length-set}
 use lib.Seq.{get_or-set_same, get_or-set_other}
 use borrow.Author.Tests.{eqb-true, eq-eqb, ne_eqb}
 use Rattle.lists.specs.Basics.{any, all}
-use Rattle.lists.proofs.Laws.{and_left, and_right, and_both, clashes, not-true-false, any_append, all_append, cond-or}
+use Rattle.lists.proofs.Laws.{and_left, and_right, and_both, not-true-false, any_append, all_append, cond-or}
 use Rattle.lists.proofs.Ranges.{joinMap-append}
 use Rattle.frame.specs.Frames.{Constraint, Frame, constraint, constraintsOf, dynamic, on, sound, none}
-use Rattle.frame.proofs.Pairs.{pairs-step, pairs_end, scan-stop}
+use Rattle.frame.proofs.Pairs.{pairs-step, pairs_end}
 use Rattle.island_sets.specs.Sets.{rootOf, hang}
 use Rattle.island_sets.specs.Steps.{Sets}
 use Rattle.island_labels.specs.Labels.{bare}
@@ -120,9 +120,6 @@ module _ (ts : List ℕ) (cs ds : List Constraint) (p₀ l₀ p₁ s₁ l₁ : L
   both-lists : (t : Bool) → r ≡ t → all passes (cs ++ ds) ≡ (t && all passes ds)
   both-lists t e = all_append passes cs ds ∙ ap (λ (x : Bool). x && all passes ds) (sym u.answer ∙ e)
 
-  pub tried-first : r ≡ false → JoinedOrRefused ts (cs ++ ds) p₀ l₀ p₁ s₁ l₁ false
-  tried-first e = record { answer = sym (both-lists false e); joined = λ t. clashes false t refl }
-
   pub tried-both : r ≡ true → (p₂ s₂ l₂ : List ℕ) (r₂ : Bool) → JoinedOrRefused ts ds p₁ l₁ p₂ s₂ l₂ r₂ → JoinedOrRefused ts (cs ++ ds) p₀ l₀ p₂ s₂ l₂ r₂
   tried-both e p₂ s₂ l₂ r₂ v = record { answer = v.answer ∙ sym (both-lists true e); joined = λ t. joined-append ts cs ds p₀ l₀ p₁ s₁ l₁ p₂ s₂ l₂ (u.joined e) (v.joined t) }
 
@@ -146,9 +143,6 @@ module _ (ts ps es p₀ l₀ p s l : List ℕ) (k i : ℕ) (w : Joining ts ps es
 
   asked-both : all (sound (length ts)) (constraintsOf ps es) ≡ all (sound (length ts)) (constraintsOf (drop k ps) (drop i es))
   asked-both = ap (all (sound (length ts))) (sym w.whole) ∙ all_append (sound (length ts)) w.done (constraintsOf (drop k ps) (drop i es)) ∙ rw w.passed
-
-  pub joining-stops : (t : Bool) → k + 1 < length ps → t ≡ eqb (get_or es i 1) 1 → all (sound (length ts)) (here t ∷ []) ≡ false → all (sound (length ts)) (constraintsOf ps es) ≡ false
-  joining-stops t h e fails = asked-both ∙ scan-stop (sound (length ts)) ps es k i t (sound (length ts) (here t)) h e refl (sym (and-true (sound (length ts) (here t))) ∙ fails)
 
   pub joining-turns : (p' s' l' : List ℕ) (t : Bool) → k + 1 < length ps → t ≡ eqb (get_or es i 1) 1 → all (sound (length ts)) (here t ∷ []) ≡ true
       → length p' ≡ length p → length l' ≡ length l → Joined ts (here t ∷ []) p l p' s' l' → Joining ts ps es p₀ l₀ p' s' l' (k + 2) (i + 1)
