@@ -2,21 +2,18 @@
 use Prim.Native.Nat.{ℕ, ◌+◌, ◌≤◌, ◌<◌, min}
 use native.Mathlib.Omega.{arith}
 use mathlib.Core.Path.{◌≡◌, sym, ap, ◌∙◌}
-use mathlib.Core.Bool.{Bool, true, false, ◌&&◌}
+use mathlib.Core.Bool.{Bool, true, ◌&&◌}
 use mathlib.Core.List.{List, [], ◌∷◌, ◌++◌, map}
 use lib.Dec.{eqb}
 use lib.ListN.{length, get_or, set, take, drop, length-append, length-take, length-map}
 use Rattle.lists.specs.Basics.{all}
-use Rattle.lists.proofs.Laws.{and_left, and_right, get_d_any}
+use Rattle.lists.proofs.Laws.{and_right, get_d_any}
 use Rattle.lists.proofs.Fills.{fill-turn, fill_end}
 use Rattle.frame.specs.Frames.{Constraint, constraint, constraintsOf, sound, none}
 use Rattle.frame.proofs.Pairs.{pairs-step, pairs_end}
 use Rattle.island_labels.specs.Labels.{labelBy}
 
 -- ---- one constraint
-pub label-dead : (l : List ℕ) (t : Bool) (a b : ℕ) → t ≡ false → none ≡ labelBy l (constraint t a b)
-label-dead l t a b e = rw e
-
 pub label-live : (l : List ℕ) (t : Bool) (a b r : ℕ) → t ≡ true → a < length l → b < length l → r ≡ min (get_or l a 0) (get_or l b 0) → get_or l b 0 ≤ none → r ≡ labelBy l (constraint t a b)
 label-live l t a b r e ha hb q k = rw e (omega (arith, q, k, get_d_any l a 0 none ha, get_d_any l b 0 none hb))
 
@@ -37,9 +34,6 @@ module _ (ps es l out₀ out : List ℕ) (k i : ℕ) (w : Labelling ps es l out�
 
   both-pass : (t : Bool) → k + 1 < length ps → t ≡ eqb (get_or es i 1) 1 → (sound (length l) (here t) && all (sound (length l)) rest) ≡ true
   both-pass t h e = ap (λ (u : Bool). sound (length l) (here u) && all (sound (length l)) rest) e ∙ ap (all (sound (length l))) (sym (pairs-step ps es k i h)) ∙ w.passed
-
-  pub labelling-sound : (t : Bool) → k + 1 < length ps → t ≡ eqb (get_or es i 1) 1 → sound (length l) (here t) ≡ true
-  labelling-sound t h e = and_left (sound (length l) (here t)) (all (sound (length l)) rest) (both-pass t h e)
 
   pub labelling-room : k + 1 < length ps → i < length out
   labelling-room h =

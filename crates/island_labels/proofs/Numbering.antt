@@ -6,7 +6,7 @@ use native.Mathlib.Decide.{ℕ_discrete, dec_lt}
 use native.Mathlib.Nat.{le_refl}
 use native.Mathlib.Numerals.{add-one}
 use mathlib.Core.Path.{◌≡◌, refl, sym, ap, ◌∙◌, subst, fun_ext}
-use mathlib.Core.Bool.{Bool, true, false, not, ◌&&◌, ◌||◌, cond, and-false}
+use mathlib.Core.Bool.{Bool, true, false, not, ◌&&◌, ◌||◌, cond}
 use mathlib.Core.List.{List}
 use lib.Dec.{eqb, ltb}
 use lib.ListN.{length, get_or, set, length-set, get_or-eq_default}
@@ -20,7 +20,7 @@ use Rattle.island_sets.specs.Sets.{rootOf}
 use Rattle.island_sets.specs.Steps.{Balanced, SameSets, LowestOf}
 use Rattle.island_sets.proofs.Links.{root-root}
 use Rattle.island_sets.proofs.Weights.{ends, root-inside}
-use Rattle.island_labels.specs.Labels.{unnumbered, bare, inIslandBy, leadsBy, Together, Numberable, Flagged, nextLabel, nextPlace, Stepped, Numbered, NumberedByLowest}
+use Rattle.island_labels.specs.Labels.{unnumbered, inIslandBy, leadsBy, Together, Numberable, Flagged, nextLabel, nextPlace, Stepped, Numbered, NumberedByLowest}
 
 -- ---- the flags, at body b: l₀ at the start, l as it is
 pub record Flagging (ts l₀ l : List ℕ) (b : ℕ) : Type 0 where
@@ -28,9 +28,6 @@ pub record Flagging (ts l₀ l : List ℕ) (b : ℕ) : Type 0 where
   pub long : length l ≡ length l₀
   pub done : (x : ℕ) → x < b → get_or l x none ≡ cond (inIslandBy ts l₀ x) unnumbered none
   pub todo : (x : ℕ) → b ≤ x → get_or l x none ≡ get_or l₀ x none
-
-pub flagging-starts : (ts l : List ℕ) → Flagging ts l l 0
-flagging-starts ts l = record { inside = omega arith; long = refl; done = λ x h. absurd (omega (arith, h)); todo = λ x h. refl }
 
 module _ (ts l₀ l : List ℕ) (b : ℕ) (w : Flagging ts l₀ l b) (size : length l₀ ≡ length ts) where
   -- what the code tests
@@ -54,15 +51,6 @@ module _ (ts l₀ l : List ℕ) (b : ℕ) (w : Flagging ts l₀ l b) (size : len
           (get_or-set_same l b f none (omega (arith, w.long)) ∙ e ∙ ap (λ (t : Bool). cond t unnumbered none) (in-island-here k))
       at x j (no q) = get_or-set_other l b x f none q ∙ w.done x (omega (arith, q, j))
 
-  pub flagging-ends : length l ≤ b → Flagged (inIslandBy ts l₀) l
-  flagging-ends h = record { labels = λ x. go x (dec_lt x b) }
-    where
-      go : (x : ℕ) → Dec (x < b) → get_or l x none ≡ cond (inIslandBy ts l₀ x) unnumbered none
-      go x (yes k) = w.done x k
-      go x (no k) =
-          let past : inIslandBy ts l₀ x ≡ false = ap (λ (v : ℕ). dynamic (bare ts) x && not (eqb v none)) (get_or-eq_default l₀ none (omega (arith, k, h, w.long))) ∙ and-false (dynamic (bare ts) x) in
-          get_or-eq_default l none (omega (arith, k, h)) ∙ sym (ap (λ (t : Bool). cond t unnumbered none) past)
-
 -- ---- one body, in the terms of `number_one`: r is its root
 module _ (p l : List ℕ) (b n r : ℕ) (e : r ≡ rootOf p b) (k : r < length l) where
   root-label : get_or l r 0 ≡ get_or l (rootOf p b) none
@@ -75,12 +63,6 @@ module _ (p l : List ℕ) (b n r : ℕ) (e : r ≡ rootOf p b) (k : r < length l
     labels = ap (λ (x : ℕ). set (set l x v) b v) (eq ∙ ap (λ (x : ℕ). cond (eqb x unnumbered) r b) root-label ∙ ap (λ (x : ℕ). cond (eqb (get_or l (rootOf p b) none) unnumbered) x b) e)
         ∙ ap (λ (x : ℕ). set (set l (nextPlace p l b) x) b x) (ev ∙ ap (λ (x : ℕ). cond (eqb x unnumbered) n x) root-label);
   }
-
-  -- the place is in the table
-  pub place_in : (q : ℕ) → q ≡ cond (eqb (get_or l r 0) unnumbered) r b → b < length l → q < length l
-  place_in q eq h = by_cases (eqb (get_or l r 0) unnumbered)
-      (λ t. let z : q ≡ r = eq ∙ rw t in omega (arith, z, k))
-      (λ t. let z : q ≡ b = eq ∙ rw t in omega (arith, z, h))
 
 -- ---- the pass, for given lowest bodies low: m tells the bodies in islands
 module _ (p : List ℕ) (m : ℕ → Bool) (low : ℕ → ℕ) where
@@ -97,12 +79,6 @@ module _ (p : List ℕ) (m : ℕ → Bool) (low : ℕ → ℕ) where
   pub record State (l : List ℕ) (n b : ℕ) : Type 0 where
     pub islands : n ≡ up_to b
     pub table : (y : ℕ) → get_or l y none ≡ shown b y
-
-  pub state-starts : (l : List ℕ) → Flagged m l → State l 0 0
-  state-starts l w = record { islands = refl; table = λ y. w.labels y ∙ sym (ap (λ (t : Bool). cond (m y) (cond t (up_to (low y)) unnumbered) none) (none_yet y)) }
-    where
-      none_yet : (y : ℕ) → numbered 0 y ≡ false
-      none_yet y = rw (le-ltb y 0 (omega arith), le-ltb (low y) 0 (omega arith)) (and-false (eqb (rootOf p y) y))
 
   module _ (h : Balanced p) (few : (y : ℕ) → m y ≡ true → y < length p) (together : Together m (rootOf p)) (o : LowestOf (rootOf p) low) where
     same_low : (x y : ℕ) → rootOf p x ≡ rootOf p y → low x ≡ low y
@@ -264,9 +240,6 @@ module _ (ts p l₀ f : List ℕ) (h : Numberable ts p l₀) (w : Flagged (inIsl
       go (yes k) = k
       go (no k) = let past : get_or f y none ≡ none = get_or-eq_default f none (omega (arith, k, size, h.long-bodies, h.long-parents)) in
           clashes (waits f y) i (ap (λ (v : ℕ). eqb v unnumbered) past)
-
-  pub numbering-starts : Numbering p f f 0 0
-  numbering-starts = record { inside = omega arith; long = refl; states = λ low o. state-starts p (waits f) low f (subst (λ (m : ℕ → Bool). Flagged m f) (sym waits-are) w) }
 
   module _ (l : List ℕ) (n b : ℕ) (v : Numbering p f l n b) where
     pub long-now : length l ≡ length p
