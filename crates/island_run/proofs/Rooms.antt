@@ -1,6 +1,6 @@
 -- Question 6 asks for the tables' lengths alone, and fewer constraints need less.
 use Prim.Native.Nat.{ℕ, ◌≤◌}
-use mathlib.Core.Path.{◌≡◌, refl}
+use mathlib.Core.Path.{◌≡◌}
 use mathlib.Core.Bool.{true}
 use native.Mathlib.Omega.{arith}
 use lib.ListN.{length}
@@ -22,23 +22,6 @@ pub record SameLengths (t u : Tables) : Type 0 where
   pub color-body-offsets : length u.color-body-offsets ≡ length t.color-body-offsets
   pub color-bodies : length u.color-bodies ≡ length t.color-bodies
   pub constraint-body-positions : length u.constraint-body-positions ≡ length t.constraint-body-positions
-
-pub same_first : (t : Tables) → SameLengths t t
-same_first t = record {
-  dynamic-bodies = refl;
-  endpoints = refl;
-  body-offsets = refl;
-  body-constraints = refl;
-  scratch-offsets = refl;
-  constraint-colors = refl;
-  color-stamps = refl;
-  body-stamps = refl;
-  color-offsets = refl;
-  colored-constraints = refl;
-  color-body-offsets = refl;
-  color-bodies = refl;
-  constraint-body-positions = refl;
-}
 
 pub room-kept : (b c d : ℕ) (t u : Tables) → d ≤ c → SameLengths t u → roomy b c t ≡ true → roomy b d u ≡ true
 room-kept b c d t u l s h =
