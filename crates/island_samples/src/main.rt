@@ -6,7 +6,7 @@
 
 use island::Answer;
 
-// Standard streams, by their file descriptors.
+// Standard output, by its file descriptor.
 const STDOUT: i32 = 1;
 
 // The label of what has no island.

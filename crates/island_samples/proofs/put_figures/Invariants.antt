@@ -1,0 +1,6 @@
+-- `put_figures` is safe and ends: `body` grows to `bodies`.
+use Prim.Native.Nat.{◌-◌}
+use Rattle.island_samples.proofs.put_figures.Given as goal
+
+abbrev pub decreases-loop-body : goal.decreases-loop-body
+decreases-loop-body l = l.bodies - l.body
