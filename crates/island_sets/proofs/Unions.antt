@@ -14,7 +14,7 @@ use Rattle.island_sets.specs.Sets.{rootOf, sizeIn, winnerOf, winner, hang}
 use Rattle.island_sets.specs.Steps.{Sets, Shortened}
 use Rattle.island_sets.proofs.Links.{root-root}
 use Rattle.island_sets.proofs.Weights.{ends, root-inside, told_at}
-use Rattle.island_sets.proofs.Hangs.{moved, total-most, roots-hung, sets-hung}
+use Rattle.island_sets.proofs.Hangs.{moved, roots-hung, sets-hung}
 
 -- ---- which root wins: one of the two, and its set is no smaller
 one-wins : (m n u v : ℕ) → ((winnerOf m n u v ≡ u) × (n ≤ m)) ⊎ ((winnerOf m n u v ≡ v) × (m ≤ n))
@@ -28,12 +28,6 @@ one-wins m n u v = by_cases (ltb m n)
     tie : winnerOf m n u v ≡ min u v → n ≤ m → m ≤ n → Dec (u ≤ v) → ((winnerOf m n u v ≡ u) × (n ≤ m)) ⊎ ((winnerOf m n u v ≡ v) × (m ≤ n))
     tie e a b (yes l) = inl (omega (arith, e, l), a)
     tie e a b (no l) = inr (omega (arith, e, l), b)
-
-pub top-most : (u v t m n : ℕ) → t ≡ winnerOf m n u v → t ≤ u + v
-top-most u v t m n e = ⊎_elim (λ w. omega (arith, e ∙ w.0)) (λ w. omega (arith, e ∙ w.0)) (one-wins m n u v)
-
-pub lower-is : (u v : ℕ) → cond (ltb u v) u v ≡ min u v
-lower-is u v = by_cases (ltb u v) (λ t. rw t (omega (arith, ltb-true u v t))) (λ t. rw t (omega (arith, ltb-false u v t)))
 
 wins-self : (m u : ℕ) → winnerOf m m u u ≡ u
 wins-self m u = ⊎_elim (λ w. w.0) (λ w. w.0) (one-wins m m u u)
@@ -74,13 +68,6 @@ module _ (p s : List ℕ) (h : Sets p s) (u v : ℕ) (ku : u < length p) (kv : v
   hang-roots : hangRoots (length p) (rootOf p) u v ≡ hang (length p) (rootOf p) u v
   hang-roots = ap (λ (x : ℕ). hangRoots (length p) (rootOf p) x v) (sym eu) ∙ ap (hangRoots (length p) (rootOf p) (rootOf p u)) (sym ev)
 
-  -- the sum of the sizes fits
-  pub both-fit : get_or s u 0 + get_or s v 0 ≤ 4096
-  both-fit = ⊎_elim
-      (λ w. omega (arith, total-most p s h u v ku kv eu ev ne w.1, h.few))
-      (λ w. omega (arith, total-most p s h v u kv ku ev eu (λ q. ne (sym q)) w.1, h.few))
-      (one-wins (get_or s u 0) (get_or s v 0) u v)
-
   -- the tables after the stores, where t is the winner
   module _ (t : ℕ) (et : t ≡ winnerOf (get_or s u 0) (get_or s v 0) u v) (p' s' : List ℕ) where
     abbrev Made : Type 0
@@ -107,12 +94,6 @@ module _ (p s : List ℕ) (h : Sets p s) (u v : ℕ) (ku : u < length p) (kv : v
 
     -- the two as they are picked: the winner, and what is left of their sum
     module _ (w : ℕ) (ew : w ≡ u + v - t) where
-      pub picked_fit : (t < length p) × (w < length p) × (get_or s t 0 + get_or s w 0 ≤ 4096)
-      picked_fit = ⊎_elim (λ k. fit u v (et ∙ k.0) (omega (arith, et ∙ k.0)) ku kv both-fit) (λ k. fit v u (et ∙ k.0) (omega (arith, et ∙ k.0)) kv ku (omega (arith, both-fit))) (one-wins (get_or s u 0) (get_or s v 0) u v)
-        where
-          fit : (x y : ℕ) → t ≡ x → w ≡ y → x < length p → y < length p → get_or s x 0 + get_or s y 0 ≤ 4096 → (t < length p) × (w < length p) × (get_or s t 0 + get_or s w 0 ≤ 4096)
-          fit x y ex ey kx ky k = rw (ex, ey) (kx, ky, k)
-
       pub picked-stays : p' ≡ set p w t → s' ≡ set s t (get_or s t 0 + get_or s w 0) → Made
       picked-stays ep es = ⊎_elim
           (λ k. under_left (et ∙ k.0) k.1 (ep ∙ stored (et ∙ k.0) (omega (arith, et ∙ k.0))) (es ∙ summed (et ∙ k.0) (omega (arith, et ∙ k.0))))
