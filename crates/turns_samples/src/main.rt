@@ -2,9 +2,8 @@
 // high one first.
 #![tactic(auto)]
 
-// Standard streams, by their file descriptors.
+// Standard input, by its file descriptor.
 const STDIN: i32 = 0;
-
 
 fn length_of(high: u8, middle: u8, low: u8) -> usize {
     65536 * high as usize + 256 * middle as usize + low as usize
