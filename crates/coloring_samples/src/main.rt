@@ -4,7 +4,7 @@
 
 use constraint_coloring::{ConstraintColoring, Update};
 
-// Standard streams, by their file descriptors.
+// Standard output, by its file descriptor.
 const STDOUT: i32 = 1;
 
 fn put(n: u16) {
