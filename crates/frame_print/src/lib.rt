@@ -4,11 +4,10 @@
 
 ghost use Rattle.std.specs.Prelude.{◌≤◌, length};
 
-// Standard streams, by their file descriptors.
+// Standard input and output, by their file descriptors.
 const STDIN: i32 = 0;
 
 const STDOUT: i32 = 1;
-
 
 fn write_first(text: &[u8], size: usize)
     requires { size ≤ length text.now }
