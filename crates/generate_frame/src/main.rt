@@ -5,7 +5,7 @@
 
 use frame::Frame;
 
-// Standard streams, by their file descriptors.
+// The standard streams, by their file descriptors.
 const STDERR: i32 = 2;
 
 const STDIN: i32 = 0;
