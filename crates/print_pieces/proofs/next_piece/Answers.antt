@@ -1,0 +1,9 @@
+-- The lines stand at the buffer's start.
+use native.Mathlib.Omega.{arith}
+use Rattle.print_pieces.proofs.Pieces.{next-stands}
+use Rattle.print_pieces.proofs.next_piece.Goals as goal
+
+pub returns : goal.returns
+returns c =
+    let l = c.put_lines in
+    next-stands c.args.frame.now c.args.turns.now c.args.out.now l.new.out c.args.piece l.result (omega arith) l.ensures.0 l.ensures.1
