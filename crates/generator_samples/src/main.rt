@@ -5,7 +5,7 @@
 use frame::Frame;
 use generator::Generated;
 
-// Standard streams, by their file descriptors.
+// Standard output, by its file descriptor.
 const STDOUT: i32 = 1;
 
 fn wide(x: u8) -> u32 {
