@@ -46,12 +46,10 @@ fn put_places(
 }
 
 // The count, and the bodies and marks of its places and of the one past them.
-fn put_binding(binding: BodyBinding, out: &mut [u8], at: usize) -> usize {
+fn put_binding(binding: &BodyBinding, out: &mut [u8], at: usize) -> usize {
     let last = least(binding.count, Frame::MAX_BODIES - 1);
     let counted = put_half(out, at, last as u16);
-    let bodies = binding.bodies;
-    let marks = binding.marks;
-    put_places(&bodies, &marks, last + 1, out, counted)
+    put_places(&binding.bodies, &binding.marks, last + 1, out, counted)
 }
 
 fn take_all(
@@ -74,7 +72,7 @@ fn take_all(
         let take = step.take;
         next = put_take(take, out, next);
         binding = step.binding;
-        next = put_binding(binding, out, next);
+        next = put_binding(&binding, out, next);
         place = after(question, place, 2);
         left -= 1;
     }
@@ -88,7 +86,7 @@ fn bind_and_take(question: &[u8], list: &mut [u16], out: &mut [u8]) -> usize {
     let bound = BodyBinding::bind(types, list);
     let binding = bound.binding;
     let refused = put(out, 0, bound.refusal);
-    let shown = put_binding(binding, out, refused);
+    let shown = put_binding(&binding, out, refused);
     take_all(
         binding,
         number_at(question, 2),
