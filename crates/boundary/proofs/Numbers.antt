@@ -51,6 +51,6 @@ found-by {part} {p} {start} plan offsets table k e h from =
     record {
       part = ap (λ (xs : List ℕ). take (length xs) (drop start table)) same
           ∙ group_at n offsets table k start (ltb k n && ltb (k + 1) (length offsets)) refl (from ∙ ap (λ (xs : List ℕ). cond (eqb (length xs) 0) 0 (get_or offsets k 0)) same);
-      as_long = ap length same;
+      as-long = ap length same;
       from-offset = from;
     }

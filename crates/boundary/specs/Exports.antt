@@ -22,12 +22,12 @@ pub record Updates (plan flags pairs : List ℕ) (t u : Tables) (number changed 
   pub updated : Updated (planOfNumbers plan) flags pairs t u answer
   pub refusal : number ≡ updateNumber answer
   pub change : changed ≡ one (updateChanged answer)
-  pub plan_after : left ≡ planNumbers (planAfter (planOfNumbers plan) answer)
+  pub plan-after : left ≡ planNumbers (planAfter (planOfNumbers plan) answer)
 
 -- the part of group k of n groups: where it starts in the table, and its size; an empty part starts at 0
 pub record Found (n : ℕ) (offsets table : List ℕ) (k start size : ℕ) : Type 0 where
   pub part : take size (drop start table) ≡ groupPart n offsets table k
-  pub as_long : size ≡ length (groupPart n offsets table k)
+  pub as-long : size ≡ length (groupPart n offsets table k)
   pub from-offset : start ≡ cond (eqb size 0) 0 (get_or offsets k 0)
 
 -- a lookup of the positions of constraint r of n

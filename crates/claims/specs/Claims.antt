@@ -57,9 +57,9 @@ use Rattle.print_pieces.proofs.Whole.{whole-print}
 
 -- Two lanes never hold one body: of every accepted file and every schedule of its frame, two different turns of one group of one island
 -- hold no body in common, and no body that makes conflicts, dynamic or logged (a drum that logs its line pull), is on both constraints.
-pub two_lanes : (bs : List ℕ) (p : Plans) (o : Orders) (c d : Call) → frameRefusal bs ≡ 0 → Schedule (decode bs) p o → Turns (decode bs) p o c d
+pub two-lanes : (bs : List ℕ) (p : Plans) (o : Orders) (c d : Call) → frameRefusal bs ≡ 0 → Schedule (decode bs) p o → Turns (decode bs) p o c d
     → c.island ≡ d.island → c.group ≡ d.group → Apart (decode bs) c d
-two_lanes = lanes-apart
+two-lanes = lanes-apart
 
 -- And turns of two different islands, whatever their groups, have no dynamic body on both constraints. THIS DOES NOT SAY that islands may be
 -- solved at once: a logged body may be on both, as the claim after the next shows. Islands are solved one after another.

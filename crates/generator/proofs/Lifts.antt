@@ -103,7 +103,7 @@ lift-made seed b m j old new number long made e =
     let file = generatedBytes seed b m j in
     let none : generateRefusal b m j (length old) ≡ 0 = sym made.refusal ∙ e in
     let ok = all_yes b m j (length old) none in
-    let there : take long new ≡ file = rw (made.as_long, made.bytes, none) (take_at file (drop (length file) old) (fileLength b m j) (generated-long seed b m j ok.0 ok.1)) in
+    let there : take long new ≡ file = rw (made.as-long, made.bytes, none) (take_at file (drop (length file) old) (fileLength b m j) (generated-long seed b m j ok.0 ok.1)) in
     rw there (lift-holds seed b m j ok.0 ok.1)
 
 -- ---- the first states from seed 0

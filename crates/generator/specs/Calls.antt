@@ -1,5 +1,5 @@
 -- What `generate` asks, answers and leaves in the bytes that it was lent.
-use Rattle.std.specs.Prelude.{◌≡◌, ℕ, ◌+◌, Bool, true, false, cond, not, ◌||◌, List, [], ◌∷◌, length, ◌==◌, nat_le}
+use Rattle.std.specs.Prelude.{◌≡◌, ℕ, ◌+◌, Bool, true, false, cond, not, ◌||◌, List, [], ◌∷◌, leb, eqb, length}
 use Rattle.lists.specs.Basics.{over}
 use Rattle.frame.specs.Questions.{question, asked, fewEach}
 use Rattle.frame_file.specs.Written.{fileLength}
@@ -9,11 +9,11 @@ use Rattle.generator.specs.Draws.{generatedBytes}
 
 -- 13: no pair is wanted, or there are two bodies for it
 unfoldable pub pairsPossible : ℕ → ℕ → ℕ → Bool
-pairsPossible b m j = nat_le 2 b || m + j == 0
+pairsPossible b m j = leb 2 b || eqb (m + j) 0
 
 -- the refusal: questions 3, 13 and 6, with `room` bytes lent
 unfoldable pub generateRefusal : ℕ → ℕ → ℕ → ℕ → ℕ
-generateRefusal b m j room = asked (question 3 (fewEach b m j) ∷ question 13 (pairsPossible b m j) ∷ question 6 (nat_le (fileLength b m j) room) ∷ [])
+generateRefusal b m j room = asked (question 3 (fewEach b m j) ∷ question 13 (pairsPossible b m j) ∷ question 6 (leb (fileLength b m j) room) ∷ [])
 
 -- an answer's number, 0 where a frame was made; and whether it is a refusal: that has a number, never 0
 abbrev pub generatedNumber : Generated → ℕ
@@ -32,10 +32,10 @@ generatedLength (Refused k) = 0
 -- a call by its numbers: the lent bytes were `old` and are `new`; the frame stands from place 0 on, and a refusal keeps all
 pub record Made (seed b m j : ℕ) (old new : List ℕ) (number long : ℕ) : Type 0 where
   pub refusal : number ≡ generateRefusal b m j (length old)
-  pub as_long : long ≡ cond (generateRefusal b m j (length old) == 0) (fileLength b m j) 0
-  pub bytes : new ≡ cond (generateRefusal b m j (length old) == 0) (over (generatedBytes seed b m j) old) old
+  pub as-long : long ≡ cond (eqb (generateRefusal b m j (length old)) 0) (fileLength b m j) 0
+  pub bytes : new ≡ cond (eqb (generateRefusal b m j (length old)) 0) (over (generatedBytes seed b m j) old) old
 
 -- the contract: such a call, and its answer, which is a refusal exactly if there is one
 pub record Makes (seed b m j : ℕ) (old new : List ℕ) (r : Generated) : Type 0 where
   pub made : Made seed b m j old new (generatedNumber r) (generatedLength r)
-  pub refused : generatedRefused r ≡ not (generateRefusal b m j (length old) == 0)
+  pub refused : generatedRefused r ≡ not (eqb (generateRefusal b m j (length old)) 0)

@@ -34,7 +34,7 @@ module _ (seed b m j : ℕ) (old new : List ℕ) (room : length old ≡ 40971) w
       record {
         buffer = rw none there;
         long = over-long (generatedBytes seed b m j) old new there (omega (arith, size, yes.2, room));
-        as_long = made.as_long ∙ rw (room, none) (sym size);
+        as-long = made.as-long ∙ rw (room, none) (sym size);
       }
 
   pub refusal-printed : (k : ℕ) (out : List ℕ) (r : ℕ) → Makes seed b m j old new (Refused k)
@@ -51,5 +51,5 @@ module _ (seed b m j : ℕ) (old new : List ℕ) (room : length old ≡ 40971) w
       record {
         buffer = rw (is, some) there;
         long = over-long (refusalLine k) old out there (omega (arith, size, put'.within (omega arith), ap length kept));
-        as_long = rw (is, some) size;
+        as-long = rw (is, some) size;
       }

@@ -20,4 +20,4 @@ liftAsked Unreadable = []
 pub record Printed (text old new : List ℕ) (r : ℕ) : Type 0 where
   pub buffer : new ≡ over text old
   pub long : length new ≡ length old
-  pub as_long : r ≡ length text
+  pub as-long : r ≡ length text
