@@ -1,5 +1,6 @@
 -- What the answers of the calls say: document 01's number and values for each case, and the parts of each contract.
 use Rattle.std.specs.Prelude.{ℕ, ◌≤◌, ◌<◌, ◌≡◌, Bool, true, false, not, List, [], ◌∷◌, map, eqb, length, get_or}
+use Rattle.lists.specs.Basics.{one, four}
 use Rattle.colored_bodies.specs.Bindings.{Handed, bindRefusal, bindOf, take_of}
 use Rattle.colored_bodies.specs.declared.BodyBinding.{BodyBinding}
 use Rattle.colored_bodies.specs.declared.Bound.{Bound}
@@ -7,6 +8,8 @@ use Rattle.colored_bodies.specs.declared.Take.{Take}
 use Rattle.colored_bodies.specs.declared.Take.TheVariants as take
 use Rattle.colored_bodies.specs.declared.Marked.{Marked}
 use Rattle.colored_bodies.specs.declared.Marked.TheVariants as marked
+use Rattle.colored_bodies.specs.declared.multi.MarkedAt.{MarkedAt}
+use Rattle.colored_bodies.specs.declared.multi.TakenAt.{TakenAt}
 
 -- a take's refusal, 0 where it is taken
 abbrev pub takeNumber : Take → ℕ
@@ -69,3 +72,29 @@ pub record Marks (b : BodyBinding) (ps : List ℕ) (r : Marked) (left : List ℕ
   pub refused : markedRefused r ≡ not (eqb (take_of b ps).refusal 0)
   pub dynamic : markedDynamic r ≡ map (λ h. h.dynamic) (take_of b ps).handed
   pub marks : left ≡ (take_of b ps).after.marks
+
+-- ---- a take of two to four positions
+
+-- four flags, in the order asked: 1 for a body that is "dynamic"; those past the bodies are 0
+abbrev pub flags_of : List Handed → List ℕ
+flags_of hs = four (map (λ h. one h.dynamic) hs)
+
+-- the first `count` positions are at most four, and places
+pub record Handable (positions : List ℕ) (count : ℕ) : Type 0 where
+  pub listed : count ≤ length positions
+  pub room : count ≤ 4
+  pub within : (i : ℕ) → i < count → get_or positions i 0 < 4096
+
+-- a take of marks: its refusal or 0, the flags, and the marks that it leaves
+pub record MarksAt (b : BodyBinding) (ps : List ℕ) (r : MarkedAt) (left : List ℕ) : Type 0 where
+  pub refusal : r.refusal ≡ (take_of b ps).refusal
+  pub dynamic : r.dynamic ≡ flags_of (take_of b ps).handed
+  pub marks : left ≡ (take_of b ps).after.marks
+
+-- a take of the positions ps: its refusal or 0, the bodies in the order asked, and the binding that it leaves
+pub record TakesAt (b : BodyBinding) (ps : List ℕ) (r : TakenAt) (left : BodyBinding) : Type 0 where
+  pub refusal : r.refusal ≡ (take_of b ps).refusal
+  pub count : r.count ≡ length (take_of b ps).handed
+  pub bodies : r.bodies ≡ four (map (λ h. h.body) (take_of b ps).handed)
+  pub dynamic : r.dynamic ≡ flags_of (take_of b ps).handed
+  pub after : left ≡ (take_of b ps).after

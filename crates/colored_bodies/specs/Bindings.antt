@@ -1,7 +1,7 @@
 -- Bindings and takes.
 use Rattle.std.specs.Prelude.{ℕ, ◌-◌, ◌≤◌, ◌≡◌, Bool, true, ◌&&◌, cond, List, [], ◌∷◌, ◌++◌, map, leb, ltb, eqb, length, get_or, set, replicate}
 use Rattle.lists.specs.Basics.{all, distinct, rises, sorted}
-use Rattle.frame.specs.Frames.{flagOf}
+use Rattle.frame.specs.Frames.{flagOf, counted}
 use Rattle.frame.specs.Questions.{question, asked, typesKnown}
 use Rattle.colored_bodies.specs.declared.BodyBinding.{BodyBinding}
 
@@ -63,12 +63,16 @@ unfoldable pub marksFrom : List ℕ → List ℕ → List ℕ
 marksFrom marks [] = marks
 marksFrom marks (p ∷ ps) = cond (free marks p) (marksFrom (spend marks p) ps) marks
 
--- questions 9, 10 for the lowest position, 11 for a higher one
+-- questions 5 (two to four positions are asked for) and 9
+abbrev pub ask_refusal : ℕ → List ℕ → ℕ
+ask_refusal count ps = asked (question 5 (counted (length ps)) ∷ question 9 (placed count ps) ∷ [])
+
+-- questions 5, 9, 10 for the lowest position, 11 for a higher one
 unfoldable pub takeRefusal : BodyBinding → List ℕ → ℕ
-takeRefusal b ps = cond (placed b.count ps) (refusalFrom 10 b.marks (sorted ps)) 9
+takeRefusal b ps = cond (eqb (ask_refusal b.count ps) 0) (refusalFrom 10 b.marks (sorted ps)) (ask_refusal b.count ps)
 
 unfoldable pub takeMarks : BodyBinding → List ℕ → List ℕ
-takeMarks b ps = cond (placed b.count ps) (marksFrom b.marks (sorted ps)) b.marks
+takeMarks b ps = cond (eqb (ask_refusal b.count ps) 0) (marksFrom b.marks (sorted ps)) b.marks
 
 -- a body as a take answers it: its number, and "dynamic" or "read-only"
 pub record Handed : Type 0 where

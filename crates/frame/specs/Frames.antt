@@ -1,8 +1,8 @@
 -- Frames: bodies, constraints, and what is read off them.
-use Rattle.std.specs.Prelude.{ℕ, Bool, true, false, not, ◌&&◌, ◌||◌, cond, List, [], ◌∷◌, ◌++◌, leb, ltb, eqb, length, get_or}
+use Rattle.std.specs.Prelude.{ℕ, Bool, true, false, not, ◌&&◌, ◌||◌, cond, List, [], ◌∷◌, ◌++◌, leb, ltb, eqb, length, get_or, take, drop}
 use Rattle.lists.specs.Basics.{any, all, sum_of, max_of, count, range, mem, distinct, one}
 
--- a constraint: its endpoints, in the order a, b, and whether it is live
+-- a constraint: its endpoints, in their order, and whether it is live
 pub record Constraint : Type 0 where
   pub ends : List ℕ
   pub live : Bool
@@ -67,9 +67,12 @@ abbrev pub fewest : ℕ
 fewest = 2
 
 abbrev pub most : ℕ
-most = 2
+most = 4
 
--- question 7 of one constraint among nb bodies: live, it has two different endpoints below nb
+abbrev pub counted : ℕ → Bool
+counted c = leb fewest c && leb c most
+
+-- question 7 of one constraint among nb bodies: live, it has two to four endpoints, all different and below nb
 unfoldable pub fits : ℕ → List ℕ → Bool
 fits nb bs = leb fewest (length bs) && leb (length bs) most && distinct bs && all (λ b. ltb b nb) bs
 
@@ -110,6 +113,28 @@ constraintsOf (a ∷ b ∷ r) (e ∷ es) = constraint (eqb e 1) a b ∷ constrai
 -- the frame of types, manifold pairs, joint pairs and the joints' enabled bytes
 abbrev pub frame_of : List ℕ → List ℕ → List ℕ → List ℕ → Frame
 frame_of ts ps js es = record { types = ts; manifolds = constraintsOf ps []; joints = constraintsOf js es }
+
+-- constraints that have a count each: their endpoints stand constraint after constraint; live as pairs are
+abbrev pub counted_of : List ℕ → List ℕ → List ℕ → List Constraint
+counted_of [] bs es = []
+counted_of (c ∷ cs) bs [] = record { ends = take c bs; live = true } ∷ counted_of cs (drop c bs) []
+counted_of (c ∷ cs) bs (e ∷ es) = record { ends = take c bs; live = eqb e 1 } ∷ counted_of cs (drop c bs) es
+
+-- joints by their counts; where there are no counts, pairs
+abbrev pub joints_of : List ℕ → List ℕ → List ℕ → List Constraint
+joints_of [] bs es = constraintsOf bs es
+joints_of (c ∷ cs) bs es = counted_of (c ∷ cs) bs es
+
+-- the frame of types, manifold pairs, joint endpoints, the joints' counts and their enabled bytes
+abbrev pub frame_with : List ℕ → List ℕ → List ℕ → List ℕ → List ℕ → Frame
+frame_with ts ps bs cs es = record { types = ts; manifolds = constraintsOf ps []; joints = joints_of cs bs es }
+
+-- question 5 of counts, and how many endpoints they make
+abbrev pub countsKnown : List ℕ → Bool
+countsKnown cs = all counted cs
+
+abbrev pub endCount : List ℕ → ℕ
+endCount cs = sum_of (λ c. c) cs
 
 -- a body's flag, from its type: 1 if it makes conflicts
 abbrev pub flagOf : ℕ → ℕ

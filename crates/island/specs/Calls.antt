@@ -1,7 +1,7 @@
 -- What an islands call answers, and what it leaves in its five tables.
 use Rattle.std.specs.Prelude.{ℕ, ◌^◌, ◌≤◌, ◌<◌, ◌≡◌, Bool, not, ◌&&◌, cond, List, [], ◌∷◌, ◌++◌, map, eqb, leb, length, get_or, take, drop, replicate}
 use Rattle.lists.specs.Basics.{over}
-use Rattle.frame.specs.Frames.{Frame, frame_of, bodies, allSound, none}
+use Rattle.frame.specs.Frames.{Frame, frame_of, frame_with, countsKnown, endCount, bodies, allSound, none}
 use Rattle.frame.specs.Questions.{Question, question, asked, fewEach, even, pairCount, typesKnown, bits}
 use Rattle.island_sets.specs.Sets.{link, rootOf, linksOf}
 use Rattle.connected_sets.specs.Islands.{heaviest, setSize, islandCount, bodyLabel, label}
@@ -44,9 +44,9 @@ rooms_of t = record {
   joints = length t.joint-islands;
 }
 
--- question 6
-abbrev pub roomy : List ℕ → List ℕ → List ℕ → Rooms → Bool
-roomy ts ps js r = leb (length ts) r.parents && leb (length ts) r.sizes && leb (length ts) r.bodies && leb (pairCount ps) r.manifolds && leb (pairCount js) r.joints
+-- question 6, of so many bodies, manifolds and joints
+abbrev pub roomy : ℕ → ℕ → ℕ → Rooms → Bool
+roomy b m j r = leb b r.parents && leb b r.sizes && leb b r.bodies && leb m r.manifolds && leb j r.joints
 
 -- the questions before the 7th, of these types, manifold pairs, joint pairs and enabled bytes
 abbrev pub earlyQuestions : List ℕ → List ℕ → List ℕ → List ℕ → Rooms → List Question
@@ -54,12 +54,24 @@ earlyQuestions ts ps js es r =
     question 3 (fewEach (length ts) (pairCount ps) (pairCount js))
     ∷ question 4 (even ps && even js && eqb (length es) (pairCount js))
     ∷ question 5 (typesKnown ts && bits es)
-    ∷ question 6 (roomy ts ps js r)
+    ∷ question 6 (roomy (length ts) (pairCount ps) (pairCount js) r)
     ∷ []
 
 -- the refusal of a call with them; 0 is acceptance
 unfoldable pub islandRefusal : List ℕ → List ℕ → List ℕ → List ℕ → Rooms → ℕ
 islandRefusal ts ps js es r = asked (earlyQuestions ts ps js es r ++ question 7 (allSound (frame_of ts ps js es)) ∷ [])
+
+-- the same where the joints are lent as endpoints bs and counts cs
+abbrev pub multiEarlyQuestions : List ℕ → List ℕ → List ℕ → List ℕ → List ℕ → Rooms → List Question
+multiEarlyQuestions ts ps bs cs es r =
+    question 3 (fewEach (length ts) (pairCount ps) (length cs))
+    ∷ question 4 (even ps && eqb (endCount cs) (length bs) && eqb (length es) (length cs))
+    ∷ question 5 (typesKnown ts && bits es && countsKnown cs)
+    ∷ question 6 (roomy (length ts) (pairCount ps) (length cs) r)
+    ∷ []
+
+unfoldable pub multiIslandRefusal : List ℕ → List ℕ → List ℕ → List ℕ → List ℕ → Rooms → ℕ
+multiIslandRefusal ts ps bs cs es r = asked (multiEarlyQuestions ts ps bs cs es r ++ question 7 (allSound (frame_with ts ps bs cs es)) ∷ [])
 
 -- ---- parents and sizes (document 02, request 7)
 

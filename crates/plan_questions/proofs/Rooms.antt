@@ -7,7 +7,7 @@ use lib.Dec.{leb}
 use lib.ListN.{length}
 use borrow.Author.Tests.{leb-true, le-leb}
 use Rattle.lists.proofs.Laws.{and_left, and_right, and_both}
-use Rattle.plan_questions.specs.Plans.{Tables, roomy}
+use Rattle.plan_questions.specs.Plans.{Tables, roomy, roomy_with}
 
 -- a row of comparisons that all hold, and each of them
 abbrev pub fitted : Bool → List (ℕ × ℕ) → Bool
@@ -29,18 +29,28 @@ all-fitted b [] h w = h
 all-fitted b (x ∷ r) h w = all-fitted (b && leb x.0 x.1) r (and_both b (leb x.0 x.1) h (le-leb x.0 x.1 w.0)) w.1
 
 -- the comparisons of question 6, in their order
-abbrev pub wanted : ℕ → ℕ → Tables → List (ℕ × ℕ)
-wanted b c t =
-    (b, length t.dynamic-bodies) ∷ (2 * c, length t.endpoints) ∷ (b + 1, length t.body-offsets)
-    ∷ (2 * c, length t.body-constraints) ∷ (b, length t.scratch-offsets) ∷ (c, length t.scratch-offsets)
+abbrev pub wanted_with : ℕ → ℕ → ℕ → Tables → List (ℕ × ℕ)
+wanted_with b c e t =
+    (b, length t.dynamic-bodies) ∷ (e, length t.endpoints) ∷ (b + 1, length t.body-offsets)
+    ∷ (e, length t.body-constraints) ∷ (b, length t.scratch-offsets) ∷ (c, length t.scratch-offsets)
     ∷ (c, length t.constraint-colors) ∷ (c, length t.color-stamps) ∷ (b, length t.body-stamps)
     ∷ (c + 1, length t.color-offsets) ∷ (c, length t.colored-constraints) ∷ (c + 1, length t.color-body-offsets)
-    ∷ (2 * c, length t.color-bodies) ∷ (2 * c, length t.constraint-body-positions) ∷ []
+    ∷ (e, length t.color-bodies) ∷ (e, length t.constraint-body-positions) ∷ []
+
+pub fitted-with : (b c e : ℕ) (t : Tables) → roomy_with b c e t ≡ true → Fitted (wanted_with b c e t)
+unfolding roomy_with
+fitted-with b c e t h = (fitted-all true (wanted_with b c e t) h).1
+
+pub with-fitted : (b c e : ℕ) (t : Tables) → Fitted (wanted_with b c e t) → roomy_with b c e t ≡ true
+unfolding roomy_with
+with-fitted b c e t w = all-fitted true (wanted_with b c e t) refl w
+
+-- of pairs
+abbrev pub wanted : ℕ → ℕ → Tables → List (ℕ × ℕ)
+wanted b c t = wanted_with b c (2 * c) t
 
 pub fitted-roomy : (b c : ℕ) (t : Tables) → roomy b c t ≡ true → Fitted (wanted b c t)
-unfolding roomy
-fitted-roomy b c t h = (fitted-all true (wanted b c t) h).1
+fitted-roomy b c t = fitted-with b c (2 * c) t
 
 pub roomy-fitted : (b c : ℕ) (t : Tables) → Fitted (wanted b c t) → roomy b c t ≡ true
-unfolding roomy
-roomy-fitted b c t w = all-fitted true (wanted b c t) refl w
+roomy-fitted b c t = with-fitted b c (2 * c) t

@@ -9,11 +9,11 @@ use Rattle.groups.specs.Groups.{pairsOf}
 pub record Tables : Type 0 where
   -- the remembered flags, one a body
   pub dynamic-bodies : List ℕ
-  -- the remembered endpoint pairs
+  -- the remembered endpoints
   pub endpoints : List ℕ
   -- free: the Rust's adjacency, where each body's constraints start; not used
   pub body-offsets : List ℕ
-  -- free: the constraints on each body; not used
+  -- free: the constraints on each body; a plan with counts keeps the bounds of its constraints here
   pub body-constraints : List ℕ
   -- free: the uncolored constraints, then the sort's copy, then each body's place in its group
   pub scratch-offsets : List ℕ
@@ -31,7 +31,7 @@ pub record Tables : Type 0 where
   pub color-body-offsets : List ℕ
   -- the bodies, group after group
   pub color-bodies : List ℕ
-  -- the two places of each constraint among its group's bodies
+  -- the places of each constraint's endpoints among its group's bodies
   pub constraint-body-positions : List ℕ
 
 -- these tables, in the order in which a call lends them
@@ -52,14 +52,18 @@ tables_of dynamic-bodies endpoints body-offsets body-constraints scratch-offsets
   constraint-body-positions = constraint-body-positions;
 }
 
--- room for b bodies and c constraints
-unfoldable pub roomy : ℕ → ℕ → Tables → Bool
-roomy b c t =
-    leb b (length t.dynamic-bodies) && leb (2 * c) (length t.endpoints) && leb (b + 1) (length t.body-offsets)
-    && leb (2 * c) (length t.body-constraints) && leb b (length t.scratch-offsets) && leb c (length t.scratch-offsets)
+-- room for b bodies, c constraints and e endpoints
+unfoldable pub roomy_with : ℕ → ℕ → ℕ → Tables → Bool
+roomy_with b c e t =
+    leb b (length t.dynamic-bodies) && leb e (length t.endpoints) && leb (b + 1) (length t.body-offsets)
+    && leb e (length t.body-constraints) && leb b (length t.scratch-offsets) && leb c (length t.scratch-offsets)
     && leb c (length t.constraint-colors) && leb c (length t.color-stamps) && leb b (length t.body-stamps)
     && leb (c + 1) (length t.color-offsets) && leb c (length t.colored-constraints) && leb (c + 1) (length t.color-body-offsets)
-    && leb (2 * c) (length t.color-bodies) && leb (2 * c) (length t.constraint-body-positions)
+    && leb e (length t.color-bodies) && leb e (length t.constraint-body-positions)
+
+-- the same where each constraint has two
+abbrev pub roomy : ℕ → ℕ → Tables → Bool
+roomy b c t = roomy_with b c (2 * c) t
 
 -- ---- an update: questions 3 to 7, where `room` answers 6
 unfoldable pub updateRefusal : List ℕ → List ℕ → Bool → ℕ

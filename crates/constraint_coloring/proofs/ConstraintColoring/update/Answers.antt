@@ -3,7 +3,7 @@
 use mathlib.Core.Path.{◌≡◌, sym, ap, ◌∙◌}
 use mathlib.Core.Bool.{Bool}
 use native.Mathlib.Omega.{arith}
-use Rattle.plan_questions.specs.Plans.{Tables, tables_of, roomy, updateRefusal}
+use Rattle.plan_questions.specs.Plans.{Tables, tables_of, roomy_with, updateRefusal}
 use Rattle.constraint_coloring.specs.Calls.{holds, refusalWith}
 use Rattle.constraint_coloring.proofs.Accepted.{accepted}
 use Rattle.constraint_coloring.proofs.Updates.{refused, unchanged, changed}
@@ -20,7 +20,7 @@ entry c =
 
 -- the refusal
 asked : (c : After-update_refusal-refusal) → c.update_refusal-refusal.result ≡ refusalWith (entry c) c.args.flags.now c.args.pairs.now
-unfolding refusalWith roomy
+unfolding refusalWith roomy_with
 asked c = c.update_refusal-refusal.ensures ∙ ap (λ (room : Bool). updateRefusal c.args.flags.now c.args.pairs.now room) c.roomy-room.ensures
 
 pub returns-then-refusal-ne0 : goal.returns-then-refusal-ne0
