@@ -4,6 +4,8 @@ use Rattle.lists.specs.Basics.{one}
 use Rattle.constraint_coloring.specs.declared.ConstraintColoring.{ConstraintColoring}
 use Rattle.constraint_coloring.specs.declared.Positions.{Positions}
 use Rattle.constraint_coloring.specs.declared.Positions.TheVariants as positions
+use Rattle.multi_coloring.specs.declared.MultiColoring.{MultiColoring}
+use Rattle.colored_bodies.specs.declared.multi.TakenAt.{TakenAt}
 use Rattle.colored_bodies.specs.declared.Take.{Take}
 use Rattle.colored_bodies.specs.declared.Take.TheVariants as take
 
@@ -23,3 +25,17 @@ positionNumbers (positions.Refused n) = 0 ∷ 0 ∷ []
 abbrev pub handedNumbers : Take → List ℕ
 handedNumbers (take.Taken x p y q) = x ∷ one p ∷ y ∷ one q ∷ []
 handedNumbers (take.Refused n) = 0 ∷ 0 ∷ 0 ∷ 0 ∷ []
+
+-- ---- of constraints that have a count each
+
+abbrev pub multiPlanOfNumbers : List ℕ → MultiColoring
+multiPlanOfNumbers p = record { body_count = get_or p 0 0; constraint_count = get_or p 1 0; color_count = get_or p 2 0; max_color_constraint_count = get_or p 3 0 }
+
+abbrev pub multiPlanNumbers : MultiColoring → List ℕ
+multiPlanNumbers p = p.body_count ∷ p.constraint_count ∷ p.color_count ∷ p.max_color_constraint_count ∷ []
+
+-- the bodies that a take of two to four positions hands: four times a body and 1 for "dynamic" or 0 for "read-only"; 0 past the last
+abbrev pub takenNumbers : TakenAt → List ℕ
+takenNumbers t =
+    get_or t.bodies 0 0 ∷ get_or t.dynamic 0 0 ∷ get_or t.bodies 1 0 ∷ get_or t.dynamic 1 0
+    ∷ get_or t.bodies 2 0 ∷ get_or t.dynamic 2 0 ∷ get_or t.bodies 3 0 ∷ get_or t.dynamic 3 0 ∷ []

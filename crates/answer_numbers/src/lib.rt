@@ -4,11 +4,14 @@
 ghost use Rattle.std.specs.Prelude.{◌≡◌, cond, eqb, get_or};
 ghost use Rattle.colored_bodies.specs.Answers.{takeNumber, withBodies, Placed};
 ghost use Rattle.constraint_coloring.specs.Calls.{positionsNumber};
-ghost use Rattle.answer_numbers.specs.Numbers.{planOfNumbers, positionNumbers, handedNumbers};
+ghost use Rattle.multi_coloring.specs.Calls.{placesNumber, placesValues, placesCount};
+ghost use Rattle.answer_numbers.specs.Numbers.{planOfNumbers, multiPlanOfNumbers, positionNumbers, handedNumbers, takenNumbers};
 
 use colored_bodies::Marked;
+use colored_bodies::multi::TakenAt;
 use constraint_coloring::{ConstraintColoring, Positions};
 use frame::Frame;
+use multi_coloring::{MultiColoring, MultiPositions};
 
 // The plan that four numbers give.
 pub fn plan_from(plan: &[usize; 4]) -> ConstraintColoring
@@ -80,4 +83,53 @@ pub fn hand(
             n
         }
     }
+}
+
+// The plan with counts that four numbers give.
+pub fn multi_plan_from(plan: &[usize; 4]) -> MultiColoring
+    ensures { result ≡ multiPlanOfNumbers plan.now }
+{
+    MultiColoring {
+        body_count: plan[0],
+        constraint_count: plan[1],
+        color_count: plan[2],
+        max_color_constraint_count: plan[3],
+    }
+}
+
+// The answer of a lookup of two to four positions as numbers.
+pub fn locate_places(answer: MultiPositions, places: &mut [u16; 4], count: &mut usize) -> u8
+    ensures { (result ≡ placesNumber answer) × (places.new ≡ placesValues answer) × (count.new ≡ placesCount answer) }
+{
+    match answer {
+        MultiPositions::At(found) => {
+            *places = found.places;
+            *count = found.count;
+            0
+        }
+        MultiPositions::Refused(n) => {
+            *places = [0, 0, 0, 0];
+            *count = 0;
+            n
+        }
+    }
+}
+
+// The answer of a take of two to four positions as numbers.
+pub fn hand_taken(taken: TakenAt, handed: &mut [u16; 8]) -> u8
+    ensures { (result ≡ taken.refusal) × (handed.new ≡ takenNumbers taken) }
+{
+    let bodies = taken.bodies;
+    let dynamic = taken.dynamic;
+    *handed = [
+        bodies[0],
+        dynamic[0] as u16,
+        bodies[1],
+        dynamic[1] as u16,
+        bodies[2],
+        dynamic[2] as u16,
+        bodies[3],
+        dynamic[3] as u16,
+    ];
+    taken.refusal
 }

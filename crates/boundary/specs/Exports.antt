@@ -7,8 +7,12 @@ use Rattle.plan_questions.specs.Plans.{Tables, groupPart}
 use Rattle.constraint_coloring.specs.Calls.{updateNumber, updateChanged, planAfter, Updated, positionsNumber, Located}
 use Rattle.colored_bodies.specs.declared.BodyBinding.{BodyBinding}
 use Rattle.colored_bodies.specs.declared.Take.{Take}
-use Rattle.colored_bodies.specs.Answers.{takeNumber, Takes}
-use Rattle.answer_numbers.specs.Numbers.{planOfNumbers, planNumbers, positionNumbers, handedNumbers}
+use Rattle.colored_bodies.specs.declared.multi.TakenAt.{TakenAt}
+use Rattle.colored_bodies.specs.Answers.{takeNumber, Takes, TakesAt}
+use Rattle.multi_coloring.specs.declared.MultiUpdate.{MultiUpdate}
+use Rattle.multi_coloring.specs.declared.MultiPositions.{MultiPositions}
+use Rattle.multi_coloring.specs.Calls.{multiNumber, multiChanged, multiPlanAfter, MultiUpdated, placesNumber, placesValues, placesCount, MultiLocated}
+use Rattle.answer_numbers.specs.Numbers.{planOfNumbers, planNumbers, multiPlanOfNumbers, multiPlanNumbers, positionNumbers, handedNumbers, takenNumbers}
 use Rattle.run_answer.specs.declared.Report.{Report}
 use Rattle.run_answer.specs.declared.Answer.{Answer}
 use Rattle.run_answer.specs.Answers.{runNumber, runReport}
@@ -37,6 +41,24 @@ pub record Locates (n : ℕ) (table : List ℕ) (r number : ℕ) (places : List 
   pub refusal : number ≡ positionsNumber answer
   pub numbers : places ≡ positionNumbers answer
 
+-- ---- the same of a plan with counts
+
+-- an update of a plan with the tables t and the counts c, which are left as u and c'
+pub record MultiUpdates (plan flags ends counts : List ℕ) (t : Tables) (c : List ℕ) (u : Tables) (c' : List ℕ) (number changed : ℕ) (left : List ℕ) : Type 0 where
+  pub answer : MultiUpdate
+  pub updated : MultiUpdated (multiPlanOfNumbers plan) flags ends counts t c u c' answer
+  pub refusal : number ≡ multiNumber answer
+  pub change : changed ≡ one (multiChanged answer)
+  pub plan-after : left ≡ multiPlanNumbers (multiPlanAfter (multiPlanOfNumbers plan) answer)
+
+-- a lookup of the positions of constraint r of n, and how many they are
+pub record MultiLocates (n : ℕ) (counts table : List ℕ) (r number : ℕ) (places : List ℕ) (count : ℕ) : Type 0 where
+  pub answer : MultiPositions
+  pub located : MultiLocated n counts table r answer
+  pub refusal : number ≡ placesNumber answer
+  pub numbers : places ≡ placesValues answer
+  pub counted : count ≡ placesCount answer
+
 -- ---- bindings
 
 -- a take of the positions ps from the binding b, which is left so
@@ -45,6 +67,13 @@ pub record Took (b : BodyBinding) (ps : List ℕ) (left : BodyBinding) (number :
   pub takes : Takes b ps answer left
   pub refusal : number ≡ takeNumber answer
   pub numbers : handed ≡ handedNumbers answer
+
+-- a take of two to four positions
+pub record TookAt (b : BodyBinding) (ps : List ℕ) (left : BodyBinding) (number : ℕ) (handed : List ℕ) : Type 0 where
+  pub answer : TakenAt
+  pub takes : TakesAt b ps answer left
+  pub refusal : number ≡ answer.refusal
+  pub numbers : handed ≡ takenNumbers answer
 
 -- ---- the run
 

@@ -1,6 +1,7 @@
 // The calls for C and Rust: numbers and slices only. include/engkarupi.h says what each is lent and refuses.
 #![tactic(auto)]
 
+mod multi;
 mod run;
 
 ghost use Rattle.std.specs.Prelude.{[], ◌∷◌, get_or};

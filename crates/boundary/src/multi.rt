@@ -1,0 +1,142 @@
+// The calls for C and Rust on joints and constraints of two to four bodies.
+ghost use Rattle.std.specs.Prelude.{get_or};
+ghost use Rattle.frame.specs.Frames.{frame_with};
+ghost use Rattle.island.specs.Calls.{islandTablesOf, rooms_of, multiIslandRefusal, Built};
+ghost use Rattle.plan_questions.specs.Plans.{tables_of};
+ghost use Rattle.boundary.specs.Exports.{MultiUpdates, MultiLocates, TookAt};
+
+use frame::Frame;
+
+// The islands of a frame whose joints have a count each, and how many; answers the refusal or 0.
+#[unsafe(no_mangle)]
+pub extern "C" fn engkarupi_islands_multi(
+    types: &[u8],
+    manifolds: &[u16],
+    joint_ends: &[u16],
+    joint_counts: &[u8],
+    enabled: &[u8],
+    parents: &mut [u16],
+    sizes: &mut [u16],
+    body_islands: &mut [u16],
+    manifold_islands: &mut [u16],
+    joint_islands: &mut [u16],
+    island_count: &mut u16,
+) -> u8
+    ensures { Built (frame_with types.now manifolds.now joint_ends.now joint_counts.now enabled.now)
+        (multiIslandRefusal types.now manifolds.now joint_ends.now joint_counts.now enabled.now
+        (rooms_of (islandTablesOf parents.old sizes.old body_islands.old manifold_islands.old joint_islands.old)))
+        (islandTablesOf parents.old sizes.old body_islands.old manifold_islands.old joint_islands.old)
+        (islandTablesOf parents.new sizes.new body_islands.new manifold_islands.new joint_islands.new)
+        result island_count.new }
+{
+    let answer = island::build_with_multi_joints(
+        types,
+        manifolds,
+        joint_ends,
+        joint_counts,
+        enabled,
+        parents,
+        sizes,
+        body_islands,
+        manifold_islands,
+        joint_islands,
+    );
+    *island_count = island::islands_of(answer);
+    island::refusal_of(answer)
+}
+
+// An update of a plan with counts, and 1 if it changed; answers the refusal or 0.
+#[unsafe(no_mangle)]
+pub extern "C" fn engkarupi_update_multi(
+    plan: &mut [usize; 4],
+    flags: &[u8],
+    ends: &[u16],
+    counts_in: &[u8],
+    dynamic_bodies: &mut [u8],
+    endpoints: &mut [u16],
+    counts: &mut [u8],
+    body_offsets: &mut [u16],
+    body_constraints: &mut [u16],
+    scratch_offsets: &mut [u16],
+    constraint_colors: &mut [u16],
+    color_stamps: &mut [u16],
+    body_stamps: &mut [u16],
+    color_offsets: &mut [u16],
+    colored_constraints: &mut [u16],
+    color_body_offsets: &mut [u16],
+    color_bodies: &mut [u16],
+    constraint_body_positions: &mut [u16],
+    changed: &mut u8,
+) -> u8
+    ensures { MultiUpdates plan.old flags.now ends.now counts_in.now
+        (tables_of dynamic_bodies.old endpoints.old body_offsets.old
+        body_constraints.old scratch_offsets.old constraint_colors.old
+        color_stamps.old body_stamps.old color_offsets.old
+        colored_constraints.old color_body_offsets.old color_bodies.old constraint_body_positions.old) counts.old
+        (tables_of dynamic_bodies.new endpoints.new body_offsets.new
+        body_constraints.new scratch_offsets.new constraint_colors.new
+        color_stamps.new body_stamps.new color_offsets.new
+        colored_constraints.new color_body_offsets.new color_bodies.new constraint_body_positions.new) counts.new result changed.new plan.new }
+{
+    let before = answer_numbers::multi_plan_from(plan);
+    let answer = before.update(
+        flags,
+        ends,
+        counts_in,
+        dynamic_bodies,
+        endpoints,
+        counts,
+        body_offsets,
+        body_constraints,
+        scratch_offsets,
+        constraint_colors,
+        color_stamps,
+        body_stamps,
+        color_offsets,
+        colored_constraints,
+        color_body_offsets,
+        color_bodies,
+        constraint_body_positions,
+    );
+    let after = multi_coloring::plan_after(before, answer);
+    *plan = [
+        after.body_count,
+        after.constraint_count,
+        after.color_count,
+        after.max_color_constraint_count,
+    ];
+    *changed = multi_coloring::is_changed(answer);
+    multi_coloring::refusal_of(answer)
+}
+
+// The positions of a constraint among its group's bodies, and how many; answers the refusal or 0.
+#[unsafe(no_mangle)]
+pub extern "C" fn engkarupi_positions_multi(
+    plan: &[usize; 4],
+    counts: &[u8],
+    constraint_body_positions: &[u16],
+    constraint: usize,
+    places: &mut [u16; 4],
+    count: &mut usize,
+) -> u8
+    ensures { MultiLocates (get_or plan.now 1 0) counts.now constraint_body_positions.now constraint result places.new count.new }
+{
+    let planned = answer_numbers::multi_plan_from(plan);
+    let answer = planned.body_positions_for_constraint(counts, constraint_body_positions, constraint);
+    answer_numbers::locate_places(answer, places, count)
+}
+
+// A take from a binding by two to four positions: the bodies in the order asked, each with 1 for "dynamic"; answers the refusal or 0.
+#[unsafe(no_mangle)]
+pub extern "C" fn engkarupi_take_multi(
+    bodies: &[u16; Frame::MAX_BODIES],
+    marks: &mut [u8; Frame::MAX_BODIES],
+    count: usize,
+    positions: &[u16],
+    handed: &mut [u16; 8],
+) -> u8
+    ensures { TookAt (record { bodies = bodies.now; marks = marks.old; count = count }) positions.now (record { bodies = bodies.now; marks = marks.new; count = count }) result handed.new }
+{
+    let taken = colored_bodies::multi::take_from(bodies, marks, count, positions);
+    answer_numbers::hand_taken(taken, handed)
+}
