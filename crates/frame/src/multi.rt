@@ -73,7 +73,7 @@ pub fn distinct_below(list: &[u16], n: usize) -> bool
     true
 }
 
-// Question 7 of the endpoints of a live constraint.
+// Question 7 of the endpoints of a live constraint: two to four, all different and below the number of bodies.
 pub fn ends_fit(bodies: usize, ends: &[u16]) -> bool
     ensures { result ≡ fits bodies ends.now }
 {

@@ -1,5 +1,5 @@
 -- The endpoints of a constraint lie inside the list, and its answer decides, or is passed by.
-use Rattle.std.proofs.Common.{◌≡◌, ◌∙◌, sym, ℕ, ◌+◌, ◌≤◌, length, arith}
+use Rattle.std.proofs.Common.{◌∙◌, sym, arith}
 use Rattle.frame.proofs.Counted.{ends-inside, ends-next, counted-next, counted-end}
 use Rattle.frame.proofs.multi.all_fit.Goals as goal
 

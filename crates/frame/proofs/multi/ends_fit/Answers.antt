@@ -1,7 +1,6 @@
 -- `frame::multi::ends_fit`: how many, and then what the numbers are.
-use Rattle.std.proofs.Common.{◌∙◌, sym, length, ap}
-use Rattle.std.proofs.Math.Bool.{and_assoc}
-use Rattle.frame.specs.Frames.{fits, counted}
+use Rattle.std.proofs.Common.{◌∙◌, sym}
+use Rattle.frame.specs.Frames.{fits}
 use Rattle.frame.proofs.multi.ends_fit.Goals as goal
 
 pub returns-then-not-counted : goal.returns-then-not-counted

@@ -1,5 +1,4 @@
 -- `frame::multi::sound_ends`: a dead constraint passes, a live one by its endpoints.
-use Rattle.std.proofs.Common.{◌∙◌, sym}
 use Rattle.frame.specs.Frames.{sound}
 use Rattle.frame.proofs.multi.sound_ends.Goals as goal
 
