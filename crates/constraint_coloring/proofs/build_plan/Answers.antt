@@ -18,37 +18,7 @@ use Rattle.constraint_coloring.proofs.Rebuilds.{largest-is, starts-front, promis
 use Rattle.constraint_coloring.proofs.build_plan.Goals as goal
 use Rattle.constraint_coloring.proofs.build_plan.Goals.{After-color_constraints-color_count}
 
--- ---- the tables at entry are long enough
-pub copy_flags-requires : goal.copy_flags-requires
-copy_flags-requires c = c.requires.dynamic-bodies
-
-pub copy-requires : goal.copy-requires
-copy-requires c = (omega arith, c.requires.endpoints)
-
-pub slice_bounds-color_constraints-end : goal.slice_bounds-color_constraints-end
-slice_bounds-color_constraints-end c = c.requires.constraint-colors
-
-pub slice_bounds-color_constraints-end-2 : goal.slice_bounds-color_constraints-end-2
-slice_bounds-color_constraints-end-2 c = sym (length-take-le _ _ c.requires.constraint-colors)
-
-pub slice_bounds-color_constraints-end-3 : goal.slice_bounds-color_constraints-end-3
-slice_bounds-color_constraints-end-3 c = c.requires.color-offsets
-
-pub slice_bounds-color_constraints-end-4 : goal.slice_bounds-color_constraints-end-4
-slice_bounds-color_constraints-end-4 c = sym (length-take-le _ _ c.requires.color-offsets)
-
-pub slice_bounds-color_constraints-end-5 : goal.slice_bounds-color_constraints-end-5
-slice_bounds-color_constraints-end-5 c = c.requires.colored-constraints
-
-pub slice_bounds-color_constraints-end-6 : goal.slice_bounds-color_constraints-end-6
-slice_bounds-color_constraints-end-6 c = sym (length-take-le _ _ c.requires.colored-constraints)
-
-pub slice_bounds-color_constraints-end-7 : goal.slice_bounds-color_constraints-end-7
-slice_bounds-color_constraints-end-7 c = c.requires.body-stamps
-
-pub slice_bounds-color_constraints-end-8 : goal.slice_bounds-color_constraints-end-8
-slice_bounds-color_constraints-end-8 c = sym (length-take-le _ _ c.requires.body-stamps)
-
+-- ---- what is lent to the walks
 pub color_constraints-color_count-requires-clause-ready : goal.color_constraints-color_count-requires-clause-ready
 color_constraints-color_count-requires-clause-ready c =
     let o = c.requires in
@@ -91,9 +61,6 @@ module _ (p : After-color_constraints-color_count) where
   starts-kept : length starts-table ≡ length p.args.color_offsets.now
   starts-kept = length_front p.args.color_offsets.now p.color_constraints-color_count.new.color_offsets (n + 1) p.color_constraints-color_count.auto.color_offsets
 
-  members_kept : length members-table ≡ length p.args.colored_constraints.now
-  members_kept = length_front p.args.colored_constraints.now p.color_constraints-color_count.new.colored_constraints n p.color_constraints-color_count.auto.colored_constraints
-
   stamps-kept : length stamps-table ≡ length p.args.body_stamps.now
   stamps-kept = length_front p.args.body_stamps.now p.color_constraints-color_count.new.busy_bodies (length p.args.flags.now) p.color_constraints-color_count.auto.busy_bodies
 
@@ -103,9 +70,6 @@ module _ (p : After-color_constraints-color_count) where
 
   starts-room : count + 1 ≤ length starts-table
   starts-room = omega (arith, few, starts-kept, o.color-offsets)
-
-  members-room : n ≤ length members-table
-  members-room = omega (arith, members_kept, o.colored-constraints)
 
   stamps-room : length p.args.flags.now ≤ length stamps-table
   stamps-room = omega (arith, stamps-kept, o.body-stamps)
@@ -124,12 +88,6 @@ module _ (p : After-color_constraints-color_count) where
   stamps-are = take_at _ _ (length p.args.flags.now) (p.color_constraints-color_count.auto.busy_bodies ∙ length-take-le _ _ o.body-stamps)
 
 -- ---- what is lent for the listing
-pub slice_bounds-list_groups-end : goal.slice_bounds-list_groups-end
-slice_bounds-list_groups-end c = colors-room (goal.at.slice_bounds-list_groups-end c).After-color_constraints-color_count
-
-pub slice_bounds-list_groups-end-2 : goal.slice_bounds-list_groups-end-2
-slice_bounds-list_groups-end-2 c = sym (length-take-le _ _ (colors-room (goal.at.slice_bounds-list_groups-end-2 c).After-color_constraints-color_count))
-
 pub overflow_add-color_count : goal.overflow_add-color_count
 overflow_add-color_count c = let p = (goal.at.overflow_add-color_count c).After-color_constraints-color_count in omega (arith, few p, (o p).few)
 
@@ -139,18 +97,6 @@ slice_bounds-list_groups-end-3 c = starts-room (goal.at.slice_bounds-list_groups
 pub slice_bounds-list_groups-end-4 : goal.slice_bounds-list_groups-end-4
 slice_bounds-list_groups-end-4 c = sym (length-take-le _ _ (starts-room (goal.at.slice_bounds-list_groups-end-4 c).After-color_constraints-color_count))
 
-pub slice_bounds-list_groups-end-5 : goal.slice_bounds-list_groups-end-5
-slice_bounds-list_groups-end-5 c = members-room (goal.at.slice_bounds-list_groups-end-5 c).After-color_constraints-color_count
-
-pub slice_bounds-list_groups-end-6 : goal.slice_bounds-list_groups-end-6
-slice_bounds-list_groups-end-6 c = sym (length-take-le _ _ (members-room (goal.at.slice_bounds-list_groups-end-6 c).After-color_constraints-color_count))
-
-pub slice_bounds-list_groups-end-7 : goal.slice_bounds-list_groups-end-7
-slice_bounds-list_groups-end-7 c = stamps-room (goal.at.slice_bounds-list_groups-end-7 c).After-color_constraints-color_count
-
-pub slice_bounds-list_groups-end-8 : goal.slice_bounds-list_groups-end-8
-slice_bounds-list_groups-end-8 c = sym (length-take-le _ _ (stamps-room (goal.at.slice_bounds-list_groups-end-8 c).After-color_constraints-color_count))
-
 pub overflow_add-color_count-2 : goal.overflow_add-color_count-2
 overflow_add-color_count-2 c = let p = (goal.at.overflow_add-color_count-2 c).After-color_constraints-color_count in omega (arith, few p, (o p).few)
 
@@ -159,18 +105,6 @@ slice_bounds-list_groups-end-9 c = let p = (goal.at.slice_bounds-list_groups-end
 
 pub slice_bounds-list_groups-end-10 : goal.slice_bounds-list_groups-end-10
 slice_bounds-list_groups-end-10 c = let p = (goal.at.slice_bounds-list_groups-end-10 c).After-color_constraints-color_count in sym (length-take-le _ _ (omega (arith, few p, (o p).color-body-offsets)))
-
-pub slice_bounds-list_groups-end-11 : goal.slice_bounds-list_groups-end-11
-slice_bounds-list_groups-end-11 c = c.requires.color-bodies
-
-pub slice_bounds-list_groups-end-12 : goal.slice_bounds-list_groups-end-12
-slice_bounds-list_groups-end-12 c = sym (length-take-le _ _ c.requires.color-bodies)
-
-pub slice_bounds-list_groups-end-13 : goal.slice_bounds-list_groups-end-13
-slice_bounds-list_groups-end-13 c = c.requires.constraint-body-positions
-
-pub slice_bounds-list_groups-end-14 : goal.slice_bounds-list_groups-end-14
-slice_bounds-list_groups-end-14 c = sym (length-take-le _ _ c.requires.constraint-body-positions)
 
 pub list_groups-requires-clause-bounded : goal.list_groups-requires-clause-bounded
 list_groups-requires-clause-bounded c =
