@@ -22,7 +22,21 @@ pub struct Tally {
 }
 
 impl Tally {
-    fn meets(&mut self, call: &'static str, refusal: u8) {
+    /// What another comparison found, added to this one's.
+    pub fn add(&mut self, other: Tally) {
+        self.frames += other.frames;
+        self.calls += other.calls;
+        self.prints += other.prints;
+        self.samples += other.samples;
+        self.lines += other.lines;
+        self.agree += other.agree;
+        self.differ += other.differ;
+        for (met, times) in other.met {
+            *self.met.entry(met).or_default() += times;
+        }
+    }
+
+    pub fn meets(&mut self, call: &'static str, refusal: u8) {
         *self.met.entry((call, refusal)).or_default() += 1;
     }
 }
@@ -124,7 +138,7 @@ impl<'a, L: Calls, R: Calls> Agree<'a, L, R> {
     }
 
     /// Tables of at least these lengths, a few places too long if `spare`, filled with a pattern.
-    fn lend<T: Lent + Default>(&mut self, lengths: &[usize], spare: bool) -> T {
+    pub fn lend<T: Lent + Default>(&mut self, lengths: &[usize], spare: bool) -> T {
         let mut tables = T::default();
         for (mut table, n) in tables.tables().into_iter().zip(lengths) {
             let more = if spare { self.random.below(4) } else { 0 };

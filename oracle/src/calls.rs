@@ -21,12 +21,35 @@ pub fn flags(types: &[u8]) -> Vec<u8> {
     types.iter().map(|t| conflicts(*t) as u8).collect()
 }
 
+/// The fewest and the most endpoints of a constraint that has a count (request 11).
+pub const FEWEST: u8 = 2;
+pub const MOST: u8 = 4;
+
+/// Endpoints by counts: constraint after constraint without gaps; what the counts do not reach is left out.
+pub fn parts(counts: &[u8], ends: &[u16]) -> Vec<Vec<u16>> {
+    let mut rest = ends;
+    let mut part = |count: &u8| {
+        let (part, after) = rest.split_at((*count as usize).min(rest.len()));
+        rest = after;
+        part.to_vec()
+    };
+    counts.iter().map(&mut part).collect()
+}
+
+/// Endpoint pairs one by one; a last odd entry is no pair.
+pub fn pairs(ends: &[u16]) -> Vec<Vec<u16>> {
+    ends.chunks_exact(2).map(|pair| pair.to_vec()).collect()
+}
+
 /// A frame as an islands call is lent it. Any lists may stand here: pair lists may be odd, types unknown.
 #[derive(Clone, Debug, Default, PartialEq)]
 pub struct Frame {
     pub types: Vec<u8>,
     pub manifolds: Vec<u16>,
+    /// the joints' endpoints: pairs, or by their counts
     pub joints: Vec<u16>,
+    /// one a joint, where joints have counts (version 2)
+    pub counts: Option<Vec<u8>>,
     pub enabled: Vec<u8>,
 }
 
@@ -37,20 +60,24 @@ impl Frame {
     }
 
     pub fn joint_count(&self) -> usize {
-        self.joints.len() / 2
+        self.counts.as_ref().map_or(self.joints.len() / 2, |counts| counts.len())
     }
 
     pub fn constraint_count(&self) -> usize {
         self.manifold_count() + self.joint_count()
     }
 
-    /// The endpoints of a constraint by its number.
-    pub fn endpoints(&self, number: usize) -> [u16; 2] {
-        let (list, place) = match number.checked_sub(self.manifold_count()) {
-            None => (&self.manifolds, number),
-            Some(joint) => (&self.joints, joint),
-        };
-        [list[2 * place], list[2 * place + 1]]
+    /// The endpoints of each joint.
+    pub fn joint_ends(&self) -> Vec<Vec<u16>> {
+        match &self.counts {
+            None => pairs(&self.joints),
+            Some(counts) => parts(counts, &self.joints),
+        }
+    }
+
+    /// The endpoints of each constraint: manifolds, then joints.
+    pub fn ends(&self) -> Vec<Vec<u16>> {
+        [pairs(&self.manifolds), self.joint_ends()].concat()
     }
 
     /// A constraint is live unless it is a disabled joint.

@@ -1,9 +1,10 @@
 //! The whole comparison of two sides, and its counts.
-use crate::agree::{Agree, Step};
+use crate::agree::{Agree, Step, Tally};
 use crate::calls::*;
 use crate::frames;
 use crate::lifts;
-use crate::scope;
+use crate::multi::{self, MultiCalls};
+use crate::scope::{self, Scope};
 use std::process::exit;
 
 /// Document 01's sample file, and what it prints.
@@ -266,8 +267,15 @@ const REFUSALS: &[(&str, &[u8])] = &[
     ("line", &[0, 3, 13]),
 ];
 
-/// Compares and exits: 0 only if nothing differs. `more` multiplies the random part.
-pub fn compare<L: Calls, R: Calls>(left: &L, right: &R, more: usize) -> ! {
+/// What is asked of joints and constraints with counts, which the Rust does not know: the documents beside another side.
+pub fn compare_multi<R: MultiCalls>(right: &R, more: usize) -> Tally {
+    let mut agree = Agree::new(&Scope, right, 11);
+    multi::calls(&mut agree, more);
+    agree.tally
+}
+
+/// Compares and exits: 0 only if nothing differs. `more` multiplies the random part; what was found of counts is added.
+pub fn compare<L: Calls, R: Calls>(left: &L, right: &R, more: usize, counted: Tally) -> ! {
     let mut agree = Agree::new(left, right, 2026);
     let every = 15;
     let every_little = 37;
@@ -335,9 +343,10 @@ pub fn compare<L: Calls, R: Calls>(left: &L, right: &R, more: usize) -> ! {
     }
     lifts::compare(&mut agree, more);
 
-    let tally = agree.tally;
+    let mut tally = agree.tally;
+    tally.add(counted);
     let mut all_met = true;
-    for (call, refusals) in REFUSALS {
+    for (call, refusals) in REFUSALS.iter().chain(multi::REFUSALS) {
         let times: Vec<usize> = refusals.iter().map(|n| *tally.met.get(&(*call, *n)).unwrap_or(&0)).collect();
         let shown: Vec<String> = refusals.iter().zip(&times).map(|(n, t)| format!("{n}: {t}")).collect();
         println!("{call}: {}", shown.join(", "));

@@ -187,7 +187,7 @@ fn spoil(random: &mut Random, frame: &mut Frame) {
 /// A frame of manifolds and, past 4,096 pairs, of enabled joints.
 pub fn of_pairs(types: Vec<u8>, pairs: &[[u16; 2]]) -> Frame {
     let (first, rest) = pairs.split_at(pairs.len().min(MANIFOLDS));
-    Frame { types, manifolds: first.concat(), joints: rest.concat(), enabled: vec![1; rest.len()] }
+    Frame { types, manifolds: first.concat(), joints: rest.concat(), enabled: vec![1; rest.len()], counts: None }
 }
 
 pub fn chain(b: usize, backwards: bool) -> Frame {
@@ -329,6 +329,7 @@ pub fn limit_files() -> Vec<(&'static str, Vec<u8>)> {
         manifolds: (0..4096u16).flat_map(|i| [i, (i + 1) % 4096]).collect(),
         joints: (0..4096u16).flat_map(|i| [(i + 7) % 4096, i]).collect(),
         enabled: (0..4096).map(|i| (i % 5 < 3) as u8).collect(),
+        ..Frame::default()
     });
     assert_eq!(full.len(), FILE_BYTES);
     let mut longer = full.clone();

@@ -122,12 +122,12 @@ fn plan_read(plan: &ConstraintColoring) -> scope::Coloring {
     let groups = 0..plan.schedule_group_count();
     scope::Coloring {
         flags: plan.flags().iter().map(|f| *f as u8).collect(),
-        pairs: numbers(&plan.pairs().concat()),
+        ends: plan.pairs().iter().map(|pair| numbers(pair)).collect(),
         colors: numbers(plan.colors()),
         members: groups.clone().map(|k| numbers(plan.constraints_in_schedule_group(k).unwrap())).collect(),
         bodies: groups.map(|k| numbers(plan.bodies_in_schedule_group(k).unwrap())).collect(),
         positions: (0..plan.pairs().len())
-            .map(|i| plan.body_positions_for_constraint(i).unwrap().map(|p| number(&p)))
+            .map(|i| numbers(&plan.body_positions_for_constraint(i).unwrap()))
             .collect(),
     }
 }
@@ -271,12 +271,13 @@ impl Calls for Rust {
         if refusal != 0 {
             return Report { refusal, ..Report::default() };
         }
+        let all = frame.ends();
         let flags = bools(&frame.flags());
         let mut bodies = solver_bodies(&frame.types);
         let mut report = Report { islands: islands.count, degree: scope::degree(&frame), ..Report::default() };
         for island in 0..islands.count {
             let members = scope::of_island(&islands.constraints, island);
-            let pairs: Vec<[usize; 2]> = members.iter().map(|n| frame.endpoints(*n).map(|e| e as usize)).collect();
+            let pairs: Vec<[usize; 2]> = members.iter().map(|n| [all[*n][0] as usize, all[*n][1] as usize]).collect();
             let mut plan = ConstraintColoring::new();
             plan.update(&flags, &pairs).unwrap();
             for group in 0..plan.schedule_group_count() {

@@ -1,6 +1,7 @@
 //! The proved code as a side: through the functions of include/engkarupi.h, the programs `turns` and `generate_frame`, and
 //! the sample program in C.
 use crate::calls::*;
+use crate::multi::{Input, MultiCalls, MultiTables};
 use std::ffi::c_void;
 use std::io::Write;
 use std::path::{Path, PathBuf};
@@ -27,6 +28,89 @@ unsafe extern "C" {
         joint_islands: *mut u16,
         joint_islands_len: usize,
         island_count: *mut u16,
+    ) -> u8;
+
+    fn engkarupi_islands_multi(
+        types: *const u8,
+        types_len: usize,
+        manifolds: *const u16,
+        manifolds_len: usize,
+        joint_ends: *const u16,
+        joint_ends_len: usize,
+        joint_counts: *const u8,
+        joint_counts_len: usize,
+        enabled: *const u8,
+        enabled_len: usize,
+        parents: *mut u16,
+        parents_len: usize,
+        sizes: *mut u16,
+        sizes_len: usize,
+        body_islands: *mut u16,
+        body_islands_len: usize,
+        manifold_islands: *mut u16,
+        manifold_islands_len: usize,
+        joint_islands: *mut u16,
+        joint_islands_len: usize,
+        island_count: *mut u16,
+    ) -> u8;
+
+    fn engkarupi_update_multi(
+        plan: *mut usize,
+        flags: *const u8,
+        flags_len: usize,
+        ends: *const u16,
+        ends_len: usize,
+        counts_in: *const u8,
+        counts_in_len: usize,
+        dynamic_bodies: *mut u8,
+        dynamic_bodies_len: usize,
+        endpoints: *mut u16,
+        endpoints_len: usize,
+        counts: *mut u8,
+        counts_len: usize,
+        body_offsets: *mut u16,
+        body_offsets_len: usize,
+        body_constraints: *mut u16,
+        body_constraints_len: usize,
+        scratch_offsets: *mut u16,
+        scratch_offsets_len: usize,
+        constraint_colors: *mut u16,
+        constraint_colors_len: usize,
+        color_stamps: *mut u16,
+        color_stamps_len: usize,
+        body_stamps: *mut u16,
+        body_stamps_len: usize,
+        color_offsets: *mut u16,
+        color_offsets_len: usize,
+        colored_constraints: *mut u16,
+        colored_constraints_len: usize,
+        color_body_offsets: *mut u16,
+        color_body_offsets_len: usize,
+        color_bodies: *mut u16,
+        color_bodies_len: usize,
+        constraint_body_positions: *mut u16,
+        constraint_body_positions_len: usize,
+        changed: *mut u8,
+    ) -> u8;
+
+    fn engkarupi_positions_multi(
+        plan: *const usize,
+        counts: *const u8,
+        counts_len: usize,
+        constraint_body_positions: *const u16,
+        constraint_body_positions_len: usize,
+        constraint: usize,
+        places: *mut u16,
+        count: *mut usize,
+    ) -> u8;
+
+    fn engkarupi_take_multi(
+        bodies: *const u16,
+        marks: *mut u8,
+        count: usize,
+        positions: *const u16,
+        positions_len: usize,
+        handed: *mut u16,
     ) -> u8;
 
     fn engkarupi_update(
@@ -143,6 +227,38 @@ pub fn islands(frame: &Frame, tables: &mut IslandTables) -> (u8, usize) {
             frame.manifolds.len(),
             frame.joints.as_ptr(),
             frame.joints.len(),
+            frame.enabled.as_ptr(),
+            frame.enabled.len(),
+            tables.parents.as_mut_ptr(),
+            tables.parents.len(),
+            tables.sizes.as_mut_ptr(),
+            tables.sizes.len(),
+            tables.bodies.as_mut_ptr(),
+            tables.bodies.len(),
+            tables.manifolds.as_mut_ptr(),
+            tables.manifolds.len(),
+            tables.joints.as_mut_ptr(),
+            tables.joints.len(),
+            &mut count,
+        )
+    };
+    (refusal, count as usize)
+}
+
+/// Islands of a frame whose joints have counts, on its tables.
+fn islands_multi(frame: &Frame, counts: &[u8], tables: &mut IslandTables) -> (u8, usize) {
+    let mut count: u16 = 0xABCD;
+    // SAFETY: as above.
+    let refusal = unsafe {
+        engkarupi_islands_multi(
+            frame.types.as_ptr(),
+            frame.types.len(),
+            frame.manifolds.as_ptr(),
+            frame.manifolds.len(),
+            frame.joints.as_ptr(),
+            frame.joints.len(),
+            counts.as_ptr(),
+            counts.len(),
             frame.enabled.as_ptr(),
             frame.enabled.len(),
             tables.parents.as_mut_ptr(),
@@ -357,7 +473,10 @@ impl Calls for Ours {
     type Plan = Plan;
 
     fn islands(&self, frame: &Frame, tables: &mut IslandTables) -> (u8, usize) {
-        islands(frame, tables)
+        match &frame.counts {
+            None => islands(frame, tables),
+            Some(counts) => islands_multi(frame, counts, tables),
+        }
     }
 
     fn fresh(&self) -> Plan {
@@ -441,6 +560,113 @@ impl Calls for Ours {
                 String::from_utf8_lossy(line),
                 String::from_utf8_lossy(&stderr)
             ),
+        }
+    }
+}
+
+fn update_multi(plan: &mut Plan, input: &Input, tables: &mut MultiTables) -> Update {
+    let t = &mut tables.plan;
+    let mut changed = 0xAB;
+    // SAFETY: as above; a plan is four numbers.
+    let refusal = unsafe {
+        engkarupi_update_multi(
+            plan.as_mut_ptr(),
+            input.flags.as_ptr(),
+            input.flags.len(),
+            input.ends.as_ptr(),
+            input.ends.len(),
+            input.counts.as_ptr(),
+            input.counts.len(),
+            t.flags.as_mut_ptr(),
+            t.flags.len(),
+            t.pairs.as_mut_ptr(),
+            t.pairs.len(),
+            tables.counts.as_mut_ptr(),
+            tables.counts.len(),
+            t.adjacency_offsets.as_mut_ptr(),
+            t.adjacency_offsets.len(),
+            t.adjacency.as_mut_ptr(),
+            t.adjacency.len(),
+            t.scratch.as_mut_ptr(),
+            t.scratch.len(),
+            t.colors.as_mut_ptr(),
+            t.colors.len(),
+            t.color_stamps.as_mut_ptr(),
+            t.color_stamps.len(),
+            t.body_stamps.as_mut_ptr(),
+            t.body_stamps.len(),
+            t.group_offsets.as_mut_ptr(),
+            t.group_offsets.len(),
+            t.members.as_mut_ptr(),
+            t.members.len(),
+            t.body_offsets.as_mut_ptr(),
+            t.body_offsets.len(),
+            t.bodies.as_mut_ptr(),
+            t.bodies.len(),
+            t.positions.as_mut_ptr(),
+            t.positions.len(),
+            &mut changed,
+        )
+    };
+    match (refusal, changed) {
+        (0, 1) => Update::Changed,
+        (0, 0) => Update::Unchanged,
+        (1.., 0) => Update::Refused(refusal),
+        _ => panic!("an update with counts answered {refusal} and {changed}"),
+    }
+}
+
+impl MultiCalls for Ours {
+    fn update_multi(&self, carried: &mut Carried, input: &Input, tables: &mut MultiTables) -> Update {
+        let mut plan = [carried.bodies, carried.constraints, carried.groups, carried.largest];
+        let answer = update_multi(&mut plan, input, tables);
+        *carried = self.carried(&plan);
+        answer
+    }
+
+    fn positions_multi(&self, plan: &Carried, counts: &[u8], table: &[u16], constraint: usize) -> Result<Vec<u16>, u8> {
+        let plan = [plan.bodies, plan.constraints, plan.groups, plan.largest];
+        let (mut places, mut count) = ([0xABCD; 4], 0xABCD);
+        // SAFETY: as above; four places are answered.
+        let refusal = unsafe {
+            engkarupi_positions_multi(
+                plan.as_ptr(),
+                counts.as_ptr(),
+                counts.len(),
+                table.as_ptr(),
+                table.len(),
+                constraint,
+                places.as_mut_ptr(),
+                &mut count,
+            )
+        };
+        match (refusal, count) {
+            (0, 2..=4) if places[count..].iter().all(|p| *p == 0) => Ok(places[..count].to_vec()),
+            (1.., 0) if places == [0; 4] => Err(refusal),
+            _ => panic!("positions answered {refusal}, {count} and {places:?}"),
+        }
+    }
+
+    fn take_multi(&self, binding: &mut Binding, positions: &[u16]) -> Result<Vec<(u16, bool)>, u8> {
+        let mut handed = [0xABCD; 8];
+        // SAFETY: as above; eight numbers are handed.
+        let refusal = unsafe {
+            engkarupi_take_multi(
+                binding.bodies.as_ptr(),
+                binding.marks.as_mut_ptr(),
+                binding.count,
+                positions.as_ptr(),
+                positions.len(),
+                handed.as_mut_ptr(),
+            )
+        };
+        let n = if refusal == 0 { positions.len() } else { 0 };
+        let (bodies, rest) = handed.split_at(2 * n.min(4));
+        let known = bodies.chunks(2).all(|pair| pair[1] <= 1) && rest.iter().all(|x| *x == 0);
+        assert!(known, "a take of {positions:?} answered {refusal} and handed {handed:?}");
+        match refusal {
+            0 => Ok(bodies.chunks(2).map(|pair| (pair[0], pair[1] == 1)).collect()),
+            number => Err(number),
         }
     }
 }

@@ -1,7 +1,7 @@
 //! Document 01, sentence by sentence, and requests 3, 6 and 7: the side that answers where the Rust cannot be asked (limits,
 //! numbers, question 6, what lies beyond, the roots and sizes of sets, the file, the run, the print, test lifts), and a second
 //! opinion where it can. Written for plainness, not speed.
-use crate::calls::*;
+use crate::calls::{self, *};
 use crate::frames;
 use std::cmp::Ordering;
 use std::collections::{BTreeMap, BTreeSet};
@@ -16,14 +16,34 @@ fn bits(bytes: &[u8]) -> bool {
     bytes.iter().all(|e| *e <= 1)
 }
 
-/// Question 7 of one live constraint.
-fn two_endpoints([a, b]: [u16; 2], bodies: usize) -> bool {
-    a != b && (a as usize) < bodies && (b as usize) < bodies
+/// Question 7 of one live constraint: two to four endpoints, all different, and below the bodies.
+pub fn fits(ends: &[u16], bodies: usize) -> bool {
+    (FEWEST as usize..=MOST as usize).contains(&ends.len())
+        && ends.iter().all(|end| (*end as usize) < bodies)
+        && ends.iter().collect::<BTreeSet<_>>().len() == ends.len()
 }
 
 /// Question 7 of a frame: a disabled joint may carry any endpoints.
 pub fn endpoints_right(frame: &Frame) -> bool {
-    (0..frame.constraint_count()).all(|n| !frame.live(n) || two_endpoints(frame.endpoints(n), frame.types.len()))
+    frame.ends().iter().enumerate().all(|(n, ends)| !frame.live(n) || fits(ends, frame.types.len()))
+}
+
+/// Question 5 of counts.
+pub fn counts_known(counts: &[u8]) -> bool {
+    counts.iter().all(|count| (FEWEST..=MOST).contains(count))
+}
+
+/// How many endpoints counts make.
+pub fn sum(counts: &[u8]) -> usize {
+    counts.iter().map(|count| *count as usize).sum()
+}
+
+/// Question 4 of a list of joints: pairs, or as many endpoints as the counts make.
+fn joints_agree(frame: &Frame) -> bool {
+    match &frame.counts {
+        None => frame.joints.len() % 2 == 0,
+        Some(counts) => sum(counts) == frame.joints.len(),
+    }
 }
 
 /// Questions 3 to 6 of an islands call.
@@ -32,10 +52,11 @@ pub fn islands_early(frame: &Frame, tables: &mut IslandTables) -> u8 {
     if b > BODIES || m > MANIFOLDS || j > JOINTS {
         return 3;
     }
-    if frame.manifolds.len() % 2 != 0 || frame.joints.len() % 2 != 0 || frame.enabled.len() != j {
+    if frame.manifolds.len() % 2 != 0 || !joints_agree(frame) || frame.enabled.len() != j {
         return 4;
     }
-    if !types_known(&frame.types) || !bits(&frame.enabled) {
+    let counts = frame.counts.as_deref().unwrap_or_default();
+    if !types_known(&frame.types) || !bits(&frame.enabled) || !counts_known(counts) {
         return 5;
     }
     if !roomy(tables, &island_lengths(b, m, j)) {
@@ -140,10 +161,8 @@ pub fn write(frame: &Frame) -> Vec<u8> {
         bytes.extend((n as u16).to_be_bytes());
     }
     bytes.extend(&frame.types);
-    for n in 0..m + j {
-        for end in frame.endpoints(n) {
-            bytes.extend(end.to_be_bytes());
-        }
+    for (n, ends) in frame.ends().iter().enumerate() {
+        bytes.extend(ends.iter().flat_map(|end| end.to_be_bytes()));
         if n >= m {
             bytes.push(frame.enabled[n - m]);
         }
@@ -162,24 +181,30 @@ pub struct Islands {
     pub roots: Vec<u16>,
 }
 
-/// Request 7: the root of each body's set. The constraints join sets in their order, the smaller one to the root of the
-/// larger; on equal sizes the lower root wins.
+/// Request 7: the sets of two bodies become one, the smaller one hung to the root of the larger; on equal sizes the lower root wins.
+fn hang(roots: &mut [u16], a: u16, b: u16) {
+    let [p, q] = [a, b].map(|body| roots[body as usize]);
+    if p == q {
+        return;
+    }
+    let size = |root: u16| roots.iter().filter(|r| **r == root).count();
+    let winner = match size(p).cmp(&size(q)) {
+        Ordering::Less => q,
+        Ordering::Equal => p.min(q),
+        Ordering::Greater => p,
+    };
+    for root in roots.iter_mut().filter(|root| [p, q].contains(*root)) {
+        *root = winner;
+    }
+}
+
+/// The root of each body's set. The constraints join sets in their order: the first dynamic endpoint with each other one.
 pub fn roots(frame: &Frame) -> Vec<u16> {
     let mut roots: Vec<u16> = (0..frame.types.len() as u16).collect();
-    for n in (0..frame.constraint_count()).filter(|n| frame.live(*n)) {
-        let ends = frame.endpoints(n);
-        let [p, q] = ends.map(|end| roots[end as usize]);
-        if p == q || !ends.iter().all(|end| frame.dynamic(*end)) {
-            continue;
-        }
-        let size = |root: u16| roots.iter().filter(|r| **r == root).count();
-        let winner = match size(p).cmp(&size(q)) {
-            Ordering::Less => q,
-            Ordering::Equal => p.min(q),
-            Ordering::Greater => p,
-        };
-        for root in roots.iter_mut().filter(|root| [p, q].contains(*root)) {
-            *root = winner;
+    for (_, ends) in frame.ends().iter().enumerate().filter(|(n, _)| frame.live(*n)) {
+        let dynamic: Vec<u16> = ends.iter().copied().filter(|end| frame.dynamic(*end)).collect();
+        for other in dynamic.iter().skip(1) {
+            hang(&mut roots, dynamic[0], *other);
         }
     }
     roots
@@ -204,14 +229,12 @@ pub fn islands(frame: &Frame) -> Islands {
     let b = frame.types.len();
     let mut touched = vec![false; b];
     let mut near: Vec<Vec<u16>> = vec![Vec::new(); b];
-    for n in (0..frame.constraint_count()).filter(|n| frame.live(*n)) {
-        let ends = frame.endpoints(n);
-        for end in ends {
-            touched[end as usize] |= frame.dynamic(end);
-        }
-        if ends.iter().all(|end| frame.dynamic(*end)) {
-            near[ends[0] as usize].push(ends[1]);
-            near[ends[1] as usize].push(ends[0]);
+    let all = frame.ends();
+    for (_, ends) in all.iter().enumerate().filter(|(n, _)| frame.live(*n)) {
+        let dynamic: Vec<u16> = ends.iter().copied().filter(|end| frame.dynamic(*end)).collect();
+        for end in &dynamic {
+            touched[*end as usize] = true;
+            near[*end as usize].extend(&dynamic);
         }
     }
     // a set is what can be reached from its lowest body
@@ -229,8 +252,8 @@ pub fn islands(frame: &Frame) -> Islands {
     let heads: BTreeSet<u16> = (0..b).filter(|i| touched[*i]).map(|i| lowest[i]).collect();
     let number: BTreeMap<u16, u16> = heads.iter().enumerate().map(|(i, head)| (*head, i as u16)).collect();
     let bodies: Vec<u16> = (0..b).map(|i| if touched[i] { number[&lowest[i]] } else { NONE }).collect();
-    let label = |n: usize| match frame.endpoints(n).into_iter().find(|end| frame.live(n) && frame.dynamic(*end)) {
-        Some(end) => bodies[end as usize],
+    let label = |n: usize| match all[n].iter().find(|end| frame.live(n) && frame.dynamic(**end)) {
+        Some(end) => bodies[*end as usize],
         None => NONE,
     };
     let constraints = (0..frame.constraint_count()).map(label).collect();
@@ -263,23 +286,23 @@ pub fn write_islands(frame: &Frame, islands: Option<&Islands>, tables: &mut Isla
 
 // ---- groups
 
-/// The coloring of flags and pairs that pass the questions.
+/// The coloring of flags and constraints, each the list of its endpoints, that pass the questions.
 #[derive(Clone, Debug, Default, PartialEq)]
 pub struct Coloring {
     pub flags: Vec<u8>,
-    pub pairs: Vec<u16>,
+    pub ends: Vec<Vec<u16>>,
     pub colors: Vec<u16>,
     /// each group's members and bodies, rising
     pub members: Vec<Vec<u16>>,
     pub bodies: Vec<Vec<u16>>,
-    pub positions: Vec<[u16; 2]>,
+    pub positions: Vec<Vec<u16>>,
 }
 
-pub fn coloring(flags: &[u8], pairs: &[u16]) -> Coloring {
-    let mut coloring = Coloring { flags: flags.to_vec(), pairs: pairs.to_vec(), ..Coloring::default() };
+pub fn coloring(flags: &[u8], all: Vec<Vec<u16>>) -> Coloring {
+    let mut coloring = Coloring { flags: flags.to_vec(), ends: all, ..Coloring::default() };
     // the colors of the earlier constraints on each body with flag 1
     let mut on: Vec<Vec<u16>> = vec![Vec::new(); flags.len()];
-    for (i, ends) in pairs.chunks(2).enumerate() {
+    for (i, ends) in coloring.ends.iter().enumerate() {
         let dynamic: Vec<usize> = ends.iter().map(|e| *e as usize).filter(|e| flags[*e] == 1).collect();
         let mut taken = vec![false; coloring.members.len() + 1];
         for color in dynamic.iter().flat_map(|body| &on[*body]) {
@@ -296,7 +319,7 @@ pub fn coloring(flags: &[u8], pairs: &[u16]) -> Coloring {
         coloring.members[color].push(i as u16);
     }
     for members in &coloring.members {
-        let ends = members.iter().flat_map(|i| &pairs[2 * *i as usize..][..2]);
+        let ends = members.iter().flat_map(|i| &coloring.ends[*i as usize]);
         coloring.bodies.push(ends.copied().collect::<BTreeSet<u16>>().into_iter().collect());
     }
     let mut place = BTreeMap::new();
@@ -305,8 +328,8 @@ pub fn coloring(flags: &[u8], pairs: &[u16]) -> Coloring {
             place.insert((group as u16, *body), p as u16);
         }
     }
-    for (i, ends) in pairs.chunks(2).enumerate() {
-        coloring.positions.push([0, 1].map(|e: usize| place[&(coloring.colors[i], ends[e])]));
+    for (color, ends) in coloring.colors.iter().zip(&coloring.ends) {
+        coloring.positions.push(ends.iter().map(|end| place[&(*color, *end)]).collect());
     }
     coloring
 }
@@ -337,7 +360,7 @@ impl Coloring {
     /// The tables after "changed": what is free stays here as it was.
     pub fn write(&self, tables: &mut PlanTables) {
         tables.flags[..self.flags.len()].copy_from_slice(&self.flags);
-        put(&mut tables.pairs, &self.pairs);
+        put(&mut tables.pairs, &self.ends.concat());
         put(&mut tables.colors, &self.colors);
         let (members, offsets) = in_a_row(&self.members);
         put(&mut tables.group_offsets, &offsets);
@@ -380,20 +403,32 @@ pub fn bind(types: &[u8], list: &[u16]) -> (u8, Binding) {
     (refusal, binding)
 }
 
-pub fn take(binding: &mut Binding, [a, b]: [usize; 2]) -> Take {
-    let placed = |p: usize| p < binding.count && p < BODIES;
-    if a == b || !placed(a) || !placed(b) {
-        return Take::Refused(9);
+/// A take of two to four positions: 5 for another number of them, 9 for a bad one; then by rising place, 10 if the lowest is gone, 11 if a
+/// higher one is. The bodies are handed in the order asked.
+pub fn take_many(binding: &mut Binding, positions: &[usize]) -> Result<Vec<(u16, bool)>, u8> {
+    if !(FEWEST as usize..=MOST as usize).contains(&positions.len()) {
+        return Err(5);
     }
-    let handed = [a, b].map(|p| (binding.bodies[p], binding.marks[p] == 1));
-    for (place, number) in [(a.min(b), 10), (a.max(b), 11)] {
+    let rising: BTreeSet<usize> = positions.iter().copied().collect();
+    if rising.len() < positions.len() || rising.iter().any(|p| *p >= binding.count || *p >= BODIES) {
+        return Err(9);
+    }
+    let handed = positions.iter().map(|p| (binding.bodies[*p], binding.marks[*p] == 1)).collect();
+    for (i, place) in rising.into_iter().enumerate() {
         match binding.marks[place] {
             0 => {}
             1 => binding.marks[place] = 2,
-            _ => return Take::Refused(number),
+            _ => return Err(if i == 0 { 10 } else { 11 }),
         }
     }
-    Take::Taken(handed)
+    Ok(handed)
+}
+
+pub fn take(binding: &mut Binding, positions: [usize; 2]) -> Take {
+    match take_many(binding, &positions) {
+        Ok(handed) => Take::Taken([handed[0], handed[1]]),
+        Err(number) => Take::Refused(number),
+    }
 }
 
 // ---- the run
@@ -412,16 +447,16 @@ pub fn run_questions(file: &[u8], tables: &mut RunTables) -> Result<Frame, (u8, 
 }
 
 /// Whether a constraint has an island: it is live and has a dynamic endpoint.
-fn has_island(frame: &Frame, number: usize) -> bool {
-    frame.live(number) && frame.endpoints(number).iter().any(|end| frame.dynamic(*end))
+fn has_island(frame: &Frame, number: usize, ends: &[u16]) -> bool {
+    frame.live(number) && ends.iter().any(|end| frame.dynamic(*end))
 }
 
 /// D: the most constraints with an island on one dynamic or logged body.
 pub fn degree(frame: &Frame) -> usize {
     let mut on = vec![0; frame.types.len()];
-    for n in (0..frame.constraint_count()).filter(|n| has_island(frame, *n)) {
-        for end in frame.endpoints(n).into_iter().filter(|end| frame.conflicts(*end)) {
-            on[end as usize] += 1;
+    for (_, ends) in frame.ends().iter().enumerate().filter(|(n, ends)| has_island(frame, *n, ends)) {
+        for end in ends.iter().filter(|end| frame.conflicts(**end)) {
+            on[*end as usize] += 1;
         }
     }
     on.into_iter().max().unwrap_or(0)
@@ -437,9 +472,10 @@ pub fn of_island(labels: &[u16], island: usize) -> Vec<usize> {
 pub fn print_report(frame: &Frame, report: Report, turns: &[u16]) -> Vec<u8> {
     let mut text =
         format!("islands {} turns {} takes {} degree {}\n", report.islands, report.turns, report.takes, report.degree);
+    let all = frame.ends();
     for turn in turns[..3 * report.turns].chunks(3) {
-        let [a, b] = frame.endpoints(turn[2] as usize);
-        text += &format!("{} {} {} {} {}\n", turn[0], turn[1], turn[2], a, b);
+        let fields: Vec<String> = turn.iter().chain(&all[turn[2] as usize]).map(|n| n.to_string()).collect();
+        text += &(fields.join(" ") + "\n");
     }
     text.into_bytes()
 }
@@ -553,13 +589,14 @@ impl Calls for Scope {
         if refusal != 0 {
             return Update::Refused(refusal);
         }
-        if !pairs.chunks(2).all(|p| two_endpoints([p[0], p[1]], flags.len())) {
+        let all = calls::pairs(pairs);
+        if !all.iter().all(|ends| fits(ends, flags.len())) {
             return Update::Refused(7);
         }
-        if plan.flags == flags && plan.pairs == pairs {
+        if plan.flags == flags && plan.ends == all {
             return Update::Unchanged;
         }
-        *plan = coloring(flags, pairs);
+        *plan = coloring(flags, all);
         plan.write(tables);
         Update::Changed
     }
@@ -569,12 +606,12 @@ impl Calls for Scope {
     }
 
     fn bodies(&self, plan: &Coloring, _: &PlanTables, group: usize) -> Part {
-        part(plan.bodies.len(), &in_a_row(&plan.bodies).1, &vec![0; plan.pairs.len()], group)
+        part(plan.bodies.len(), &in_a_row(&plan.bodies).1, &vec![0; plan.ends.concat().len()], group)
     }
 
     fn positions(&self, plan: &Coloring, tables: &PlanTables, constraint: usize) -> Result<[u16; 2], u8> {
         match positions_refusal(plan.positions.len(), &tables.positions, constraint) {
-            0 => Ok(plan.positions[constraint]),
+            0 => Ok([plan.positions[constraint][0], plan.positions[constraint][1]]),
             number => Err(number),
         }
     }
@@ -619,15 +656,15 @@ impl Calls for Scope {
         let islands = islands(&frame);
         write_islands(&frame, Some(&islands), &mut tables.islands);
         let mut report = Report { islands: islands.count, degree: degree(&frame), ..Report::default() };
+        let all = frame.ends();
         for island in 0..islands.count {
             let numbers = of_island(&islands.constraints, island);
-            let pairs: Vec<u16> = numbers.iter().flat_map(|n| frame.endpoints(*n)).collect();
-            let plan = coloring(&frame.flags(), &pairs);
+            let plan = coloring(&frame.flags(), numbers.iter().map(|n| all[*n].clone()).collect());
             for (group, members) in plan.members.iter().enumerate() {
                 let mut binding = bind(&frame.types, &plan.bodies[group]).1;
                 for member in members {
-                    let positions = plan.positions[*member as usize].map(|p| p as usize);
-                    if let Take::Taken(handed) = take(&mut binding, positions) {
+                    let positions: Vec<usize> = plan.positions[*member as usize].iter().map(|p| *p as usize).collect();
+                    if let Ok(handed) = take_many(&mut binding, &positions) {
                         let turn = [island, group, numbers[*member as usize]].map(|n| n as u16);
                         put(&mut tables.turns[3 * report.turns..], &turn);
                         report.turns += 1;

@@ -1,4 +1,4 @@
-//! The Rust beside the proved code. Arguments: how many times the default; the programs `turns` and `generate_frame`; the
+//! The Rust beside the proved code, and of counts the documents beside it. Arguments: how many times the default; the programs `turns` and `generate_frame`; the
 //! sample program, compiled from samples/run.c.
 use oracle::ours::Ours;
 
@@ -9,5 +9,7 @@ fn main() {
     let turns = program("../crates/turns/out/turns");
     let generate_frame = program("../crates/generate_frame/out/generate_frame");
     let sample = program("../target/run");
-    oracle::compare::compare(&oracle::kapitsa::Rust, &Ours { turns, generate_frame, sample }, more);
+    let ours = Ours { turns, generate_frame, sample };
+    let counted = oracle::compare::compare_multi(&ours, more);
+    oracle::compare::compare(&oracle::kapitsa::Rust, &ours, more, counted);
 }
