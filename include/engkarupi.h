@@ -24,15 +24,16 @@
  * A call that can be refused answers 0 or the number of the first question that got a "no":
  *    1  the file's first byte is not 1
  *    2  fewer than 11 bytes, or the length field is not the number of bytes after it
- *    3  more than 4,096 bodies, manifolds or joints (a coloring: 4,096 bodies, 8,192 pairs)
- *    4  lengths that do not agree: an odd pair list, not one enabled byte a joint, a file's length field
- *    5  a type above 3, or an enabled byte or flag above 1
+ *    3  more than 4,096 bodies, manifolds or joints (a coloring: 4,096 bodies, 8,192 constraints)
+ *    4  lengths that do not agree: an odd pair list, not one enabled byte a joint, counts that do not make the endpoints, a
+ *       file's length field
+ *    5  a type above 3, an enabled byte or flag above 1, a count that is not 2 to 4; a take of other than 2 to 4 positions
  *    6  a lent table is too short
- *    7  a live constraint without two different endpoints below B
+ *    7  a live constraint whose endpoints are not all different and below B
  *    8  a body list that does not rise strictly below B
- *    9  two positions that are equal, or not below the binding's count and 4,096
- *   10  the body at the lower position is gone
- *   11  the body at the higher position is gone; a body that was held at the lower one is now taken
+ *    9  two positions that are equal, or one that is not below the binding's count and 4,096
+ *   10  the body at the lowest position is gone
+ *   11  the body at a higher position is gone; bodies that were held at the lower ones are now taken
  *   12  there is no such constraint
  *   13  fewer than two bodies for a pair that is wanted
  * Refusals 1 to 6, 8 to 10, 12 and 13 change no lent table; a refused bind still writes its empty binding.
@@ -70,6 +71,23 @@ uint8_t engkarupi_islands(
     const uint8_t *types, size_t types_len,                     /* B */
     const uint16_t *manifolds, size_t manifolds_len,            /* 2 * M */
     const uint16_t *joints, size_t joints_len,                  /* 2 * J */
+    const uint8_t *enabled, size_t enabled_len,                 /* J, each 0 or 1 */
+    uint16_t *parents, size_t parents_len,                      /* B */
+    uint16_t *sizes, size_t sizes_len,                          /* B */
+    uint16_t *body_islands, size_t body_islands_len,            /* B */
+    uint16_t *manifold_islands, size_t manifold_islands_len,    /* M */
+    uint16_t *joint_islands, size_t joint_islands_len,          /* J */
+    uint16_t *island_count);
+
+/* The same where a joint has two to four bodies: joint j has joint_counts[j] endpoints, and the endpoints stand joint after
+ * joint without gaps. A live joint connects all its dynamic endpoints, whatever the others are: its first dynamic one is
+ * joined with each other, in their order. Question 4 takes the counts as they stand, and comes before 5.
+ */
+uint8_t engkarupi_islands_multi(
+    const uint8_t *types, size_t types_len,                     /* B */
+    const uint16_t *manifolds, size_t manifolds_len,            /* 2 * M */
+    const uint16_t *joint_ends, size_t joint_ends_len,          /* the sum of joint_counts */
+    const uint8_t *joint_counts, size_t joint_counts_len,       /* J, each 2 to 4 */
     const uint8_t *enabled, size_t enabled_len,                 /* J, each 0 or 1 */
     uint16_t *parents, size_t parents_len,                      /* B */
     uint16_t *sizes, size_t sizes_len,                          /* B */
@@ -142,6 +160,44 @@ uint8_t engkarupi_positions(
     size_t constraint,
     uint16_t places[2]);
 
+/* ---- the same of constraints that have a count each: 2 to 4 endpoints, constraint after constraint without gaps
+ *
+ * A plan with counts is four numbers too, and its tables with one more: the counts that it remembers, where another number
+ * than 2 to 4 is read as 2. engkarupi_members and engkarupi_bodies serve it as they stand. E is the number of endpoints.
+ * Equal endpoints by other counts are other input. The positions of constraint i stand where its endpoints stand.
+ */
+uint8_t engkarupi_update_multi(
+    size_t plan[ENGKARUPI_PLAN_NUMBERS],
+    const uint8_t *flags, size_t flags_len,                     /* B: 1 for a dynamic or logged body, else 0 */
+    const uint16_t *ends, size_t ends_len,                      /* E, the sum of counts_in */
+    const uint8_t *counts_in, size_t counts_in_len,             /* C, each 2 to 4 */
+    uint8_t *dynamic_bodies, size_t dynamic_bodies_len,         /* B */
+    uint16_t *endpoints, size_t endpoints_len,                  /* E */
+    uint8_t *counts, size_t counts_len,                         /* C */
+    uint16_t *body_offsets, size_t body_offsets_len,            /* B + 1, free */
+    uint16_t *body_constraints, size_t body_constraints_len,    /* E, free */
+    uint16_t *scratch_offsets, size_t scratch_offsets_len,      /* the larger of B and C, free */
+    uint16_t *constraint_colors, size_t constraint_colors_len,  /* C */
+    uint16_t *color_stamps, size_t color_stamps_len,            /* C, free */
+    uint16_t *body_stamps, size_t body_stamps_len,              /* B, free */
+    uint16_t *color_offsets, size_t color_offsets_len,          /* C + 1 */
+    uint16_t *colored_constraints, size_t colored_constraints_len,              /* C */
+    uint16_t *color_body_offsets, size_t color_body_offsets_len,                /* C + 1 */
+    uint16_t *color_bodies, size_t color_bodies_len,                            /* E */
+    uint16_t *constraint_body_positions, size_t constraint_body_positions_len,  /* E */
+    uint8_t *changed);
+
+/* The positions of a constraint in the order of its endpoints, and how many. `counts` is the plan's table. Answers 0, 3, 6
+ * or 12; places past the positions are 0, and after a refusal all are, and *count is 0.
+ */
+uint8_t engkarupi_positions_multi(
+    const size_t plan[ENGKARUPI_PLAN_NUMBERS],
+    const uint8_t *counts, size_t counts_len,                                   /* plan[ENGKARUPI_PLAN_CONSTRAINTS] */
+    const uint16_t *constraint_body_positions, size_t constraint_body_positions_len,   /* the sum of these counts, as read */
+    size_t constraint,
+    uint16_t places[4],
+    size_t *count);
+
 /* ---- bindings: which bodies a group may take
  *
  * A binding is bodies, marks and a count. A mark is 0 (read-only), 1 (held) or another number (taken). It is plain memory:
@@ -169,6 +225,17 @@ uint8_t engkarupi_take(
     size_t a,
     size_t b,
     uint16_t handed[4]);
+
+/* Takes the bodies at 2 to 4 positions, in the order asked: handed is a body and 1 for dynamic or 0 for read-only, for each
+ * position; past them it is 0. They are taken by rising position, so that a refusal keeps the lower ones taken. Answers 0, 5
+ * (another number of positions), 9, 10 or 11; after a refusal handed is all 0.
+ */
+uint8_t engkarupi_take_multi(
+    const uint16_t bodies[4096],
+    uint8_t marks[4096],
+    size_t count,
+    const uint16_t *positions, size_t positions_len,            /* 2 to 4 */
+    uint16_t handed[8]);
 
 /* ---- the run: from the bytes of a file to the turns of its constraints
  *
