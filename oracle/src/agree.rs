@@ -440,7 +440,14 @@ impl<'a, L: Calls, R: Calls> Agree<'a, L, R> {
                 let b = scope::read(file).unwrap().types.len();
                 settle(&mut l.islands, b) & settle(&mut r.islands, b)
             });
-        let kept = free || l.workspace == tables.workspace && r.workspace == tables.workspace;
+        let kept = |w: &Workspace| {
+            let was = &tables.workspace;
+            let counts = [&w.counts, &w.island_counts, &w.plan_counts];
+            // a version 1 frame leaves the tables of counts as they were
+            let same = file.first() == Some(&2) || counts == [&was.counts, &was.island_counts, &was.plan_counts];
+            if free { same } else { w == was }
+        };
+        let kept = kept(&l.workspace) && kept(&r.workspace);
         let same = settled && kept && l.islands == r.islands && l.turns == r.turns;
         self.check(same, || {
             format!(
@@ -458,8 +465,8 @@ impl<'a, L: Calls, R: Calls> Agree<'a, L, R> {
     /// The lengths that a run of this file asks for; any will do for one that is refused before question 6.
     fn run_lengths(file: &[u8]) -> Vec<usize> {
         match scope::read(file) {
-            Ok(frame) => run_lengths(frame.types.len(), frame.manifold_count(), frame.joint_count()),
-            Err(_) => run_lengths(1, 1, 1),
+            Ok(frame) => run_lengths_of(&frame),
+            Err(_) => run_lengths(1, 1, 1, true),
         }
     }
 

@@ -6,7 +6,9 @@ pub const BODIES: usize = 4096;
 pub const MANIFOLDS: usize = 4096;
 pub const JOINTS: usize = 4096;
 pub const PAIRS: usize = 8192;
-pub const FILE_BYTES: usize = 40971;
+/// The longest file of pairs, and the longest of either version.
+pub const PAIR_FILE_BYTES: usize = 40971;
+pub const FILE_BYTES: usize = 61451;
 
 /// The type of a logged body (request 6): it connects no bodies and gives no island, yet makes conflicts.
 pub const LOGGED: u8 = 3;
@@ -145,6 +147,10 @@ pub struct Workspace {
     pub island_pairs: Vec<u16>,
     pub enabled: Vec<u8>,
     pub numbers: Vec<u16>,
+    /// of version 2: the counts of the frame, of the islands, and those that the plan remembers
+    pub counts: Vec<u8>,
+    pub island_counts: Vec<u8>,
+    pub plan_counts: Vec<u8>,
 }
 
 /// A lent table of bytes or of 16-bit numbers, whichever it is.
@@ -240,6 +246,9 @@ impl Lent for Workspace {
         all.push(Numbers(&mut self.island_pairs));
         all.push(Bytes(&mut self.enabled));
         all.push(Numbers(&mut self.numbers));
+        all.push(Bytes(&mut self.counts));
+        all.push(Bytes(&mut self.island_counts));
+        all.push(Bytes(&mut self.plan_counts));
         all
     }
 }
@@ -282,20 +291,32 @@ pub fn island_lengths(bodies: usize, manifolds: usize, joints: usize) -> Vec<usi
     vec![bodies, bodies, bodies, manifolds, joints]
 }
 
-pub fn plan_lengths(b: usize, c: usize) -> Vec<usize> {
-    vec![b, 2 * c, b + 1, 2 * c, b.max(c), c, c, b, c + 1, c, c + 1, 2 * c, 2 * c]
+/// Of so many bodies, constraints and endpoint entries.
+pub fn lengths_with(b: usize, c: usize, e: usize) -> Vec<usize> {
+    vec![b, e, b + 1, e, b.max(c), c, c, b, c + 1, c, c + 1, e, e]
 }
 
-pub fn run_lengths(b: usize, m: usize, j: usize) -> Vec<usize> {
+pub fn plan_lengths(b: usize, c: usize) -> Vec<usize> {
+    lengths_with(b, c, 2 * c)
+}
+
+/// Of a run on version 2, if `counted`, or on version 1, which asks nothing of the tables of counts.
+pub fn run_lengths(b: usize, m: usize, j: usize, counted: bool) -> Vec<usize> {
     let c = m + j;
+    let (e, counts) = if counted { (2 * m + 4 * j, c) } else { (2 * c, 0) };
     let mut all = island_lengths(b, m, j);
     all.push(3 * c);
-    all.extend(plan_lengths(b, c));
-    all.extend([b, b, 2 * c, 2 * c, j, c]);
+    all.extend(lengths_with(b, c, e));
+    all.extend([b, b, e, e, j, c, counts, counts, counts]);
     all
 }
 
-/// The bytes of a file with so many bodies, manifolds and joints.
+/// Those of a frame.
+pub fn run_lengths_of(frame: &Frame) -> Vec<usize> {
+    run_lengths(frame.types.len(), frame.manifold_count(), frame.joint_count(), frame.counts.is_some())
+}
+
+/// The bytes of a version 1 file with so many bodies, manifolds and joints.
 pub fn file_length(b: usize, m: usize, j: usize) -> usize {
     11 + b + 4 * m + 5 * j
 }

@@ -271,6 +271,7 @@ const REFUSALS: &[(&str, &[u8])] = &[
 pub fn compare_multi<R: MultiCalls>(right: &R, more: usize) -> Tally {
     let mut agree = Agree::new(&Scope, right, 11);
     multi::calls(&mut agree, more);
+    multi::runs(&mut agree, more);
     agree.tally
 }
 
@@ -296,7 +297,8 @@ pub fn compare<L: Calls, R: Calls>(left: &L, right: &R, more: usize, counted: Ta
         agree.frame(&frame);
         agree.print(&scope::write(&frame));
     }
-    for (_, file) in frames::limit_files() {
+    // the Rust knows no joints with counts: `multi` asks of these
+    for (_, file) in frames::limit_files().into_iter().filter(|(_, file)| file[0] != 2) {
         agree.file(&file);
         agree.print(&file);
     }

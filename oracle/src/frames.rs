@@ -313,6 +313,18 @@ pub fn damaged(random: &mut Random, file: &[u8], changes: usize, mut give: impl 
     }
 }
 
+/// The longest frame (request 11, sample 13): 4,096 of each, all joints of four; constraints i of four stand on the four bodies of their block.
+pub fn longest() -> Frame {
+    let spot = |i: u16, k: u16| 4 * (i / 4) + (i + k) % 4;
+    Frame {
+        types: (0..4096).map(|body| if body % 4 == 3 { LOGGED } else { 2 }).collect(),
+        manifolds: (0..4096).flat_map(|i| [spot(i, 0), spot(i, 1)]).collect(),
+        joints: (0..4096).flat_map(|i| [0, 1, 2, 3].map(|k| spot(i, k))).collect(),
+        counts: Some(vec![MOST; 4096]),
+        enabled: vec![1; 4096],
+    }
+}
+
 /// Files at the limits: one body, manifold or joint more than there may be, and the longest file with a byte more.
 pub fn limit_files() -> Vec<(&'static str, Vec<u8>)> {
     let header = |b: u16, m: u16, j: u16, rest: usize| {
@@ -331,15 +343,22 @@ pub fn limit_files() -> Vec<(&'static str, Vec<u8>)> {
         enabled: (0..4096).map(|i| (i % 5 < 3) as u8).collect(),
         ..Frame::default()
     });
-    assert_eq!(full.len(), FILE_BYTES);
-    let mut longer = full.clone();
+    assert_eq!(full.len(), PAIR_FILE_BYTES);
+    let longest = scope::write(&longest());
+    assert_eq!(longest.len(), FILE_BYTES);
+    let mut longer = longest.clone();
     longer.push(0);
+    let mut longer_pairs = full.clone();
+    longer_pairs.push(0);
     let mut wrong_first = longer.clone();
-    wrong_first[0] = 2;
+    wrong_first[0] = 3;
     vec![
-        ("the longest file", full),
+        ("the longest file of pairs", full),
+        ("a byte more than the longest file of pairs", longer_pairs),
+        ("the longest file", longest),
         ("a byte more than the longest file", longer),
-        ("a byte more, version 2", wrong_first),
+        ("a byte more, version 3", wrong_first),
+        ("as many zeros as the longest file has bytes", vec![0; FILE_BYTES]),
         ("70,000 bytes", vec![1; 70_000]),
         ("4,096 bodies", header(4096, 0, 0, 4096)),
         ("4,097 bodies", header(4097, 0, 0, 4097)),

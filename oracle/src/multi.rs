@@ -1,7 +1,8 @@
 //! Joints and constraints of two to four bodies (request 11): their calls, the documents as a side, and what is asked. The Rust knows none
 //! of them, so the documents stand beside the proved code, and both beside the figures of the request's page.
-use crate::agree::Agree;
+use crate::agree::{Agree, shorten};
 use crate::calls::*;
+use crate::compare::bytes;
 use crate::frames::{self, Random};
 use crate::scope::{self, Scope};
 
@@ -24,7 +25,9 @@ impl Lent for MultiTables {
 
 /// The lengths that question 6 asks for, of so many bodies, constraints and endpoints.
 pub fn multi_lengths(b: usize, c: usize, e: usize) -> Vec<usize> {
-    vec![b, e, b + 1, e, b.max(c), c, c, b, c + 1, c, c + 1, e, e, c]
+    let mut all = lengths_with(b, c, e);
+    all.push(c);
+    all
 }
 
 /// The input of an update: flags, endpoints, counts.
@@ -579,6 +582,132 @@ fn island_samples<L: MultiCalls, R: MultiCalls>(agree: &mut Agree<L, R>) {
         for (answer, _) in agree.islands_of(&frame) {
             agree.check(answer.0 == number, || format!("sample islands of {frame:?}: {answer:?}"));
         }
+    }
+}
+
+// ---- files
+
+/// Sample 7: a file, and each of its edits with the number that refuses it. The length field is mended unless an edit is of it.
+const FILE: &str = "02 0000001B 0003 0001 0002 02 02 02 0000 0001 01 03 0000 0001 0002 01 02 0001 0002";
+const FILE_PRINT: &str = "islands 1 turns 3 takes 7 degree 3\n0 0 0 0 1\n0 1 1 0 1 2\n0 2 2 1 2\n";
+const TYPES_AT: usize = 11;
+const FIRST_AT: usize = 18;
+const SECOND_AT: usize = 26;
+
+fn edited(change: impl Fn(&mut Vec<u8>)) -> Vec<u8> {
+    let mut file = bytes(FILE);
+    change(&mut file);
+    let rest = (file.len() - 5) as u32;
+    file[1..5].copy_from_slice(&rest.to_be_bytes());
+    file
+}
+
+fn edits() -> Vec<(Vec<u8>, u8)> {
+    let set = |at: usize, byte: u8, more: bool| {
+        edited(|file| {
+            file[at] = byte;
+            if more {
+                file.push(0);
+            }
+        })
+    };
+    let mut longer_field = bytes(FILE);
+    longer_field[4] += 1;
+    vec![
+        (edited(|file| file.push(0)), 4),
+        (edited(|file| file.truncate(file.len() - 1)), 4),
+        (set(FIRST_AT + 1, 5, false), 5),
+        (set(SECOND_AT + 1, 1, true), 5),
+        (
+            edited(|file| {
+                file[SECOND_AT + 1] = 1;
+                file.truncate(SECOND_AT + 2);
+            }),
+            5,
+        ),
+        (edited(|file| file.truncate(SECOND_AT + 1)), 4),
+        (edited(|file| file.truncate(FIRST_AT + 3)), 4),
+        (set(FIRST_AT, 2, true), 4),
+        (set(FIRST_AT, 2, false), 5),
+        (set(TYPES_AT, 4, true), 4),
+        (set(TYPES_AT, 4, false), 5),
+        (set(TYPES_AT + 2, 3, false), 0),
+        (set(FIRST_AT + 1, 4, false), 5),
+        (set(FIRST_AT + 1, 2, false), 4),
+        (longer_field, 2),
+        (set(0, 3, false), 1),
+        (set(0, 1, false), 4),
+        (
+            edited(|file| {
+                file[9..11].copy_from_slice(&4098u16.to_be_bytes());
+                file[FIRST_AT + 1] = 9;
+            }),
+            3,
+        ),
+        (edited(|file| file[7..9].copy_from_slice(&99u16.to_be_bytes())), 4),
+    ]
+}
+
+/// Inputs for the gate's programs: the samples' files, the edits, and some random frames.
+pub fn files() -> Vec<Vec<u8>> {
+    let mut random = Random(2026);
+    let mut all: Vec<Vec<u8>> = samples().iter().map(|(frame, _)| scope::write(frame)).collect();
+    all.push(scope::write(&of_joints(&[2, 2, 2], &[], &[(&[0, 1, 0], 1)])));
+    all.push(bytes(FILE));
+    all.extend(edits().into_iter().map(|(file, _)| file));
+    all.extend((0..4).map(|_| scope::write(&random_frame(&mut random, 30, 40))));
+    all
+}
+
+/// Version 2 files through the run and the programs: the samples with their prints, then little, random, damaged and the longest ones.
+pub fn runs<L: MultiCalls, R: MultiCalls>(agree: &mut Agree<L, R>, more: usize) {
+    for (frame, print) in samples() {
+        agree.printed(&scope::write(&frame), print.as_bytes());
+        agree.run_short(&scope::write(&frame));
+    }
+    agree.printed(&bytes(FILE), FILE_PRINT.as_bytes());
+    for (file, number) in edits() {
+        let refusal = agree.file(&file).refusal;
+        agree.check(refusal == number, || format!("sample file {}: {refusal}, not {number}", shorten(&file)));
+        agree.print(&file);
+    }
+    let refused = of_joints(&[2, 2, 2], &[], &[(&[0, 1, 0], 1)]);
+    agree.printed(&scope::write(&refused), b"refused 7\n");
+    let longest = scope::write(&frames::longest());
+    let report = agree.file(&longest);
+    let known = Report { refusal: 0, islands: 1024, turns: 8192, takes: 24576, degree: 6 };
+    agree.check(report == known, || format!("the longest file: {report:?}"));
+    for (_, file) in frames::limit_files() {
+        agree.file(&file);
+        agree.print(&file);
+    }
+    let mut count = 0;
+    every_little(|frame| {
+        agree.file(&scope::write(&frame));
+        count += 1;
+        if count % 97 == 0 {
+            agree.print(&scope::write(&frame));
+        }
+    });
+    for i in 0..10_000 * more {
+        let file = scope::write(&random_frame(&mut agree.random, 4096, 4096));
+        agree.file(&file);
+        if i % 15 == 0 {
+            agree.print(&file);
+        }
+    }
+    for _ in 0..60 * more {
+        let file = scope::write(&random_frame(&mut agree.random, 9, 6));
+        agree.run_short(&file);
+        let mut random = Random(agree.random.next());
+        let mut count = 0;
+        frames::damaged(&mut random, &file, 100, |file| {
+            agree.file(file);
+            count += 1;
+            if count % 15 == 0 {
+                agree.print(file);
+            }
+        });
     }
 }
 

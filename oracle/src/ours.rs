@@ -189,7 +189,7 @@ unsafe extern "C" {
     fn engkarupi_take(bodies: *const u16, marks: *mut u8, count: usize, a: usize, b: usize, handed: *mut u16) -> u8;
 
     /// The wrapper of the header over engkarupi_run (wrapper.c).
-    fn oracle_run_on(frame: *const u8, frame_len: usize, tables: *const [LentTable; 25], report: *mut usize) -> u8;
+    fn oracle_run_on(frame: *const u8, frame_len: usize, tables: *const [LentTable; 28], report: *mut usize) -> u8;
 
     fn engkarupi_generate(
         seed: u32,
@@ -414,10 +414,13 @@ pub fn run(file: &[u8], tables: &mut RunTables) -> Report {
         LentTable::of(&mut w.flags),
         LentTable::of(&mut w.frame_pairs),
         LentTable::of(&mut w.island_pairs),
+        LentTable::of(&mut w.counts),
+        LentTable::of(&mut w.island_counts),
         LentTable::of(&mut w.enabled),
         LentTable::of(&mut w.numbers),
         LentTable::of(&mut p.flags),
         LentTable::of(&mut p.pairs),
+        LentTable::of(&mut w.plan_counts),
         LentTable::of(&mut p.adjacency_offsets),
         LentTable::of(&mut p.adjacency),
         LentTable::of(&mut p.scratch),

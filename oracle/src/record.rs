@@ -160,7 +160,7 @@ fn frame_question(turns: usize, file: &[u8]) -> Vec<u8> {
 
 /// The Rust's run, with all other tables of the largest frame's lengths.
 fn frame_answer(turns: usize, file: &[u8]) -> (Report, Vec<u8>) {
-    let mut tables: RunTables = lent(&run_lengths(BODIES, MANIFOLDS, JOINTS));
+    let mut tables: RunTables = lent(&run_lengths(BODIES, MANIFOLDS, JOINTS, true));
     tables.turns.truncate(turns);
     let report = Rust.run(file, &mut tables);
     let mut out = vec![report.refusal];

@@ -117,9 +117,43 @@ fn half(bytes: &[u8], at: usize) -> u16 {
     u16::from_be_bytes([bytes[at], bytes[at + 1]])
 }
 
+/// The joints of a version 2 file, read in order from a place on: a wrong count is refused 5 when it is met, an entry cut off and what is left over 4.
+fn read_entries(bytes: &[u8], mut at: usize, joints: usize, frame: &mut Frame) -> Result<(), u8> {
+    let mut counts = Vec::new();
+    for _ in 0..joints {
+        let entry = bytes.get(at..).unwrap_or_default();
+        let [enabled, count, ref ends @ ..] = *entry else { return Err(4) };
+        if !counts_known(&[count]) {
+            return Err(5);
+        }
+        let size = 2 * count as usize;
+        if ends.len() < size {
+            return Err(4);
+        }
+        frame.joints.extend(ends[..size].chunks(2).map(|end| half(end, 0)));
+        frame.enabled.push(enabled);
+        counts.push(count);
+        at += 2 + size;
+    }
+    frame.counts = Some(counts);
+    if at == bytes.len() { Ok(()) } else { Err(4) }
+}
+
+/// The joints of a version 1 file.
+fn read_pairs(bytes: &[u8], at: usize, joints: usize, frame: &mut Frame) -> Result<(), u8> {
+    if bytes.len() != at + 5 * joints {
+        return Err(4);
+    }
+    for joint in bytes[at..].chunks(5) {
+        frame.joints.extend([half(joint, 0), half(joint, 2)]);
+        frame.enabled.push(joint[4]);
+    }
+    Ok(())
+}
+
 /// Questions 1 to 5 of a file, and the frame it holds.
 pub fn read(bytes: &[u8]) -> Result<Frame, u8> {
-    if bytes.is_empty() || bytes[0] != 1 {
+    if bytes.is_empty() || ![1, 2].contains(&bytes[0]) {
         return Err(1);
     }
     if bytes.len() < 11 {
@@ -133,18 +167,12 @@ pub fn read(bytes: &[u8]) -> Result<Frame, u8> {
     if b > BODIES || m > MANIFOLDS || j > JOINTS {
         return Err(3);
     }
-    if length != 6 + b + 4 * m + 5 * j {
-        return Err(4);
-    }
-    let (types, rest) = bytes[11..].split_at(b);
-    let (manifolds, joints) = rest.split_at(4 * m);
-    let mut frame = Frame { types: types.to_vec(), ..Frame::default() };
-    for pair in manifolds.chunks(4) {
+    let mut frame = Frame::default();
+    let at = 11 + b + 4 * m;
+    if bytes[0] == 1 { read_pairs(bytes, at, j, &mut frame) } else { read_entries(bytes, at, j, &mut frame) }?;
+    frame.types = bytes[11..11 + b].to_vec();
+    for pair in bytes[11 + b..at].chunks(4) {
         frame.manifolds.extend([half(pair, 0), half(pair, 2)]);
-    }
-    for joint in joints.chunks(5) {
-        frame.joints.extend([half(joint, 0), half(joint, 2)]);
-        frame.enabled.push(joint[4]);
     }
     if !types_known(&frame.types) || !bits(&frame.enabled) {
         return Err(5);
@@ -152,21 +180,26 @@ pub fn read(bytes: &[u8]) -> Result<Frame, u8> {
     Ok(frame)
 }
 
-/// The file of a frame whose lists agree.
+/// The file of a frame whose lists agree: version 2 if its joints have counts.
 pub fn write(frame: &Frame) -> Vec<u8> {
     let (b, m, j) = (frame.types.len(), frame.manifold_count(), frame.joint_count());
-    let mut bytes = vec![1];
-    bytes.extend(((6 + b + 4 * m + 5 * j) as u32).to_be_bytes());
+    let counted = frame.counts.is_some();
+    let mut rest = frame.types.clone();
+    for (n, ends) in frame.ends().iter().enumerate() {
+        if n >= m && counted {
+            rest.extend([frame.enabled[n - m], ends.len() as u8]);
+        }
+        rest.extend(ends.iter().flat_map(|end| end.to_be_bytes()));
+        if n >= m && !counted {
+            rest.push(frame.enabled[n - m]);
+        }
+    }
+    let mut bytes = vec![1 + counted as u8];
+    bytes.extend(((6 + rest.len()) as u32).to_be_bytes());
     for n in [b, m, j] {
         bytes.extend((n as u16).to_be_bytes());
     }
-    bytes.extend(&frame.types);
-    for (n, ends) in frame.ends().iter().enumerate() {
-        bytes.extend(ends.iter().flat_map(|end| end.to_be_bytes()));
-        if n >= m {
-            bytes.push(frame.enabled[n - m]);
-        }
-    }
+    bytes.extend(rest);
     bytes
 }
 
@@ -436,8 +469,7 @@ pub fn take(binding: &mut Binding, positions: [usize; 2]) -> Take {
 /// The refusal of a run's questions, or the frame; 7 with the frame, since it changes tables.
 pub fn run_questions(file: &[u8], tables: &mut RunTables) -> Result<Frame, (u8, Option<Frame>)> {
     let frame = read(file).map_err(|number| (number, None))?;
-    let (b, m, j) = (frame.types.len(), frame.manifold_count(), frame.joint_count());
-    if !roomy(tables, &run_lengths(b, m, j)) {
+    if !roomy(tables, &run_lengths_of(&frame)) {
         return Err((6, None));
     }
     if !endpoints_right(&frame) {
@@ -491,8 +523,7 @@ pub fn print_by(side: &impl Calls, file: &[u8]) -> Vec<u8> {
     }
     let mut tables = RunTables::default();
     if let Ok(frame) = read(file) {
-        let lengths = run_lengths(frame.types.len(), frame.manifold_count(), frame.joint_count());
-        for (mut table, n) in tables.tables().into_iter().zip(lengths) {
+        for (mut table, n) in tables.tables().into_iter().zip(run_lengths_of(&frame)) {
             table.fill(n, 0);
         }
     }
@@ -547,7 +578,7 @@ fn lift_asked(text: &[u8]) -> Option<(u32, [usize; 3])> {
 /// The lift that a line asks for, or its refusal; the program has room for the longest frame.
 pub fn lift_line(text: &[u8]) -> Option<Vec<u8>> {
     let (seed, sizes) = lift_asked(text)?;
-    let mut bytes = vec![0; FILE_BYTES];
+    let mut bytes = vec![0; PAIR_FILE_BYTES];
     match generate(seed, sizes, &mut bytes) {
         (0, length) => Some(bytes[..length].to_vec()),
         (number, _) => Some(print_refusal(number)),

@@ -191,7 +191,7 @@ fn run(turns: usize, files: &[Vec<u8>]) -> f64 {
     let [b, m, j] = SIZES;
     let mut layout = RustIslands::default();
     let mut turn_table = vec![0; 3 * (m + j)];
-    let mut tables: RunTables = lent(&run_lengths(b, m, j));
+    let mut tables: RunTables = lent(&run_lengths(b, m, j, false));
     let ours = |i: usize| our_run(&files[i], &mut tables);
     let measured = measure(turns, ours, |i| layout.run(&files[i], &mut turn_table));
     told("run", medians(&measured.least))
@@ -205,7 +205,7 @@ fn shapes(turns: usize) {
         let (m, j) = (frame.manifold_count(), frame.joint_count());
         let file = scope::write(&frame);
         let mut turn_table = vec![0; 3 * (m + j)];
-        let mut tables: RunTables = lent(&run_lengths(frame.types.len(), m, j));
+        let mut tables: RunTables = lent(&run_lengths(frame.types.len(), m, j, false));
         let ours = || our_run(&file, &mut tables);
         let times = least(name, turns, ours, || layout.run(&file, &mut turn_table));
         told(&format!("run of {name}"), times);
@@ -214,12 +214,12 @@ fn shapes(turns: usize) {
 
 /// Our generator at the longest frame: the least and the median of the seeds' least times.
 fn generate(turns: usize) {
-    let mut bytes = vec![0; FILE_BYTES];
+    let mut bytes = vec![0; PAIR_FILE_BYTES];
     let mut least = vec![f64::MAX; SEEDS as usize];
     for _ in 0..turns {
         for (seed, least) in (0..SEEDS).zip(&mut least) {
             let (time, answer) = microseconds(|| ours::generate(seed, [4096; 3], black_box(&mut bytes)));
-            assert_eq!(answer, (0, FILE_BYTES));
+            assert_eq!(answer, (0, PAIR_FILE_BYTES));
             *least = least.min(time);
         }
     }

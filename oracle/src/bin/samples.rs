@@ -1,4 +1,5 @@
-//! Writes stored inputs of the program `turns`, and what it must print for them by the Rust and document 01. The argument is the repository.
+//! Writes stored inputs of the program `turns`, and what it must print for them by the Rust and document 01,
+//! and where a joint has a count by document 02. The argument is the repository.
 //! `turns`, and `turns_too_long`, which is the same program, have one each; `turns_samples` has many: their number in one byte, then each after
 //! its length in three, the high one first. Writes also a line for `generate_frame`, with its print, and what `generator_samples` must print,
 //! both by request 3.
@@ -6,8 +7,9 @@ use oracle::calls::{Calls, Frame};
 use oracle::compare;
 use oracle::frames;
 use oracle::kapitsa::Rust;
+use oracle::multi;
 use oracle::record;
-use oracle::scope;
+use oracle::scope::{self, Scope};
 use std::path::Path;
 
 /// A frame's file with one byte changed.
@@ -35,6 +37,7 @@ fn inputs(root: &Path) -> Vec<Vec<u8>> {
     let limits = frames::limit_files().into_iter().map(|(_, file)| file);
     let mut inputs = vec![
         vec![],
+        changed(&small, 0, 3),
         changed(&small, 0, 2),
         sound[..10].to_vec(),
         changed(&small, 4, 0),
@@ -52,8 +55,14 @@ fn inputs(root: &Path) -> Vec<Vec<u8>> {
         scope::write(&frames::lift(seed, b, m, j))
     }));
     inputs.extend(compare::logged_frames().iter().map(scope::write));
-    inputs.extend(["lift.frame", "document.frame", "logged.frame"].map(|name| sample(root, name)));
+    inputs.extend(multi::files());
+    inputs.extend(["lift.frame", "document.frame", "logged.frame", "multi.frame"].map(|name| sample(root, name)));
     inputs
+}
+
+/// What the program must print: by the Rust, or by the documents where a joint has a count.
+fn print(input: &[u8]) -> Vec<u8> {
+    if input.first() == Some(&2) { Scope.print(input) } else { Rust.print(input) }
 }
 
 fn store(root: &Path, program: &str, input: &[u8], print: &[u8]) {
@@ -74,7 +83,7 @@ fn main() {
         ("turns_too_long", limit_file("a byte more than the longest file")),
     ];
     for (program, input) in programs {
-        store(root, program, &input, &Rust.print(&input));
+        store(root, program, &input, &print(&input));
     }
     let inputs = inputs(root);
     let mut list = vec![u8::try_from(inputs.len()).unwrap()];
@@ -82,7 +91,7 @@ fn main() {
         list.extend(&(input.len() as u32).to_be_bytes()[1..]);
         list.extend(input);
     }
-    let print: Vec<u8> = inputs.iter().flat_map(|input| Rust.print(input)).collect();
+    let print: Vec<u8> = inputs.iter().flat_map(|input| print(input)).collect();
     store(root, "turns_samples", &list, &print);
     let line = b"1 6 5 3\n";
     store(root, "generate_frame", line, &Rust.lift_line(line).unwrap());
