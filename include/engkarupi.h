@@ -22,7 +22,7 @@
  * one, since it connects nothing. Two lanes in two islands at once could then both write it. See engkarupi_run.
  *
  * A call that can be refused answers 0 or the number of the first question that got a "no":
- *    1  the file's first byte is not 1
+ *    1  the file's first byte is not 1 or 2
  *    2  fewer than 11 bytes, or the length field is not the number of bytes after it
  *    3  more than 4,096 bodies, manifolds or joints (a coloring: 4,096 bodies, 8,192 constraints)
  *    4  lengths that do not agree: an odd pair list, not one enabled byte a joint, counts that do not make the endpoints, a
@@ -53,7 +53,8 @@ extern "C" {
 #define ENGKARUPI_MAX_MANIFOLDS 4096
 #define ENGKARUPI_MAX_JOINTS 4096
 #define ENGKARUPI_MAX_PAIRS 8192
-#define ENGKARUPI_MAX_FILE 40971    /* bytes of the longest frame */
+#define ENGKARUPI_MAX_ENDS 24576    /* endpoints of a frame: two a manifold, four a joint */
+#define ENGKARUPI_MAX_FILE 61451    /* bytes of the longest frame */
 
 /* ---- islands: which bodies are connected by live constraints between dynamic bodies
  *
@@ -239,9 +240,12 @@ uint8_t engkarupi_take_multi(
 
 /* ---- the run: from the bytes of a file to the turns of its constraints
  *
- * The file, big-endian: byte 1; 32-bit length of the rest; B, M, J of 16 bits each; B type bytes; M pairs a, b of 16 bits;
- * J joints a, b and an enabled byte. Manifold i has the number i, joint j the number M + j. In the lengths below, C is
- * M + J.
+ * The file, big-endian: the version; 32-bit length of the rest; B, M, J of 16 bits each; B type bytes; M pairs a, b of 16
+ * bits; J joints. On version 1 a joint is a, b and an enabled byte; on version 2 it is an enabled byte, a count byte of 2 to
+ * 4 and as many endpoints of 16 bits. The joints of version 2 are read in order: a wrong count is refused 5 when it is met,
+ * an entry that is cut off, or bytes behind the last, 4; only then are types and enabled bytes asked. Manifold i has the
+ * number i, joint j the number M + j. In the lengths below, C is M + J, and E is 2 * C on version 1, 2 * M + 4 * J on
+ * version 2, whatever the counts are.
  */
 enum {
     ENGKARUPI_REPORT_ISLANDS,
@@ -251,7 +255,9 @@ enum {
     ENGKARUPI_REPORT_NUMBERS
 };
 
-/* What a run is lent besides the frame: each table with its length. */
+/* What a run is lent besides the frame: each table with its length. For frames of version 1 alone the three tables of
+ * counts may have length 0.
+ */
 struct engkarupi_run_tables {
     uint16_t *parents; size_t parents_len;                      /* B */
     uint16_t *sizes; size_t sizes_len;                          /* B */
@@ -261,14 +267,17 @@ struct engkarupi_run_tables {
     uint16_t *turns; size_t turns_len;                          /* 3 * C */
     uint8_t *types; size_t types_len;                           /* B, free */
     uint8_t *flags; size_t flags_len;                           /* B, free */
-    uint16_t *pairs; size_t pairs_len;                          /* 2 * C, free */
-    uint16_t *island_pairs; size_t island_pairs_len;            /* 2 * C, free */
+    uint16_t *pairs; size_t pairs_len;                          /* E, free */
+    uint16_t *island_pairs; size_t island_pairs_len;            /* E, free */
+    uint8_t *counts; size_t counts_len;                         /* C on version 2, free; version 1 keeps it */
+    uint8_t *island_counts; size_t island_counts_len;           /* the same */
     uint8_t *enabled; size_t enabled_len;                       /* J, free */
     uint16_t *numbers; size_t numbers_len;                      /* C, free */
     uint8_t *dynamic_bodies; size_t dynamic_bodies_len;         /* B, free */
-    uint16_t *endpoints; size_t endpoints_len;                  /* 2 * C, free */
+    uint16_t *endpoints; size_t endpoints_len;                  /* E, free */
+    uint8_t *plan_counts; size_t plan_counts_len;               /* as counts */
     uint16_t *body_offsets; size_t body_offsets_len;            /* B + 1, free */
-    uint16_t *body_constraints; size_t body_constraints_len;    /* 2 * C, free */
+    uint16_t *body_constraints; size_t body_constraints_len;    /* E, free */
     uint16_t *scratch_offsets; size_t scratch_offsets_len;      /* the larger of B and C, free */
     uint16_t *constraint_colors; size_t constraint_colors_len;  /* C, free */
     uint16_t *color_stamps; size_t color_stamps_len;            /* C, free */
@@ -276,8 +285,8 @@ struct engkarupi_run_tables {
     uint16_t *color_offsets; size_t color_offsets_len;          /* C + 1, free */
     uint16_t *colored_constraints; size_t colored_constraints_len;              /* C, free */
     uint16_t *color_body_offsets; size_t color_body_offsets_len;                /* C + 1, free */
-    uint16_t *color_bodies; size_t color_bodies_len;                            /* 2 * C, free */
-    uint16_t *constraint_body_positions; size_t constraint_body_positions_len;  /* 2 * C, free */
+    uint16_t *color_bodies; size_t color_bodies_len;                            /* E, free */
+    uint16_t *constraint_body_positions; size_t constraint_body_positions_len;  /* E, free */
 };
 
 /* Each island in number order is colored on a fresh plan, each of its groups bound, and the group's members taken, rising.
@@ -307,10 +316,13 @@ uint8_t engkarupi_run(
     uint8_t *flags, size_t flags_len,
     uint16_t *pairs, size_t pairs_len,
     uint16_t *island_pairs, size_t island_pairs_len,
+    uint8_t *counts, size_t counts_len,
+    uint8_t *island_counts, size_t island_counts_len,
     uint8_t *enabled, size_t enabled_len,
     uint16_t *numbers, size_t numbers_len,
     uint8_t *dynamic_bodies, size_t dynamic_bodies_len,
     uint16_t *endpoints, size_t endpoints_len,
+    uint8_t *plan_counts, size_t plan_counts_len,
     uint16_t *body_offsets, size_t body_offsets_len,
     uint16_t *body_constraints, size_t body_constraints_len,
     uint16_t *scratch_offsets, size_t scratch_offsets_len,
@@ -342,10 +354,13 @@ static inline uint8_t engkarupi_run_on(
         t->flags, t->flags_len,
         t->pairs, t->pairs_len,
         t->island_pairs, t->island_pairs_len,
+        t->counts, t->counts_len,
+        t->island_counts, t->island_counts_len,
         t->enabled, t->enabled_len,
         t->numbers, t->numbers_len,
         t->dynamic_bodies, t->dynamic_bodies_len,
         t->endpoints, t->endpoints_len,
+        t->plan_counts, t->plan_counts_len,
         t->body_offsets, t->body_offsets_len,
         t->body_constraints, t->body_constraints_len,
         t->scratch_offsets, t->scratch_offsets_len,
@@ -360,7 +375,7 @@ static inline uint8_t engkarupi_run_on(
         report);
 }
 
-/* Memory for the tables of any frame that question 3 lets pass: 434,182 bytes, to be static and not on a stack. What stands
+/* Memory for the tables of any frame that question 3 lets pass: 557,062 bytes, to be static and not on a stack. What stands
  * in it before a run does not matter.
  */
 struct engkarupi_run_memory {
@@ -372,14 +387,17 @@ struct engkarupi_run_memory {
     uint16_t turns[3 * ENGKARUPI_MAX_PAIRS];
     uint8_t types[ENGKARUPI_MAX_BODIES];
     uint8_t flags[ENGKARUPI_MAX_BODIES];
-    uint16_t pairs[2 * ENGKARUPI_MAX_PAIRS];
-    uint16_t island_pairs[2 * ENGKARUPI_MAX_PAIRS];
+    uint16_t pairs[ENGKARUPI_MAX_ENDS];
+    uint16_t island_pairs[ENGKARUPI_MAX_ENDS];
+    uint8_t counts[ENGKARUPI_MAX_PAIRS];
+    uint8_t island_counts[ENGKARUPI_MAX_PAIRS];
     uint8_t enabled[ENGKARUPI_MAX_JOINTS];
     uint16_t numbers[ENGKARUPI_MAX_PAIRS];
     uint8_t dynamic_bodies[ENGKARUPI_MAX_BODIES];
-    uint16_t endpoints[2 * ENGKARUPI_MAX_PAIRS];
+    uint16_t endpoints[ENGKARUPI_MAX_ENDS];
+    uint8_t plan_counts[ENGKARUPI_MAX_PAIRS];
     uint16_t body_offsets[ENGKARUPI_MAX_BODIES + 1];
-    uint16_t body_constraints[2 * ENGKARUPI_MAX_PAIRS];
+    uint16_t body_constraints[ENGKARUPI_MAX_ENDS];
     uint16_t scratch_offsets[ENGKARUPI_MAX_PAIRS];
     uint16_t constraint_colors[ENGKARUPI_MAX_PAIRS];
     uint16_t color_stamps[ENGKARUPI_MAX_PAIRS];
@@ -387,8 +405,8 @@ struct engkarupi_run_memory {
     uint16_t color_offsets[ENGKARUPI_MAX_PAIRS + 1];
     uint16_t colored_constraints[ENGKARUPI_MAX_PAIRS];
     uint16_t color_body_offsets[ENGKARUPI_MAX_PAIRS + 1];
-    uint16_t color_bodies[2 * ENGKARUPI_MAX_PAIRS];
-    uint16_t constraint_body_positions[2 * ENGKARUPI_MAX_PAIRS];
+    uint16_t color_bodies[ENGKARUPI_MAX_ENDS];
+    uint16_t constraint_body_positions[ENGKARUPI_MAX_ENDS];
 };
 
 /* The tables in that memory. */
@@ -406,10 +424,13 @@ static inline struct engkarupi_run_tables engkarupi_run_tables_in(struct engkaru
     ENGKARUPI_LEND(flags);
     ENGKARUPI_LEND(pairs);
     ENGKARUPI_LEND(island_pairs);
+    ENGKARUPI_LEND(counts);
+    ENGKARUPI_LEND(island_counts);
     ENGKARUPI_LEND(enabled);
     ENGKARUPI_LEND(numbers);
     ENGKARUPI_LEND(dynamic_bodies);
     ENGKARUPI_LEND(endpoints);
+    ENGKARUPI_LEND(plan_counts);
     ENGKARUPI_LEND(body_offsets);
     ENGKARUPI_LEND(body_constraints);
     ENGKARUPI_LEND(scratch_offsets);

@@ -16,11 +16,26 @@ static unsigned number_at(size_t place) {
     return 256u * frame[place] + frame[place + 1];
 }
 
-/* where a constraint's endpoints stand in the frame: a manifold has four bytes, a joint five */
-static size_t ends_of(size_t constraint) {
+/* where a joint of version 2 starts: each before it has two bytes and its endpoints */
+static size_t entry_of(size_t joint) {
+    size_t place = 11 + number_at(5) + 4 * (size_t)number_at(7);
+    while (joint-- > 0) {
+        place += 2 + 2 * (size_t)frame[place + 1];
+    }
+    return place;
+}
+
+/* a constraint's endpoints: where they stand in the frame, and how many; a manifold has four bytes, a joint of version 1 five */
+static size_t ends_of(size_t constraint, unsigned *count) {
     size_t bodies = number_at(5), manifolds = number_at(7);
-    size_t joints_before = constraint > manifolds ? constraint - manifolds : 0;
-    return 11 + bodies + 4 * constraint + joints_before;
+    *count = 2;
+    if (constraint < manifolds || frame[0] == 1) {
+        size_t joints_before = constraint > manifolds ? constraint - manifolds : 0;
+        return 11 + bodies + 4 * constraint + joints_before;
+    }
+    size_t entry = entry_of(constraint - manifolds);
+    *count = frame[entry + 1];
+    return entry + 2;
 }
 
 int main(void) {
@@ -36,8 +51,13 @@ int main(void) {
     printf("islands %zu turns %zu takes %zu degree %zu\n", report[ENGKARUPI_REPORT_ISLANDS],
            report[ENGKARUPI_REPORT_TURNS], report[ENGKARUPI_REPORT_TAKES], report[ENGKARUPI_REPORT_DEGREE]);
     for (const uint16_t *turn = memory.turns; turn < memory.turns + 3 * report[ENGKARUPI_REPORT_TURNS]; turn += 3) {
-        size_t ends = ends_of(turn[2]);
-        printf("%u %u %u %u %u\n", turn[0], turn[1], turn[2], number_at(ends), number_at(ends + 2));
+        unsigned count;
+        size_t ends = ends_of(turn[2], &count);
+        printf("%u %u %u", turn[0], turn[1], turn[2]);
+        for (; count > 0; count--, ends += 2) {
+            printf(" %u", number_at(ends));
+        }
+        printf("\n");
     }
     return 0;
 }
