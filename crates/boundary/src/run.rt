@@ -18,10 +18,13 @@ pub extern "C" fn engkarupi_run(
     flags: &mut [u8],
     pairs: &mut [u16],
     island_pairs: &mut [u16],
+    counts: &mut [u8],
+    island_counts: &mut [u8],
     enabled: &mut [u8],
     numbers: &mut [u16],
     dynamic_bodies: &mut [u8],
     endpoints: &mut [u16],
+    plan_counts: &mut [u8],
     body_offsets: &mut [u16],
     body_constraints: &mut [u16],
     scratch_offsets: &mut [u16],
@@ -38,18 +41,18 @@ pub extern "C" fn engkarupi_run(
     ensures { Runs frame.now
         (lent_of (islandTablesOf parents.old sizes.old body_islands.old manifold_islands.old joint_islands.old)
         turns.old types.old flags.old pairs.old
-        island_pairs.old enabled.old numbers.old
+        island_pairs.old counts.old island_counts.old enabled.old numbers.old
         (tables_of dynamic_bodies.old endpoints.old body_offsets.old
         body_constraints.old scratch_offsets.old constraint_colors.old
         color_stamps.old body_stamps.old color_offsets.old
-        colored_constraints.old color_body_offsets.old color_bodies.old constraint_body_positions.old))
+        colored_constraints.old color_body_offsets.old color_bodies.old constraint_body_positions.old) plan_counts.old)
         (lent_of (islandTablesOf parents.new sizes.new body_islands.new manifold_islands.new joint_islands.new)
         turns.new types.new flags.new pairs.new
-        island_pairs.new enabled.new numbers.new
+        island_pairs.new counts.new island_counts.new enabled.new numbers.new
         (tables_of dynamic_bodies.new endpoints.new body_offsets.new
         body_constraints.new scratch_offsets.new constraint_colors.new
         color_stamps.new body_stamps.new color_offsets.new
-        colored_constraints.new color_body_offsets.new color_bodies.new constraint_body_positions.new)) result report.new }
+        colored_constraints.new color_body_offsets.new color_bodies.new constraint_body_positions.new) plan_counts.new) result report.new }
 {
     let answer = frame_run::run(
         frame,
@@ -63,10 +66,13 @@ pub extern "C" fn engkarupi_run(
         flags,
         pairs,
         island_pairs,
+        counts,
+        island_counts,
         enabled,
         numbers,
         dynamic_bodies,
         endpoints,
+        plan_counts,
         body_offsets,
         body_constraints,
         scratch_offsets,
