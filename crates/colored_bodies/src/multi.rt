@@ -158,22 +158,34 @@ fn hand(bodies: &[u16; Frame::MAX_BODIES], positions: &[u16], count: usize) -> [
     handed
 }
 
-// Takes the bodies at two to four positions, the lowest position first, where the caller keeps the binding.
+// Takes the bodies at two to four positions, the lowest position first, from the parts of a binding: what the calls for C are lent.
+pub fn take_from(
+    bodies: &[u16; Frame::MAX_BODIES],
+    marks: &mut [u8; Frame::MAX_BODIES],
+    count: usize,
+    positions: &[u16],
+) -> TakenAt
+    ensures { TakesAt (record { bodies = bodies.now; marks = marks.old; count = count }) positions.now result (record { bodies = bodies.now; marks = marks.new; count = count }) }
+{
+    let marked = take_marks_at(marks, count, positions);
+    let refusal = marked.refusal;
+    let dynamic = marked.dynamic;
+    let handed = bound_count(refusal, positions.len());
+    let numbers = hand(bodies, positions, handed);
+    TakenAt {
+        refusal: refusal,
+        count: handed,
+        bodies: numbers,
+        dynamic: dynamic,
+    }
+}
+
+// The same take where the caller keeps the binding.
 pub fn take_bodies_at(binding: &mut BodyBinding, positions: &[u16]) -> TakenAt
     ensures { TakesAt binding.old positions.now result binding.new }
 {
-    let places = binding.count;
-    let marked = take_marks_at(&mut binding.marks, places, positions);
-    let refusal = marked.refusal;
-    let dynamic = marked.dynamic;
-    let count = bound_count(refusal, positions.len());
-    let bodies = hand(&binding.bodies, positions, count);
-    TakenAt {
-        refusal: refusal,
-        count: count,
-        bodies: bodies,
-        dynamic: dynamic,
-    }
+    let count = binding.count;
+    take_from(&binding.bodies, &mut binding.marks, count, positions)
 }
 
 impl BodyBinding {
