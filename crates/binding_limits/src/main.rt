@@ -1,11 +1,13 @@
-// Bindings at document 01's take sample, at request 6's and at their limits. Each bind prints how many types and bodies it is given, its refusal and
-// the binding's count; each take its two positions, its refusal, and the two bodies if there is none, each with 1 for "dynamic".
-// `take` is the take by value, `take_at` the take over a binding lent by `&mut`.
+// Bindings at document 01's take sample, at those of requests 6 and 11 and at their limits. Each bind prints how many types and bodies it is given, its refusal
+// and the binding's count; each take its two positions, its refusal, and the two bodies if there is none, each with 1 for "dynamic".
+// `take` is the take by value, `take_at` the take over a binding lent by `&mut`. `bodies_at` and `take_bodies_at` are those of several
+// positions, and print first how many these are.
 #![tactic(auto)]
 
 ghost use Rattle.std.specs.Prelude.{◌≡◌, [], ◌∷◌, length};
-ghost use Rattle.colored_bodies.specs.Answers.{Takes};
+ghost use Rattle.colored_bodies.specs.Answers.{Takes, TakesAt};
 
+use colored_bodies::multi::{MultiStep, TakenAt};
 use colored_bodies::{BodyBinding, Step, Take};
 
 fn put(n: u64) {
@@ -75,6 +77,49 @@ fn show_take_at(binding: BodyBinding, a: usize, b: usize) -> BodyBinding {
     show_step(take_kept(binding, a, b), a, b)
 }
 
+// The refusal of a take of several positions, and the bodies that it hands.
+fn show_taken(taken: TakenAt) {
+    let bodies = taken.bodies;
+    let dynamic = taken.dynamic;
+    put(taken.refusal as u64);
+    for i in 0..4 {
+        if i < taken.count {
+            put(bodies[i] as u64);
+            put(dynamic[i] as u64);
+        }
+    }
+}
+
+fn show_several(step: MultiStep, positions: &[u16]) -> BodyBinding {
+    put(positions.len() as u64);
+    for p in positions {
+        put(*p as u64);
+    }
+    show_taken(step.taken);
+    io::write_all(1, b"\n");
+    step.binding
+}
+
+fn show_bodies_at(binding: BodyBinding, positions: &[u16]) -> BodyBinding {
+    io::write_all(1, b"bodies_at");
+    show_several(binding.bodies_at(positions), positions)
+}
+
+fn several_kept(mut binding: BodyBinding, positions: &[u16]) -> MultiStep
+    ensures { TakesAt binding positions.now result.taken result.binding }
+{
+    let taken = colored_bodies::multi::take_bodies_at(&mut binding, positions);
+    MultiStep {
+        binding: binding,
+        taken: taken,
+    }
+}
+
+fn show_take_bodies_at(binding: BodyBinding, positions: &[u16]) -> BodyBinding {
+    io::write_all(1, b"take_bodies_at");
+    show_several(several_kept(binding, positions), positions)
+}
+
 // Places 0, 1, 2 dynamic: (1, 2), then (0, 2) gives 11, then (0, 1) gives 10.
 fn sample() {
     let mut b = show_bind(&[2, 2, 2], &[0, 1, 2]);
@@ -112,6 +157,21 @@ fn logged() {
     show_take(b, 1, 3);
 }
 
+// Request 11's sample: takes of several positions, place 2 read-only and place 3 logged. The length is asked before the positions; (1, 2, 0)
+// gives 10 for place 0 and takes nothing, so that (4, 3, 1) takes place 1 before it gives 11 for place 3; then (1, 4, 2) gives 10 for place 1.
+fn several() {
+    let mut b = show_bind(&[2, 2, 0, 3, 2], &[0, 1, 2, 3, 4]);
+    b = show_bodies_at(b, &[4]);
+    b = show_bodies_at(b, &[0, 1, 2, 3, 4]);
+    b = show_take_bodies_at(b, &[2, 2, 2, 2, 2]);
+    b = show_bodies_at(b, &[3, 2, 0]);
+    b = show_bodies_at(b, &[4, 2, 4]);
+    b = show_take_bodies_at(b, &[1, 5]);
+    b = show_bodies_at(b, &[1, 2, 0]);
+    b = show_take_bodies_at(b, &[4, 3, 1]);
+    show_bodies_at(b, &[1, 4, 2]);
+}
+
 // Questions 3, 5 and 8, and a count of 0 and of 1.
 fn small() {
     let none = show_bind(&[], &[]);
@@ -143,7 +203,9 @@ fn large() {
     let mut b = show_bind(&[2; 4096], &list);
     b = show_take(b, 4095, 0);
     b = show_take(b, 4095, 4096);
-    show_take(b, 1, 4095);
+    b = show_take(b, 1, 4095);
+    b = show_take_bodies_at(b, &[4094, 3, 4093, 2]);
+    show_bodies_at(b, &[4, 5, 6, 4096]);
     show_bind(&[2; 4097], &list);
 }
 
@@ -160,10 +222,14 @@ fn any_value() {
     let mut b = forged(1, 18446744073709551615);
     b = show_take(b, 0, 4096);
     b = show_take(b, 4096, 4095);
-    show_take(b, 4095, 4094);
+    b = show_take(b, 4095, 4094);
+    b = show_bodies_at(b, &[0, 1, 2, 4096]);
+    show_take_bodies_at(b, &[4093, 4092, 4091, 4090]);
     show_take(forged(1, 0), 0, 1);
     show_take(forged(3, 4096), 0, 1);
     show_take(forged(255, 4096), 1, 0);
+    show_bodies_at(forged(0, 4096), &[]);
+    show_take_bodies_at(forged(3, 4096), &[2, 1, 0]);
 }
 
 fn main() {
@@ -171,6 +237,7 @@ fn main() {
     read_only();
     lent();
     logged();
+    several();
     small();
     large();
     any_value();

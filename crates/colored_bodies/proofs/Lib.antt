@@ -3,3 +3,4 @@ pub mod Rises
 pub mod Fills
 pub mod Pairs
 pub mod Takes
+pub mod Positions

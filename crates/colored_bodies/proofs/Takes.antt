@@ -11,9 +11,9 @@ use lib.Seq.{get_or-set_same, get_or-set_other, ext_get_or, get_or-append-add}
 use borrow.Author.Tests.{eqb-true, eqb-false, ltb-true, ltb-false, lt-ltb, not-true}
 use Rattle.lists.specs.Basics.{all, count, one, mem, place, distinct, insert, sorted}
 use Rattle.lists.proofs.Laws.{and_left, and_right, and_both, or_right, clashes, by_cases, not-true-false, bool-ext, mem-self, mem-map, map-mem, map-ext-in, getD-map-lt, place-lt, place-get, get-place, distinct-map, all-intro, all_map, distinct-count, count-distinct, mem-count, count-any, replicate-at}
-use Rattle.frame.specs.Frames.{conflicts}
+use Rattle.frame.specs.Frames.{conflicts, counted}
 use Rattle.colored_bodies.specs.declared.BodyBinding.{BodyBinding}
-use Rattle.colored_bodies.specs.Bindings.{padded, boundOf, placed, free, spend, refusalFrom, marksFrom, takeRefusal, takeMarks, Handed, handedAt, take_of}
+use Rattle.colored_bodies.specs.Bindings.{padded, boundOf, placed, free, spend, refusalFrom, marksFrom, ask_refusal, takeRefusal, takeMarks, Handed, handedAt, take_of}
 
 -- ---- rising order keeps what a list holds
 count-insert : (n x : ℕ) (xs : List ℕ) → count (eqb n) (insert x xs) ≡ one (eqb n x) + count (eqb n) xs
@@ -24,7 +24,7 @@ count-sorted : (n : ℕ) (xs : List ℕ) → count (eqb n) (sorted xs) ≡ count
 count-sorted n [] = refl
 count-sorted n (x ∷ xs) = omega (arith, count-insert n x (sorted xs), count-sorted n xs)
 
-mem-sorted : (n : ℕ) (xs : List ℕ) → mem n (sorted xs) ≡ mem n xs
+pub mem-sorted : (n : ℕ) (xs : List ℕ) → mem n (sorted xs) ≡ mem n xs
 mem-sorted n xs = bool-ext (mem n (sorted xs)) (mem n xs)
     (λ h. count-any (eqb n) xs (omega (arith, mem-count n (sorted xs) h, count-sorted n xs)))
     (λ h. count-any (eqb n) (sorted xs) (omega (arith, mem-count n xs h, count-sorted n xs)))
@@ -109,9 +109,9 @@ padded-out xs j h =
     let e : j ≡ length xs + (j - length xs) = omega arith in
     ap (λ (k : ℕ). get_or (xs ++ replicate (4096 - length xs) 0) k 0) e ∙ get_or-append-add xs (replicate (4096 - length xs) 0) (j - length xs) 0 ∙ replicate-at (4096 - length xs) (j - length xs) 0
 
--- ---- one take, of the bodies es that are listed and not gone
+-- ---- one take, of the bodies es, two to four, that are listed and not gone
 module _ (types : List ℕ) (gone : ℕ → Bool) (bs es : List ℕ) (within : (b : ℕ) → mem b es ≡ true → mem b bs ≡ true) (apart : distinct bs ≡ true) (eapart : distinct es ≡ true) (few : length bs ≤ 4096)
-    (fresh : (b : ℕ) → mem b es ≡ true → typed types b ≡ true → gone b ≡ false) where
+    (fresh : (b : ℕ) → mem b es ≡ true → typed types b ≡ true → gone b ≡ false) (sized : counted (length es) ≡ true) where
   abbrev ps : List ℕ
   ps = map (λ b. place b bs) es
 
@@ -146,9 +146,13 @@ module _ (types : List ℕ) (gone : ℕ → Bool) (bs es : List ℕ) (within : (
   abbrev now : BodyBinding
   now = record { bodies = padded bs; marks = ms; count = length bs }
 
+  -- questions 5 and 9 pass
+  asks_none : ask_refusal (length bs) ps ≡ 0
+  asks_none = rw (length-map es (λ b. place b bs), sized, ps-placed)
+
   refuses-none : takeRefusal now ps ≡ 0
   unfolding takeRefusal
-  refuses-none = rw ps-placed (no-refusal 10 ms (sorted ps) (distinct-sorted ps ps-apart) all-free)
+  refuses-none = rw asks_none (no-refusal 10 ms (sorted ps) (distinct-sorted ps ps-apart) all-free)
 
   hands : map (handedAt now) ps ≡ map (dueOf types) es
   hands = map-map (handedAt now) (λ b. place b bs) es ∙ map-ext-in (λ b. handedAt now (place b bs)) (dueOf types) es
@@ -171,7 +175,7 @@ module _ (types : List ℕ) (gone : ℕ → Bool) (bs es : List ℕ) (within : (
 
   leaves : takeMarks now ps ≡ padded (map (markIf types gone') bs)
   unfolding takeMarks
-  leaves = rw ps-placed (ext_get_or 0 (marksFrom ms (sorted ps)) (padded (map (markIf types gone') bs))
+  leaves = rw asks_none (ext_get_or 0 (marksFrom ms (sorted ps)) (padded (map (markIf types gone') bs))
       (length-marks ms (sorted ps) ∙ length-padded (map (markIf types gone) bs) (omega (arith, length-map bs (markIf types gone))) ∙ sym (length-padded (map (markIf types gone') bs) (omega (arith, length-map bs (markIf types gone')))))
       (λ j l. marks-at ms (sorted ps) j (distinct-sorted ps ps-apart) all-free ∙ each j))
     where

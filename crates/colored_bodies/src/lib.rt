@@ -3,6 +3,7 @@
 // `bind` lists a group's bodies and marks held those that make conflicts, the dynamic and the logged ones. A take hands two bodies over,
 // in the order asked, and marks the held ones taken, so that none of these is handed over twice. `bind` refuses too many bodies (3),
 // unknown types (5) and a list that does not rise inside them (8); a take refuses bad positions (9) and bodies that are gone (10, 11).
+// Takes of two to four bodies are in the module `multi`.
 #![tactic(auto)]
 
 ghost use Rattle.std.specs.Prelude.{◌≡◌, ◌&&◌, cond, List, [], ◌∷◌, map, ℕ, ◌<◌, leb, eqb, take, replicate};
@@ -11,6 +12,8 @@ ghost use Rattle.colored_bodies.specs.Bindings.{lastBelow, bindRefusal, Known, m
 ghost use Rattle.colored_bodies.specs.Answers.{withBodies, Placed, Fillable, Binds, Takes, Marks};
 
 use frame::Frame;
+
+pub mod multi;
 
 // For each place a body number and a mark: 0 read-only, 1 held, and any other number taken.
 #[derive(Drop)]

@@ -1,0 +1,13 @@
+-- The table is the bodies at the positions read so far, padded to four.
+use Prim.Native.Nat.{◌≤◌, ◌-◌}
+use mathlib.Core.Path.{◌≡◌}
+use mathlib.Core.List.{map}
+use lib.ListN.{get_or, take}
+use Rattle.lists.specs.Basics.{four}
+use Rattle.colored_bodies.proofs.multi.hand.Given as goal
+
+abbrev pub invariant-loop-i : goal.invariant-loop-i
+invariant-loop-i l = (l.i ≤ l.count) × (l.handed ≡ four (map (λ p. get_or l.bodies p 0) (take l.i l.positions)))
+
+abbrev pub decreases-loop-i : goal.decreases-loop-i
+decreases-loop-i l = l.count - l.i
