@@ -1,4 +1,4 @@
--- What the two private steps of an update need and leave: the bodies and positions of all groups, and the whole plan built.
+-- What two inner steps of an update need and leave: the bodies and positions of all groups, and the whole plan built.
 use Rattle.std.specs.Prelude.{ℕ, ◌+◌, ◌≤◌, ◌≡◌, true, List, length}
 use Rattle.lists.specs.Basics.{all}
 use Rattle.frame.specs.Frames.{fits}

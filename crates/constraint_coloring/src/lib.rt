@@ -1,15 +1,15 @@
 // Conflict-free groups of constraints (constraint_coloring.rs): the plan that an update builds, and the lookups in it.
 #![tactic(auto)]
 
-ghost use Rattle.std.specs.Prelude.{◌≡◌, ◌≤◌, length};
+ghost use Rattle.std.specs.Prelude.{◌≡◌, ◌≤◌, [], length};
 ghost use Rattle.lists.specs.Basics.{one, over};
-ghost use Rattle.groups.specs.Groups.{groupCount};
+ghost use Rattle.groups.specs.Groups.{groupCount, planFrom};
 ghost use Rattle.parts.specs.Parts.{parts_at, Bounded};
 ghost use Rattle.parts.specs.Steps.{Gapless};
 ghost use Rattle.gathering.specs.Gathers.{Gatherable};
 ghost use Rattle.plan_questions.specs.Plans.{tables_of, groupPart};
-ghost use Rattle.constraint_coloring.specs.Calls.{updateNumber, updateChanged, planAfter, freshPlan, refusalWith, Updated, Located};
-ghost use Rattle.constraint_coloring.specs.Stages.{Scheduled, Rebuilt};
+ghost use Rattle.constraint_coloring.specs.Calls.{updateNumber, updateChanged, planAfter, freshPlan, Updated, Located};
+ghost use Rattle.constraint_coloring.specs.Stages.{Scheduled, Buildable, Rebuilt};
 
 use frame::Frame;
 
@@ -127,19 +127,19 @@ fn list_groups(
     );
 }
 
-// Remembers the input and builds its plan; each table is cut to the places that a stage may write. The walks need no adjacency, so
-// `body_offsets`, `body_constraints` and `color_stamps` stay as they are. `scratch_offsets` is the list of the uncolored, then serves the
-// sort, then is the table of places; `body_stamps` tells who is busy, is left 0 by the walks, and then takes the groups' stamps.
-fn rebuild(
+// Remembers the input and builds its plan; each table is cut to the places that a stage may write. Constraints are pairs where there are no
+// bounds. The walks need no adjacency, so the tables `body_offsets`, `body_constraints` and `color_stamps` are not lent; they stand as [] in the
+// contract. `scratch_offsets` is the list of the uncolored, then serves the sort, then is the table of places; `body_stamps` tells who is
+// busy, is left 0 by the walks, and then takes the groups' stamps.
+pub fn build_plan(
     flags: &[u8],
-    pairs: &[u16],
+    ends: &[u16],
+    bounds: &[u16],
+    constraint_count: usize,
     dynamic_bodies: &mut [u8],
     endpoints: &mut [u16],
-    body_offsets: &mut [u16],
-    body_constraints: &mut [u16],
     scratch_offsets: &mut [u16],
     constraint_colors: &mut [u16],
-    color_stamps: &mut [u16],
     body_stamps: &mut [u16],
     color_offsets: &mut [u16],
     colored_constraints: &mut [u16],
@@ -147,29 +147,25 @@ fn rebuild(
     color_bodies: &mut [u16],
     constraint_body_positions: &mut [u16],
 ) -> ConstraintColoring
-    requires { refusalWith
-        (tables_of dynamic_bodies.old endpoints.old body_offsets.old
-        body_constraints.old scratch_offsets.old constraint_colors.old
-        color_stamps.old body_stamps.old color_offsets.old
-        colored_constraints.old color_body_offsets.old color_bodies.old constraint_body_positions.old) flags.now pairs.now ≡ 0 }
-    ensures { Rebuilt flags.now pairs.now
-        (tables_of dynamic_bodies.old endpoints.old body_offsets.old
-        body_constraints.old scratch_offsets.old constraint_colors.old
-        color_stamps.old body_stamps.old color_offsets.old
+    requires { Buildable flags.now ends.now bounds.now constraint_count
+        (tables_of dynamic_bodies.old endpoints.old [] [] scratch_offsets.old
+        constraint_colors.old [] body_stamps.old color_offsets.old
+        colored_constraints.old color_body_offsets.old color_bodies.old constraint_body_positions.old) }
+    ensures { Rebuilt flags.now ends.now (planFrom flags.now (parts_at constraint_count bounds.now ends.now))
+        (tables_of dynamic_bodies.old endpoints.old [] [] scratch_offsets.old
+        constraint_colors.old [] body_stamps.old color_offsets.old
         colored_constraints.old color_body_offsets.old color_bodies.old constraint_body_positions.old)
-        (tables_of dynamic_bodies.new endpoints.new body_offsets.new
-        body_constraints.new scratch_offsets.new constraint_colors.new
-        color_stamps.new body_stamps.new color_offsets.new
+        (tables_of dynamic_bodies.new endpoints.new [] [] scratch_offsets.new
+        constraint_colors.new [] body_stamps.new color_offsets.new
         colored_constraints.new color_body_offsets.new color_bodies.new constraint_body_positions.new) result }
 {
     let body_count = flags.len();
-    let constraint_count = pairs.len() / 2;
     copy_flags(flags, dynamic_bodies);
-    tables::copy(pairs, pairs.len(), endpoints);
+    tables::copy(ends, ends.len(), endpoints);
     let color_count = coloring::color_constraints(
         flags,
-        pairs,
-        &[],
+        ends,
+        bounds,
         scratch_offsets,
         &mut constraint_colors[..constraint_count],
         &mut color_offsets[..constraint_count + 1],
@@ -178,8 +174,8 @@ fn rebuild(
     );
     list_groups(
         body_count,
-        pairs,
-        &[],
+        ends,
+        bounds,
         &constraint_colors[..constraint_count],
         color_count,
         &color_offsets[..color_count + 1],
@@ -187,8 +183,8 @@ fn rebuild(
         scratch_offsets,
         &mut body_stamps[..body_count],
         &mut color_body_offsets[..color_count + 1],
-        &mut color_bodies[..2 * constraint_count],
-        &mut constraint_body_positions[..2 * constraint_count],
+        &mut color_bodies[..ends.len()],
+        &mut constraint_body_positions[..ends.len()],
     );
     let largest = parts::largest_part(&color_offsets[..color_count + 1]);
     ConstraintColoring {
@@ -272,16 +268,15 @@ impl ConstraintColoring {
         ) {
             return Update::Unchanged;
         }
-        Update::Changed(rebuild(
+        Update::Changed(build_plan(
             flags,
             pairs,
+            &[],
+            pairs.len() / 2,
             dynamic_bodies,
             endpoints,
-            body_offsets,
-            body_constraints,
             scratch_offsets,
             constraint_colors,
-            color_stamps,
             body_stamps,
             color_offsets,
             colored_constraints,

@@ -3,8 +3,9 @@
 #![tactic(auto)]
 
 ghost use Rattle.std.specs.Prelude.{◌*◌, ◌≤◌, ◌<◌, ◌≡◌, length};
+ghost use Rattle.lists.specs.Basics.{sum_of};
 ghost use Rattle.parts.specs.Parts.{cut, Cut, Present, part_at};
-ghost use Rattle.parts.specs.Steps.{start_at, Ordered, widest};
+ghost use Rattle.parts.specs.Steps.{start_at, Ordered, widest, BoundsOf};
 
 // The part of a table from the bound at place `from` up to that at place `to`.
 pub fn between<'a>(table: &'a [u16], bounds: &[u16], from: usize, to: usize) -> &'a [u16]
@@ -52,4 +53,18 @@ pub fn largest_part(bounds: &[u16]) -> usize
         end += 1;
     }
     largest as usize
+}
+
+// The bounds of constraints with these counts: each starts where the one before it ends.
+pub fn bound_counts(counts: &[u8], bounds: &mut [u16])
+    requires { (length bounds.old ≡ 2 * length counts.now) × (length counts.now ≤ 8192) × (sum_of (λ c. c) counts.now ≤ 32768) }
+    ensures { BoundsOf counts.now bounds.new }
+{
+    let mut end: u16 = 0;
+    // The constraints passed have their bounds, and `end` is how many endpoints they have.
+    for constraint in 0..counts.len() {
+        bounds[2 * constraint] = end;
+        end += counts[constraint] as u16;
+        bounds[2 * constraint + 1] = end;
+    }
 }

@@ -1,12 +1,13 @@
 -- `update`: the questions' answer is the definition's, and so is the test for equal input; each of the three answers then meets the
 -- contract.
-use mathlib.Core.Path.{◌≡◌, sym, ap, ◌∙◌}
+use mathlib.Core.Path.{◌≡◌, refl, sym, ap, ◌∙◌}
 use mathlib.Core.Bool.{Bool}
 use native.Mathlib.Omega.{arith}
+use Rattle.parts.proofs.Parts.{parts-pairs}
 use Rattle.plan_questions.specs.Plans.{Tables, tables_of, roomy_with, updateRefusal}
 use Rattle.constraint_coloring.specs.Calls.{holds, refusalWith}
-use Rattle.constraint_coloring.proofs.Accepted.{accepted}
-use Rattle.constraint_coloring.proofs.Updates.{refused, unchanged, changed}
+use Rattle.constraint_coloring.proofs.Accepted.{accepted, buildable}
+use Rattle.constraint_coloring.proofs.Updates.{built, refused, unchanged, changed}
 use Rattle.constraint_coloring.proofs.ConstraintColoring.update.Goals as goal
 use Rattle.constraint_coloring.proofs.ConstraintColoring.update.Goals.{After-update_refusal-refusal}
 
@@ -40,11 +41,15 @@ returns-then-remembers c =
     let q = (goal.at.returns-then-remembers c).After-update_refusal-refusal in
     unchanged _ _ _ (entry q) (sym (asked q) ∙ c.if-refusal-ne0.false) (sym c.remembers.ensures ∙ c.if-remembers.true)
 
-pub rebuild-requires : goal.rebuild-requires
-rebuild-requires c = sym (asked (goal.at.rebuild-requires c).After-update_refusal-refusal) ∙ c.if-refusal-ne0.false
+pub build_plan-requires : goal.build_plan-requires
+build_plan-requires c =
+    let q = (goal.at.build_plan-requires c).After-update_refusal-refusal in
+    buildable (accepted _ _ (entry q) (sym (asked q) ∙ c.if-refusal-ne0.false))
 
 pub returns : goal.returns
 unfolding holds
 returns c =
     let q = (goal.at.returns c).After-update_refusal-refusal in
-    changed _ _ _ (entry q) _ _ (sym (asked q) ∙ c.if-refusal-ne0.false) (sym c.remembers.ensures ∙ c.if-remembers.false) c.rebuild.ensures
+    let e : refusalWith (entry q) q.args.flags.now q.args.pairs.now ≡ 0 = sym (asked q) ∙ c.if-refusal-ne0.false in
+    changed _ _ _ (entry q) _ _ e (sym c.remembers.ensures ∙ c.if-remembers.false)
+    (built (entry q) _ (rw (parts-pairs _ _ (accepted _ _ (entry q) e).even) at c.build_plan.ensures) refl refl refl)
