@@ -1,7 +1,10 @@
 // Frames in the file form: the limits, questions 1 to 5 over a file's bytes, the decoding of an accepted file into lent
-// tables, and the questions that several calls put to their lists (5 and 7). `Frame::read` answers every byte string.
+// tables, and the questions that several calls put to their lists (5 and 7); `multi` has those of constraints with a count
+// each. `Frame::read` answers every byte string.
 // `decode` is internal: a stage of the frame run, which calls it on a file that `Frame::read` accepted.
 #![tactic(auto)]
+
+pub mod multi;
 
 ghost use Rattle.std.specs.Prelude.{◌≡◌, ◌&&◌, map, ◌++◌, ◌+◌, ◌-◌, ◌*◌, ◌/◌, ◌%◌, ◌≤◌, ◌<◌, leb, ltb, eqb, length, get_or, take, drop};
 ghost use Rattle.lists.specs.Basics.{all};
@@ -175,6 +178,11 @@ impl Frame {
 
     // The types are static (0), kinematic (1), dynamic (2) and logged (3).
     pub const MAX_TYPE: u8 = 3;
+
+    // How many endpoints a constraint has, at least and at most.
+    pub const MIN_ENDS: usize = 2;
+
+    pub const MAX_ENDS: usize = 4;
 
     // Questions 1 to 5 of a file.
     pub fn read(bytes: &[u8]) -> Reading

@@ -1,0 +1,14 @@
+-- `frame::multi::all_fit`: the endpoints of the constraints from place i on start at place k, and the answer for these constraints is the
+-- answer for all.
+use Prim.Native.Nat.{◌≤◌, ◌-◌}
+use mathlib.Core.Path.{◌≡◌}
+use lib.ListN.{length, take, drop}
+use Rattle.lists.specs.Basics.{all}
+use Rattle.frame.specs.Frames.{endCount, counted_of, sound}
+use Rattle.frame.proofs.multi.all_fit.Given as goal
+
+abbrev pub invariant-loop-i : goal.invariant-loop-i
+invariant-loop-i l = (l.i ≤ length l.counts) × (l.k ≡ endCount (take l.i l.counts)) × (all (sound l.bodies) (drop l.i (counted_of l.counts l.ends l.enabled)) ≡ all (sound l.bodies) (counted_of l.counts l.ends l.enabled))
+
+abbrev pub decreases-loop-i : goal.decreases-loop-i
+decreases-loop-i l = length l.counts - l.i

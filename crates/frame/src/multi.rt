@@ -1,0 +1,114 @@
+// Constraints of two to four endpoints. They have a count each, and their endpoints stand constraint after constraint without gaps: what
+// several calls ask of such lists (questions 4, 5 and 7).
+ghost use Rattle.std.specs.Prelude.{◌≡◌, ◌&&◌, ◌≤◌, ltb, length};
+ghost use Rattle.lists.specs.Basics.{all, mem, distinct};
+ghost use Rattle.frame.specs.Frames.{counted, countsKnown, endCount, counted_of, fits, sound};
+
+use crate::{Frame, live_at, wide};
+
+// Is this the number of endpoints of a constraint, two to four?
+pub fn counted(count: usize) -> bool
+    ensures { result ≡ counted count }
+{
+    (Frame::MIN_ENDS <= count) & (count <= Frame::MAX_ENDS)
+}
+
+// Question 5 of lent counts: is each two to four?
+pub fn counts_known(counts: &[u8]) -> bool
+    ensures { result ≡ countsKnown counts.now }
+{
+    let mut known = true;
+    let mut i = 0;
+    // `known` tells whether every count passed is two to four.
+    while i < counts.len() {
+        known = known & counted(wide(counts[i]));
+        i += 1;
+    }
+    known
+}
+
+// The sum of lent counts: how many endpoints question 4 wants.
+pub fn sum_counts(counts: &[u8]) -> usize
+    requires { length counts.now ≤ 8192 }
+    ensures { result ≡ endCount counts.now }
+{
+    let mut sum: usize = 0;
+    let mut i = 0;
+    // `sum` is that of the counts passed.
+    while i < counts.len() {
+        sum += wide(counts[i]);
+        i += 1;
+    }
+    sum
+}
+
+// Does x stand in the list?
+fn stands_in(x: u16, list: &[u16]) -> bool
+    ensures { result ≡ mem x list.now }
+{
+    let mut i = 0;
+    // The numbers passed are not x.
+    while i < list.len() {
+        if x == list[i] {
+            return true;
+        }
+        i += 1;
+    }
+    false
+}
+
+// Are the numbers of a list all different and below n?
+pub fn distinct_below(list: &[u16], n: usize) -> bool
+    ensures { result ≡ (distinct list.now && all (λ x. ltb x n) list.now) }
+{
+    let mut i = 0;
+    // The numbers passed are below n, and none of them stands again behind its place.
+    while i < list.len() {
+        let x = list[i];
+        if (n <= x as usize) | stands_in(x, &list[i + 1..]) {
+            return false;
+        }
+        i += 1;
+    }
+    true
+}
+
+// Question 7 of the endpoints of a live constraint.
+pub fn ends_fit(bodies: usize, ends: &[u16]) -> bool
+    ensures { result ≡ fits bodies ends.now }
+{
+    if !counted(ends.len()) {
+        return false;
+    }
+    distinct_below(ends, bodies)
+}
+
+// Question 7 of one constraint.
+pub fn sound_ends(bodies: usize, live: bool, ends: &[u16]) -> bool
+    ensures { result ≡ sound bodies (record { ends = ends.now; live = live }) }
+{
+    if !live {
+        return true;
+    }
+    ends_fit(bodies, ends)
+}
+
+// Question 7 of constraints by their counts; those with an enabled byte 0 are not looked at.
+pub fn all_fit(bodies: usize, ends: &[u16], counts: &[u8], enabled: &[u8]) -> bool
+    requires { endCount counts.now ≤ length ends.now }
+    ensures { result ≡ all (sound bodies) (counted_of counts.now ends.now enabled.now) }
+{
+    let mut k: usize = 0;
+    let mut i: usize = 0;
+    // The first i constraints, up to entry k, pass question 7.
+    while i < counts.len() {
+        let live = live_at(enabled, i);
+        let count = wide(counts[i]);
+        if !sound_ends(bodies, live, &ends[k..k + count]) {
+            return false;
+        }
+        k += count;
+        i += 1;
+    }
+    true
+}
