@@ -12,7 +12,7 @@ use Rattle.plan_questions.specs.Plans.{Tables}
 use Rattle.constraint_coloring.specs.Stages.{Rebuilt}
 use Rattle.constraint_coloring.specs.declared.ConstraintColoring.{ConstraintColoring}
 use Rattle.constraint_coloring.proofs.Updates.{written-not, written_new, leaves-kept}
-use Rattle.multi_coloring.specs.Calls.{multiNumber, multiRefused, multiChanged, multiPlanAfter, multiCarried, multiHolds, multiRefusalWith, multiChangesWith, MultiUpdated}
+use Rattle.multi_coloring.specs.Calls.{multiNumber, multiRefused, multiChanged, multiPlanAfter, multiHolds, multiRefusalWith, multiChangesWith, MultiUpdated}
 use Rattle.multi_coloring.specs.declared.MultiColoring.{MultiColoring}
 use Rattle.multi_coloring.specs.declared.MultiUpdate.{MultiUpdate}
 use Rattle.multi_coloring.specs.declared.MultiUpdate.TheVariants.{Changed, Unchanged, Refused}

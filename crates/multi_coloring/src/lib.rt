@@ -2,7 +2,7 @@
 // and positions stand constraint after constraint without gaps; a further table remembers the counts.
 #![tactic(auto)]
 
-ghost use Rattle.std.specs.Prelude.{◌≡◌, ◌≤◌, ◌+◌, ◌*◌, ◌&&◌, map, eqb, length, take, drop};
+ghost use Rattle.std.specs.Prelude.{◌≡◌, ◌≤◌, ◌+◌, ◌*◌, ◌&&◌, map, leb, eqb, length, take, drop};
 ghost use Rattle.lists.specs.Basics.{one, over, same, four};
 ghost use Rattle.frame.specs.Frames.{endCount};
 ghost use Rattle.groups.specs.Groups.{multi_plan_of};
@@ -102,7 +102,14 @@ fn ends_read(counts: &[u8]) -> usize
     sum
 }
 
-// Whether counts are the same as remembered ones, these as they are read.
+// Whether a count is the remembered one, as that is read.
+fn same_count(count: u8, remembered: u8) -> bool
+    ensures { result ≡ eqb count (count_read remembered) }
+{
+    frame::wide(count) == read_count(remembered)
+}
+
+// Whether counts are the remembered ones, place by place.
 fn same_counts(counts: &[u8], remembered: &[u8]) -> bool
     requires { length remembered.now ≡ length counts.now }
     ensures { result ≡ same counts.now (map count_read remembered.now) }
@@ -110,13 +117,28 @@ fn same_counts(counts: &[u8], remembered: &[u8]) -> bool
     let mut constraint = 0;
     // The counts passed are the same.
     while constraint < counts.len() {
-        let known = read_count(remembered[constraint]);
-        if frame::wide(counts[constraint]) != known {
+        if !same_count(counts[constraint], remembered[constraint]) {
             return false;
         }
         constraint += 1;
     }
     true
+}
+
+// Question 6 of a lookup of positions: are all counts there, and the positions of all constraints?
+fn positions_there(
+    constraint_count: usize,
+    counts: &[u8],
+    constraint_body_positions: &[u16],
+) -> bool
+    requires { constraint_count ≤ 8192 }
+    ensures { result ≡ (leb constraint_count (length counts.now)
+        && leb (endCount (counts_read constraint_count counts.now)) (length constraint_body_positions.now)) }
+{
+    if counts.len() < constraint_count {
+        return false;
+    }
+    ends_read(&counts[..constraint_count]) <= constraint_body_positions.len()
 }
 
 // The positions from a place of the table on, in four places.
@@ -133,6 +155,14 @@ fn places_at(constraint_body_positions: &[u16], start: usize, count: usize) -> P
     }
 }
 
+// Question 4: do the counts make up the endpoint list?
+fn counts_fill(counts: &[u8], ends: &[u16]) -> bool
+    requires { length counts.now ≤ 8192 }
+    ensures { result ≡ eqb (endCount counts.now) (length ends.now) }
+{
+    frame::multi::sum_counts(counts) == ends.len()
+}
+
 // Questions 3 to 7, where `room` answers 6; 0 where all get a "yes".
 fn update_refusal(flags: &[u8], ends: &[u16], counts: &[u8], room: bool) -> u8
     ensures { result ≡ multiUpdateRefusal flags.now ends.now counts.now room }
@@ -140,8 +170,7 @@ fn update_refusal(flags: &[u8], ends: &[u16], counts: &[u8], room: bool) -> u8
     if !((flags.len() <= Frame::MAX_BODIES) & (counts.len() <= Frame::MAX_PAIRS)) {
         return 3;
     }
-    let sum = frame::multi::sum_counts(counts);
-    if sum != ends.len() {
+    if !counts_fill(counts, ends) {
         return 4;
     }
     if !(frame::at_most(flags, 1) & frame::multi::counts_known(counts)) {
@@ -247,7 +276,12 @@ fn rebuild(
 
 // What a built plan carries, as a plan with counts.
 fn carry(plan: ConstraintColoring) -> MultiColoring
-    ensures { result ≡ record { body_count = plan.body_count; constraint_count = plan.constraint_count; color_count = plan.color_count; max_color_constraint_count = plan.max_color_constraint_count } }
+    ensures { result ≡ record {
+      body_count = plan.body_count;
+      constraint_count = plan.constraint_count;
+      color_count = plan.color_count;
+      max_color_constraint_count = plan.max_color_constraint_count;
+    } }
 {
     MultiColoring {
         body_count: plan.body_count,
@@ -393,19 +427,14 @@ impl MultiColoring {
         if Frame::MAX_PAIRS < self.constraint_count {
             return MultiPositions::Refused(3);
         }
-        if counts.len() < self.constraint_count {
-            return MultiPositions::Refused(6);
-        }
-        let remembered = &counts[..self.constraint_count];
-        let needed = ends_read(remembered);
-        if constraint_body_positions.len() < needed {
+        if !positions_there(self.constraint_count, counts, constraint_body_positions) {
             return MultiPositions::Refused(6);
         }
         if self.constraint_count <= constraint {
             return MultiPositions::Refused(12);
         }
-        let start = ends_read(&remembered[..constraint]);
-        let count = read_count(remembered[constraint]);
+        let start = ends_read(&counts[..constraint]);
+        let count = read_count(counts[constraint]);
         MultiPositions::At(places_at(constraint_body_positions, start, count))
     }
 }

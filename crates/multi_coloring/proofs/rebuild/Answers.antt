@@ -1,13 +1,11 @@
 -- `rebuild`: every table is long enough, since the questions have passed, so the bounds of the counts find their places and a plan can be built by
 -- them; the parts by these bounds are the constraints by counts.
 use Prim.Native.Nat.{ℕ, ◌*◌, ◌≤◌}
-use mathlib.Core.Path.{◌≡◌, refl, sym, ap, ◌∙◌}
+use mathlib.Core.Path.{◌≡◌, refl, sym, ◌∙◌}
 use mathlib.Core.List.{List, ◌++◌}
 use native.Mathlib.Omega.{arith}
 use lib.ListN.{length, take, drop}
 use lib.Seq.{take_at, length-take-le, length_front}
-use Rattle.groups.specs.Groups.{planFrom}
-use Rattle.parts.specs.Steps.{BoundsOf}
 use Rattle.parts.proofs.Bounds.{parts-counted}
 use Rattle.plan_questions.specs.Plans.{Tables, tables_of}
 use Rattle.constraint_coloring.proofs.Updates.{built}
@@ -20,7 +18,15 @@ bounds-room : {flags ends counts : List ℕ} {t : Tables} {c : List ℕ} → Acc
 bounds-room o = omega (arith, two-each o, o.tables.1.1.1.0)
 
 module _ (p : After-bound_counts) where
-  abbrev o : Accepted p.args.flags.now p.args.ends.now p.args.counts_in.now (tables_of p.args.dynamic_bodies.now p.args.endpoints.now p.args.body_offsets.now p.args.body_constraints.now p.args.scratch_offsets.now p.args.constraint_colors.now p.args.color_stamps.now p.args.body_stamps.now p.args.color_offsets.now p.args.colored_constraints.now p.args.color_body_offsets.now p.args.color_bodies.now p.args.constraint_body_positions.now) p.args.counts.now
+  -- the tables at entry
+  abbrev entry : Tables
+  entry =
+      tables_of p.args.dynamic_bodies.now p.args.endpoints.now p.args.body_offsets.now p.args.body_constraints.now
+      p.args.scratch_offsets.now p.args.constraint_colors.now p.args.color_stamps.now p.args.body_stamps.now
+      p.args.color_offsets.now p.args.colored_constraints.now p.args.color_body_offsets.now p.args.color_bodies.now
+      p.args.constraint_body_positions.now
+
+  abbrev o : Accepted p.args.flags.now p.args.ends.now p.args.counts_in.now entry p.args.counts.now
   o = accepted _ _ _ _ _ p.requires
 
   -- the table with the bounds in it
@@ -66,4 +72,9 @@ pub returns-clause-built : goal.returns-clause-built
 returns-clause-built c =
     let p = (goal.at.returns-clause-built c).After-bound_counts in
     let w = rw (bounds-are p, parts-counted p.bound_counts.ensures (bounds-long p) p.args.ends.now) at c.build_plan.ensures in
-    built _ _ w refl (bounds-kept p) refl
+    let exit =
+    tables_of c.build_plan.new.dynamic_bodies c.build_plan.new.endpoints p.args.body_offsets.now (bounds-table p)
+    c.build_plan.new.scratch_offsets c.build_plan.new.constraint_colors p.args.color_stamps.now c.build_plan.new.body_stamps
+    c.build_plan.new.color_offsets c.build_plan.new.colored_constraints c.build_plan.new.color_body_offsets c.build_plan.new.color_bodies
+    c.build_plan.new.constraint_body_positions in
+    built (entry p) exit w refl (bounds-kept p) refl

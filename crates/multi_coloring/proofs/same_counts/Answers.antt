@@ -4,6 +4,7 @@ use mathlib.Core.Path.{◌≡◌, sym, ◌∙◌}
 use mathlib.Core.List.{List, map}
 use native.Mathlib.Omega.{arith}
 use lib.ListN.{get_or, length, length-map}
+use borrow.Author.Tests.{eqb-true, eqb-false}
 use Rattle.lists.proofs.Laws.{getD-map-lt}
 use Rattle.plan_questions.proofs.Scans.{same_stop, same_turn}
 use Rattle.multi_coloring.specs.Counts.{count_read}
@@ -16,16 +17,18 @@ module _ (remembered : List ℕ) (i : ℕ) (h : i < length remembered) where
   read-at : get_or (map count_read remembered) i 0 ≡ count_read (get_or remembered i 0)
   read-at = getD-map-lt count_read remembered i 0 0 h
 
-pub returns-then-wide-known : goal.returns-then-wide-known
-returns-then-wide-known c =
+pub returns-then-not-same_count : goal.returns-then-not-same_count
+returns-then-not-same_count c =
     let i = c.loop-constraint.constraint in
     let remembered = c.args.remembered.now in
     let h : i < length remembered = omega arith in
-    sym (same_stop c.args.counts.now (map count_read remembered) i c.loop-constraint-test.true (read-inside remembered i h) (λ z. c.if-wide-known.true (c.wide.ensures.0 ∙ z ∙ read-at remembered i h ∙ sym c.read_count-known.ensures))) ∙ c.loop-constraint.invariant.1
+    let ne = eqb-false _ _ (sym c.same_count.ensures ∙ c.if-not-same_count.true) in
+    sym (same_stop c.args.counts.now (map count_read remembered) i c.loop-constraint-test.true (read-inside remembered i h) (λ z. ne (z ∙ read-at remembered i h))) ∙ c.loop-constraint.invariant.1
 
 pub loop-constraint-preserved : goal.loop-constraint-preserved
 loop-constraint-preserved c =
     let i = c.loop-constraint.constraint in
     let remembered = c.args.remembered.now in
     let h : i < length remembered = omega arith in
-    (omega arith, same_turn c.args.counts.now (map count_read remembered) i c.loop-constraint-test.true (read-inside remembered i h) (sym c.wide.ensures.0 ∙ c.if-wide-known.false ∙ c.read_count-known.ensures ∙ sym (read-at remembered i h)) ∙ c.loop-constraint.invariant.1)
+    let e = eqb-true _ _ (sym c.same_count.ensures ∙ c.if-not-same_count.false) in
+    (omega arith, same_turn c.args.counts.now (map count_read remembered) i c.loop-constraint-test.true (read-inside remembered i h) (e ∙ sym (read-at remembered i h)) ∙ c.loop-constraint.invariant.1)

@@ -1,6 +1,5 @@
 -- `update_refusal`: the tests are the questions, in their order.
 use mathlib.Core.Path.{sym, ◌∙◌}
-use borrow.Author.Tests.{eq-eqb, ne_eqb}
 use Rattle.multi_coloring.specs.Counts.{multiUpdateRefusal}
 use Rattle.multi_coloring.proofs.Questions.{sound-counted}
 use Rattle.multi_coloring.proofs.update_refusal.Goals as goal
@@ -9,16 +8,16 @@ pub returns-then-not-flags-counts : goal.returns-then-not-flags-counts
 unfolding multiUpdateRefusal
 returns-then-not-flags-counts c = rw c.if-not-flags-counts.true
 
-pub returns-then-sum-ends : goal.returns-then-sum-ends
+pub returns-then-not-counts_fill : goal.returns-then-not-counts_fill
 unfolding multiUpdateRefusal
-returns-then-sum-ends c = rw (c.if-not-flags-counts.false, sym c.sum_counts-sum.ensures, ne_eqb _ _ c.if-sum-ends.true)
+returns-then-not-counts_fill c = rw (c.if-not-flags-counts.false, sym c.counts_fill.ensures, c.if-not-counts_fill.true)
 
 pub returns-then-not-at_most-counts_known : goal.returns-then-not-at_most-counts_known
 unfolding multiUpdateRefusal
 returns-then-not-at_most-counts_known c = rw (
   c.if-not-flags-counts.false,
-  sym c.sum_counts-sum.ensures,
-  eq-eqb _ _ c.if-sum-ends.false,
+  sym c.counts_fill.ensures,
+  c.if-not-counts_fill.false,
   sym c.at_most.ensures,
   sym c.counts_known.ensures,
   c.if-not-at_most-counts_known.true,
@@ -28,8 +27,8 @@ pub returns-then-not-room : goal.returns-then-not-room
 unfolding multiUpdateRefusal
 returns-then-not-room c = rw (
   c.if-not-flags-counts.false,
-  sym c.sum_counts-sum.ensures,
-  eq-eqb _ _ c.if-sum-ends.false,
+  sym c.counts_fill.ensures,
+  c.if-not-counts_fill.false,
   sym c.at_most.ensures,
   sym c.counts_known.ensures,
   c.if-not-at_most-counts_known.false,
@@ -40,8 +39,8 @@ pub returns-then-not-all_fit : goal.returns-then-not-all_fit
 unfolding multiUpdateRefusal
 returns-then-not-all_fit c = rw (
   c.if-not-flags-counts.false,
-  sym c.sum_counts-sum.ensures,
-  eq-eqb _ _ c.if-sum-ends.false,
+  sym c.counts_fill.ensures,
+  c.if-not-counts_fill.false,
   sym c.at_most.ensures,
   sym c.counts_known.ensures,
   c.if-not-at_most-counts_known.false,
@@ -54,8 +53,8 @@ pub returns : goal.returns
 unfolding multiUpdateRefusal
 returns c = rw (
   c.if-not-flags-counts.false,
-  sym c.sum_counts-sum.ensures,
-  eq-eqb _ _ c.if-sum-ends.false,
+  sym c.counts_fill.ensures,
+  c.if-not-counts_fill.false,
   sym c.at_most.ensures,
   sym c.counts_known.ensures,
   c.if-not-at_most-counts_known.false,
