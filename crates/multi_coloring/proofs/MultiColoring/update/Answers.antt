@@ -49,4 +49,8 @@ pub returns : goal.returns
 unfolding multiHolds
 returns c =
     let q = (goal.at.returns c).After-update_refusal-refusal in
-    changed _ _ _ _ (entry q) _ _ _ _ _ (sym (asked q) ∙ c.if-refusal-ne0.false) (sym c.remembers.ensures ∙ c.if-remembers.false) c.rebuild-plan.ensures.built c.rebuild-plan.ensures.remembered c.carry.ensures
+    let n = c.rebuild-plan.new in
+    let exit =
+    tables_of n.dynamic_bodies n.endpoints n.body_offsets n.body_constraints n.scratch_offsets n.constraint_colors
+    n.color_stamps n.body_stamps n.color_offsets n.colored_constraints n.color_body_offsets n.color_bodies n.constraint_body_positions in
+    changed _ _ _ _ (entry q) _ exit _ _ _ (sym (asked q) ∙ c.if-refusal-ne0.false) (sym c.remembers.ensures ∙ c.if-remembers.false) c.rebuild-plan.ensures.built c.rebuild-plan.ensures.remembered c.carry.ensures
