@@ -1,8 +1,6 @@
 // Updates of constraints that have a count each: as many as there may be, of four bodies each, and one more. Then one constraint of three on
 // tables of just the lengths that are asked for, and with each of them one place short; and the lookup of its positions, in tables that are
 // one place short and past the last constraint: the refusal, how many positions, and these.
-ghost use Rattle.std.specs.Prelude.{◌≤◌, length};
-
 use crate::{checksum, cut, put, put_line};
 use multi_coloring::{MultiColoring, MultiPositions, MultiUpdate};
 
@@ -25,9 +23,7 @@ fn show(
 }
 
 // Place k of a list of fours is k modulo 4.
-fn fill_fours(ends: &mut [u16])
-    requires { length ends.old ≤ 32772 }
-{
+fn fill_fours(ends: &mut [u16]) {
     for place in 0..ends.len() {
         ends[place] = (place % 4) as u16;
     }
