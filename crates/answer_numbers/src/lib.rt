@@ -103,7 +103,8 @@ pub fn locate_places(answer: MultiPositions, places: &mut [u16; 4], count: &mut 
 {
     match answer {
         MultiPositions::At(found) => {
-            *places = found.places;
+            let numbers = found.places;
+            *places = numbers;
             *count = found.count;
             0
         }

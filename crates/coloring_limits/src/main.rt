@@ -1,9 +1,11 @@
 // Updates at their limits, one plan on one set of tables, first on cleared tables and then on dirty ones: a line each with the case, the
 // refusal, whether the answer is "changed", the groups, the largest group and a checksum of the positions. Then one update on tables
-// of just the lengths that are asked for, and with each of them one place short.
+// of just the lengths that are asked for, and with each of them one place short. Then the same of constraints that have a count each.
 #![tactic(auto)]
 
 ghost use Rattle.std.specs.Prelude.{◌≡◌, ◌+◌, ◌*◌, ◌≤◌, length};
+
+mod counts;
 
 use constraint_coloring::{ConstraintColoring, Update};
 
@@ -42,7 +44,7 @@ fn input(
     }
 }
 
-fn put(n: usize) {
+pub fn put(n: usize) {
     io::write_all(1, b" ");
     io::print_decimal(1, n as u64);
 }
@@ -64,7 +66,7 @@ fn changed(answer: Update) -> usize {
 }
 
 // A checksum of the first `count` places, as far as there are so many.
-fn checksum(table: &[u16], count: usize) -> usize
+pub fn checksum(table: &[u16], count: usize) -> usize
     ensures { result ≤ 65520 }
 {
     let mut sum: usize = 0;
@@ -88,6 +90,23 @@ fn positions_sum(plan: ConstraintColoring, constraint_body_positions: &[u16]) ->
     checksum(constraint_body_positions, 2 * count)
 }
 
+pub fn put_line(
+    case: usize,
+    refusal: usize,
+    changed: usize,
+    groups: usize,
+    largest: usize,
+    sum: usize,
+) {
+    io::print_decimal(1, case as u64);
+    put(refusal);
+    put(changed);
+    put(groups);
+    put(largest);
+    put(sum);
+    io::write_all(1, b"\n");
+}
+
 fn show(
     case: usize,
     before: ConstraintColoring,
@@ -95,13 +114,14 @@ fn show(
     constraint_body_positions: &[u16],
 ) -> ConstraintColoring {
     let plan = constraint_coloring::plan_after(before, answer);
-    io::print_decimal(1, case as u64);
-    put(number(answer));
-    put(changed(answer));
-    put(plan.color_count);
-    put(plan.max_color_constraint_count);
-    put(positions_sum(plan, constraint_body_positions));
-    io::write_all(1, b"\n");
+    put_line(
+        case,
+        number(answer),
+        changed(answer),
+        plan.color_count,
+        plan.max_color_constraint_count,
+        positions_sum(plan, constraint_body_positions),
+    );
     plan
 }
 
@@ -319,7 +339,7 @@ fn on_tables(mark: u16, flag: u8) {
 }
 
 // One place less for the table that is to be short.
-fn cut(length: usize, short: usize, table: usize) -> usize
+pub fn cut(length: usize, short: usize, table: usize) -> usize
     requires { 1 ≤ length }
     ensures { result ≤ length }
 {
@@ -375,4 +395,5 @@ fn main() {
         exact(short);
         short += 1;
     }
+    counts::limits();
 }

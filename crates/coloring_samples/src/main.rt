@@ -1,6 +1,9 @@
 // The samples of the coloring in the paper's order, each an update of a fresh plan: a line with the number of groups and the six places
-// of the color table, which hold 9 where no color goes. Every body has the stamp of group 0, as an earlier update may leave it.
+// of the color table, which hold 9 where no color goes. Every body has the stamp of group 0, as an earlier update may leave it. Then the
+// samples of constraints that have a count each.
 #![tactic(auto)]
+
+mod counts;
 
 use constraint_coloring::{ConstraintColoring, Update};
 
@@ -67,4 +70,5 @@ fn main() {
     sample(&[1, 1, 1, 1], &[0, 1, 1, 2, 2, 3, 3, 0]);
     sample(&[1, 1, 1, 1, 1], &[0, 1, 2, 3, 1, 2, 3, 4, 0, 4]);
     sample(&[1, 1, 1, 0], &[0, 1, 0, 2, 0, 3, 1, 2, 1, 3, 2, 3]);
+    counts::samples();
 }

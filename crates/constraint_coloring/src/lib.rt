@@ -68,8 +68,8 @@ pub enum Positions {
     Refused(u8),
 }
 
-// Flags over the first places of a table.
-fn copy_flags(from: &[u8], to: &mut [u8])
+// Bytes, as flags or counts, over the first places of a table.
+pub fn copy_flags(from: &[u8], to: &mut [u8])
     requires { length from.now ≤ length to.old }
     ensures { to.new ≡ over from.now to.old }
 {

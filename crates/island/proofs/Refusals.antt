@@ -2,42 +2,37 @@
 use Prim.Native.Nat.{ℕ, ◌≤◌}
 use native.Mathlib.Omega.{arith}
 use mathlib.Core.Path.{◌≡◌, refl, sym, ap, ◌∙◌}
-use mathlib.Core.Bool.{Bool, true, false, ◌&&◌, cond}
-use mathlib.Core.List.{List, [], ◌∷◌}
-use lib.Dec.{leb, eqb}
-use lib.ListN.{length}
-use borrow.Author.Tests.{leb-true, eq-eqb, ne_eqb}
-use Rattle.lists.proofs.Laws.{and_left}
-use Rattle.frame.specs.Frames.{frame_of, allSound}
-use Rattle.frame.specs.Questions.{question, asked, fewEach, even, pairCount, typesKnown, bits}
+use mathlib.Core.Bool.{Bool, true, false, cond}
+use mathlib.Core.List.{List, [], ◌∷◌, ◌++◌}
+use lib.Dec.{eqb}
+use borrow.Author.Tests.{eq-eqb, ne_eqb}
+use Rattle.frame.specs.Questions.{Question, question, asked}
 use Rattle.frame.proofs.Questions.{passed, asked-append}
-use Rattle.island.specs.Calls.{Rooms, roomy, earlyQuestions, islandRefusal}
 
-module _ (ts ps js es : List ℕ) (r : Rooms) where
-  abbrev pub q3 : Bool
-  q3 = fewEach (length ts) (pairCount ps) (pairCount js)
-
-  abbrev pub q4 : Bool
-  q4 = even ps && even js && eqb (length es) (pairCount js)
-
-  abbrev pub q5 : Bool
-  q5 = typesKnown ts && bits es
-
-  abbrev pub q6 : Bool
-  q6 = roomy ts ps js r
+-- the answers to questions 3 to 7
+module _ (q3 q4 q5 q6 q7 : Bool) where
+  abbrev questions : List Question
+  questions = question 3 q3 ∷ question 4 q4 ∷ question 5 q5 ∷ question 6 q6 ∷ []
 
   abbrev pub early : ℕ
-  early = asked (earlyQuestions ts ps js es r)
+  early = asked questions
 
-  -- ---- where all got a "yes"
-  pub early-few : early ≡ 0 → length ts ≤ 4096
-  unfolding fewEach
-  early-few e =
-      let three = leb (length ts) 4096 && leb (pairCount ps) 4096 in
-      leb-true (length ts) 4096 (and_left (leb (length ts) 4096) (leb (pairCount ps) 4096) (and_left three (leb (pairCount js) 4096) (passed q3 _ 2 e).0))
+  abbrev pub refused : ℕ
+  refused = asked (questions ++ question 7 q7 ∷ [])
 
-  pub early-room : early ≡ 0 → q6 ≡ true
-  early-room e = (passed q6 0 5 (passed q5 _ 4 (passed q4 _ 3 (passed q3 _ 2 e).1).1).1).0
+  -- ---- where questions 3 to 6 all got a "yes"
+  pub record AllYes : Type 0 where
+    pub three : q3 ≡ true
+    pub four : q4 ≡ true
+    pub five : q5 ≡ true
+    pub six : q6 ≡ true
+
+  pub all-yes : early ≡ 0 → AllYes
+  all-yes e =
+      let a = passed q3 _ 2 e in
+      let b = passed q4 _ 3 a.1 in
+      let c = passed q5 _ 4 b.1 in
+      record { three = a.0; four = b.0; five = c.0; six = (passed q6 0 5 c.1).0 }
 
   -- none of them is question 7
   first_of : (a b c d : Bool) → asked (question 3 a ∷ question 4 b ∷ question 5 c ∷ question 6 d ∷ []) ≤ 6
@@ -51,15 +46,11 @@ module _ (ts ps js es : List ℕ) (r : Rooms) where
   early-below e = omega (arith, first_of q3 q4 q5 q6)
 
   -- ---- and then question 7
-  abbrev pub q7 : Bool
-  q7 = allSound (frame_of ts ps js es)
+  in_order : refused ≡ cond (eqb early 0) (cond q7 0 7) early
+  in_order = asked-append questions (question 7 q7 ∷ []) refl
 
-  in_order : islandRefusal ts ps js es r ≡ cond (eqb early 0) (cond q7 0 7) early
-  unfolding islandRefusal
-  in_order = asked-append (earlyQuestions ts ps js es r) (question 7 q7 ∷ []) refl
-
-  pub refused-early : (k : ℕ) → k ≡ early → (k ≡ 0 → ⊥) → k ≡ islandRefusal ts ps js es r
+  pub refused-early : (k : ℕ) → k ≡ early → (k ≡ 0 → ⊥) → k ≡ refused
   refused-early k e n = e ∙ sym (in_order ∙ ap (λ (t : Bool). cond t (cond q7 0 7) early) (ne_eqb early 0 (λ z. n (e ∙ z))))
 
-  pub refused-late : early ≡ 0 → cond q7 0 7 ≡ islandRefusal ts ps js es r
+  pub refused-late : early ≡ 0 → cond q7 0 7 ≡ refused
   refused-late e = sym (in_order ∙ ap (λ (t : Bool). cond t (cond q7 0 7) early) (eq-eqb early 0 e))

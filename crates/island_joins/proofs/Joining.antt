@@ -1,29 +1,32 @@
--- What constraints join, and which bodies they constrain. A live pair of dynamic bodies has one edge, any other pair none; a live pair constrains its two bodies.
--- What is joined by one list and then by another is joined by both together: so a loop over the constraints joins them all.
+-- What constraints join, and which bodies they constrain. A live pair of dynamic bodies has one edge, any other pair none; a live constraint on more bodies has an edge from its
+-- first dynamic body to each later one. A live constraint constrains its bodies. What is joined by one list and then by another is joined by both together: so a loop over the
+-- constraints joins them all.
 use Prim.Native.Nat.{ℕ, ◌+◌, ◌*◌, ◌≤◌, ◌<◌}
 use native.Mathlib.Omega.{arith}
-use native.Mathlib.Decide.{ℕ_discrete}
+use native.Mathlib.Decide.{ℕ_discrete, dec_lt}
+use native.Mathlib.Numerals.{add-one}
 use mathlib.Core.Path.{◌≡◌, refl, sym, ap, ◌∙◌, subst}
-use mathlib.Core.Bool.{Bool, true, false, ◌&&◌, ◌||◌, cond}
-use mathlib.Core.List.{List, [], ◌∷◌, ◌++◌, append_assoc, append-nil}
+use mathlib.Core.Bool.{Bool, true, false, ◌&&◌, ◌||◌, cond, and-true, or-false}
+use mathlib.Core.List.{List, [], ◌∷◌, ◌++◌, map, append_assoc, append-nil}
 use lib.Dec.{eqb}
-use lib.ListN.{length, get_or, set, drop, length-set}
-use lib.Seq.{get_or-set_same, get_or-set_other}
+use lib.ListN.{length, get_or, set, take, drop, length-set, drop_of_length-le}
+use lib.Seq.{get_or-set_same, get_or-set_other, drop-cons, take_all}
 use borrow.Author.Tests.{eqb-true, eq-eqb, ne_eqb}
-use Rattle.lists.specs.Basics.{any, all}
-use Rattle.lists.proofs.Laws.{and_left, and_right, and_both, not-true-false, any_append, all_append, cond-or}
+use Rattle.lists.specs.Basics.{filter, any, all, mem}
+use Rattle.lists.proofs.Laws.{and_left, and_right, and_both, clashes, not-true-false, any_append, all_append, cond-or}
 use Rattle.lists.proofs.Ranges.{joinMap-append}
-use Rattle.frame.specs.Frames.{Constraint, Frame, constraint, constraintsOf, dynamic, on, sound, none}
-use Rattle.frame.proofs.Pairs.{pairs-step, pairs_end}
+use Rattle.lists.proofs.Scans.{any_next}
+use Rattle.frame.specs.Frames.{Constraint, Frame, constraint, dynamic, on, sound, none}
 use Rattle.island_sets.specs.Sets.{rootOf, hang}
 use Rattle.island_sets.specs.Steps.{Sets}
 use Rattle.island_labels.specs.Labels.{bare}
+use Rattle.island_labels.proofs.Labelling.{tied}
 use Rattle.connected_sets.specs.Islands.{Edge, star, edgesOf, edges, hangAll}
-use Rattle.island_joins.specs.Joins.{Joined, JoinedOrRefused}
+use Rattle.island_joins.specs.Joins.{FirstDynamic, Joined, JoinedOrRefused}
 use Rattle.connected_sets.proofs.Weights.{hangAll-append}
 
 -- ---- what one pair joins
-abbrev edge : ℕ → ℕ → Edge
+abbrev pub edge : ℕ → ℕ → Edge
 edge a b = record { from = a; to = b }
 
 pairs : (u v : Bool) (a b : ℕ) → star (cond u (a ∷ cond v (b ∷ []) []) (cond v (b ∷ []) [])) ≡ cond (u && v) (edge a b ∷ []) []
@@ -51,7 +54,73 @@ module _ (n : ℕ) (g : ℕ → ℕ) (ts : List ℕ) (a b : ℕ) where
     pub join-on : u * 256 + v ≡ 514 → hang n g a b ≡ hangAll n g (edgesOf (bare ts) (constraint true a b))
     join-on e = sym (joined ∙ rw (eq-eqb (get_or ts a 0) 2 (omega arith), eq-eqb (get_or ts b 0) 2 (omega arith)))
 
--- ---- what one pair constrains
+-- ---- what bodies bs join: the first dynamic one is at place r
+module _ (ts bs : List ℕ) where
+  abbrev pub dynamics : ℕ → List ℕ
+  dynamics i = filter (dynamic (bare ts)) (drop i bs)
+
+  abbrev pub at : ℕ → ℕ
+  at i = get_or bs i 0
+
+  dynamics_next : (i : ℕ) → i < length bs → dynamics i ≡ cond (dynamic (bare ts) (at i)) (at i ∷ dynamics (i + 1)) (dynamics (i + 1))
+  dynamics_next i h = ap (filter (dynamic (bare ts))) (drop-cons bs i 0 h) ∙ ap (λ (n : ℕ). cond (dynamic (bare ts) (at i)) (at i ∷ dynamics n) (dynamics n)) (sym (add-one i))
+
+  dynamics_end : (i : ℕ) → length bs ≤ i → dynamics i ≡ []
+  dynamics_end i h = ap (filter (dynamic (bare ts))) (drop_of_length-le bs {i = i} h)
+
+  -- the search for it, at place i
+  pub first-turns : (i : ℕ) → dynamics i ≡ dynamics 0 → i < length bs → (get_or ts (at i) 0 ≡ 2 → ⊥) → dynamics (i + 1) ≡ dynamics 0
+  unfolding dynamic
+  first-turns i e h n = sym (dynamics_next i h ∙ rw (ne_eqb (get_or ts (at i) 0) 2 n)) ∙ e
+
+  pub first-found : (i : ℕ) → dynamics i ≡ dynamics 0 → i < length bs → get_or ts (at i) 0 ≡ 2 → FirstDynamic ts bs i
+  unfolding dynamic
+  first-found i e k t = record { inside = omega (arith, k); skipped = e; here = λ h. eq-eqb (get_or ts (at i) 0) 2 t }
+
+  pub first-nowhere : (i : ℕ) → dynamics i ≡ dynamics 0 → length bs ≡ i → FirstDynamic ts bs i
+  first-nowhere i e h = record { inside = omega (arith, h); skipped = e; here = λ k. absurd (omega arith) }
+
+  -- it is joined with each later one: the loop, at place i
+  pub record Starring (r : ℕ) (p₀ p s : List ℕ) (i : ℕ) : Type 0 where
+    pub above : r < i
+    pub sets : Sets p s
+    pub long : length p ≡ length ts
+    pub roots : hangAll (length ts) (rootOf p) (map (edge (at r)) (dynamics i)) ≡ hangAll (length ts) (rootOf p₀) (edgesOf (bare ts) (tied true bs))
+
+  module _ (r : ℕ) (f : FirstDynamic ts bs r) where
+    star_is : star (dynamics 0) ≡ map (edge (at r)) (dynamics (r + 1))
+    star_is = go (dec_lt r (length bs))
+      where
+        go : Dec (r < length bs) → star (dynamics 0) ≡ map (edge (at r)) (dynamics (r + 1))
+        go (yes h) = ap star (sym f.skipped ∙ dynamics_next r h) ∙ rw (f.here h)
+        go (no n) = ap star (sym f.skipped ∙ dynamics_end r (omega arith)) ∙ ap (map (edge (at r))) (sym (dynamics_end (r + 1) (omega arith)))
+
+    pub starring-starts : (p s : List ℕ) → Sets p s → length p ≡ length ts → Starring r p p s (r + 1)
+    unfolding edgesOf
+    starring-starts p s h e = record { above = omega arith; sets = h; long = e; roots = ap (hangAll (length ts) (rootOf p)) (sym star_is) }
+
+    module _ (p₀ p s : List ℕ) (i : ℕ) (w : Starring r p₀ p s i) where
+      step : (t u : Bool) (g : ℕ → ℕ) (b : ℕ) (ds : List ℕ) → t ≡ true → hangAll (length ts) (hangAll (length ts) g (star (cond t (at r ∷ cond u (b ∷ []) []) (cond u (b ∷ []) [])))) (map (edge (at r)) ds) ≡ hangAll (length ts) g (map (edge (at r)) (cond u (b ∷ ds) ds))
+      step t true g b ds e = rw e
+      step t false g b ds e = rw e
+
+      pub starring-turns : (p' s' : List ℕ) → i < length bs → Sets p' s' → length p' ≡ length p → rootOf p' ≡ hangAll (length ts) (rootOf p) (edgesOf (bare ts) (constraint true (at r) (at i))) → Starring r p₀ p' s' (i + 1)
+      unfolding edgesOf
+      starring-turns p' s' h k e q = record {
+        above = omega (arith, w.above);
+        sets = k;
+        long = e ∙ w.long;
+        roots =
+            ap (λ (g : ℕ → ℕ). hangAll (length ts) g (map (edge (at r)) (dynamics (i + 1)))) q
+            ∙ step (dynamic (bare ts) (at r)) (dynamic (bare ts) (at i)) (rootOf p) (at i) (dynamics (i + 1)) (f.here (omega (arith, w.above)))
+            ∙ ap (λ (ds : List ℕ). hangAll (length ts) (rootOf p) (map (edge (at r)) ds)) (sym (dynamics_next i h))
+            ∙ w.roots;
+      }
+
+      pub starring-ends : length bs ≤ i → rootOf p ≡ hangAll (length ts) (rootOf p₀) (edgesOf (bare ts) (tied true bs))
+      starring-ends h = ap (λ (ds : List ℕ). hangAll (length ts) (rootOf p) (map (edge (at r)) ds)) (sym (dynamics_end i h)) ∙ w.roots
+
+-- ---- which bodies are constrained
 constrain-one : (l : List ℕ) (a x : ℕ) → a < length l → get_or (set l a 0) x none ≡ cond (eqb x a) 0 (get_or l x none)
 constrain-one l a x h = go (ℕ_discrete x a)
   where
@@ -59,33 +128,46 @@ constrain-one l a x h = go (ℕ_discrete x a)
     go (yes e) = rw (e, eq-eqb a a refl) (get_or-set_same l a 0 none h)
     go (no n) = rw (ne_eqb x a n) (get_or-set_other l a x 0 none n)
 
-either : (u v : Bool) (n : ℕ) → cond v 0 (cond u 0 n) ≡ cond (true && (u || (v || false)) || false) 0 n
-either true true n = refl
-either true false n = refl
-either false true n = refl
-either false false n = refl
-
-constrain-two : (l : List ℕ) (a b x : ℕ) → a < length l → b < length l → get_or (set (set l a 0) b 0) x none ≡ cond (any (on x) (constraint true a b ∷ [])) 0 (get_or l x none)
-unfolding on
+-- two of them
+pub constrain-two : (l : List ℕ) (a b x : ℕ) → a < length l → b < length l → get_or (set (set l a 0) b 0) x none ≡ cond (mem x (a ∷ b ∷ [])) 0 (get_or l x none)
 constrain-two l a b x h k =
     constrain-one (set l a 0) b x (rw length-set k)
     ∙ ap (λ (n : ℕ). cond (eqb x b) 0 n) (constrain-one l a x h)
-    ∙ either (eqb x a) (eqb x b) (get_or l x none)
+    ∙ cond-or (eqb x a) (eqb x b) 0 (get_or l x none)
+    ∙ ap (λ (t : Bool). cond (eqb x a || t) 0 (get_or l x none)) (sym (or-false (eqb x b)))
+
+-- the loop over bodies bs, at place i
+pub record Constraining (bs l₀ l : List ℕ) (i : ℕ) : Type 0 where
+  pub long : length l ≡ length l₀
+  pub labels : (x : ℕ) → get_or l x none ≡ cond (mem x (take i bs)) 0 (get_or l₀ x none)
+
+pub constraining-turns : (bs l₀ l : List ℕ) (i : ℕ) → Constraining bs l₀ l i → i < length bs → get_or bs i 0 < length l → Constraining bs l₀ (set l (get_or bs i 0) 0) (i + 1)
+constraining-turns bs l₀ l i w h k = record {
+  long = length-set l (get_or bs i 0) 0 ∙ w.long;
+  labels = λ x.
+      constrain-one l (get_or bs i 0) x k
+      ∙ ap (λ (n : ℕ). cond (eqb x (get_or bs i 0)) 0 n) (w.labels x)
+      ∙ cond-or (mem x (take i bs)) (eqb x (get_or bs i 0)) 0 (get_or l₀ x none)
+      ∙ ap (λ (t : Bool). cond t 0 (get_or l₀ x none)) (sym (any_next (eqb x) bs i h));
+}
+
+pub constraining-ends : (bs l₀ l : List ℕ) (i : ℕ) → Constraining bs l₀ l i → length bs ≤ i → (x : ℕ) → get_or l x none ≡ cond (mem x bs) 0 (get_or l₀ x none)
+constraining-ends bs l₀ l i w h x = w.labels x ∙ ap (λ (ys : List ℕ). cond (mem x ys) 0 (get_or l₀ x none)) (take_all i bs h)
 
 -- ---- one constraint
-module _ (ts p l : List ℕ) (t : Bool) (a b : ℕ) where
-  pub joined-dead : (s : List ℕ) → Sets p s → t ≡ false → Joined ts (constraint t a b ∷ []) p l p s l
+module _ (ts p l : List ℕ) (t : Bool) (bs : List ℕ) where
+  pub joined-dead : (s : List ℕ) → Sets p s → t ≡ false → Joined ts (tied t bs ∷ []) p l p s l
   unfolding edges edgesOf on
   joined-dead s h e = record { sets = h; roots = rw e; constrained = λ x. rw e }
 
-  pub joined-live : (p' s' l' : List ℕ) → Sets p' s' → t ≡ true → a < length l → b < length l
-      → rootOf p' ≡ hangAll (length ts) (rootOf p) (edgesOf (bare ts) (constraint true a b)) → l' ≡ set (set l a 0) b 0
-      → Joined ts (constraint t a b ∷ []) p l p' s' l'
-  unfolding edges
-  joined-live p' s' l' h e ha hb r m = record {
+  pub joined-live : (p' s' l' : List ℕ) → Sets p' s' → t ≡ true
+      → rootOf p' ≡ hangAll (length ts) (rootOf p) (edgesOf (bare ts) (tied true bs)) → ((x : ℕ) → get_or l' x none ≡ cond (mem x bs) 0 (get_or l x none))
+      → Joined ts (tied t bs ∷ []) p l p' s' l'
+  unfolding edges on
+  joined-live p' s' l' h e r m = record {
     sets = h;
-    roots = rw e (r ∙ ap (hangAll (length ts) (rootOf p)) (sym (append-nil (edgesOf (bare ts) (constraint true a b)))));
-    constrained = λ x. rw e (ap (λ (k : List ℕ). get_or k x none) m ∙ constrain-two l a b x ha hb);
+    roots = rw e (r ∙ ap (hangAll (length ts) (rootOf p)) (sym (append-nil (edgesOf (bare ts) (tied true bs)))));
+    constrained = λ x. rw e (m x ∙ ap (λ (u : Bool). cond u 0 (get_or l x none)) (sym (or-false (mem x bs))));
   }
 
 -- ---- two lists of constraints together
@@ -123,49 +205,44 @@ module _ (ts : List ℕ) (cs ds : List Constraint) (p₀ l₀ p₁ s₁ l₁ : L
   pub tried-both : r ≡ true → (p₂ s₂ l₂ : List ℕ) (r₂ : Bool) → JoinedOrRefused ts ds p₁ l₁ p₂ s₂ l₂ r₂ → JoinedOrRefused ts (cs ++ ds) p₀ l₀ p₂ s₂ l₂ r₂
   tried-both e p₂ s₂ l₂ r₂ v = record { answer = v.answer ∙ sym (both-lists true e); joined = λ t. joined-append ts cs ds p₀ l₀ p₁ s₁ l₁ p₂ s₂ l₂ (u.joined e) (v.joined t) }
 
--- ---- the loop over the pairs, at entry k of ps and constraint i: the constraints before are done, and passed question 7
-pub record Joining (ts ps es p₀ l₀ p s l : List ℕ) (k i : ℕ) : Type 0 where
-  pub near : i ≤ k
-  pub inside : k ≤ length ps
+-- ---- the loop over constraints cs, of which these are left: those before are done, and passed question 7
+pub record Joining (ts : List ℕ) (cs left : List Constraint) (p₀ l₀ p s l : List ℕ) : Type 0 where
   pub long-p : length p ≡ length p₀
   pub long-l : length l ≡ length l₀
   pub done : List Constraint
-  pub whole : done ++ constraintsOf (drop k ps) (drop i es) ≡ constraintsOf ps es
+  pub whole : done ++ left ≡ cs
   pub passed : all (sound (length ts)) done ≡ true
   pub joined : Joined ts done p₀ l₀ p s l
 
-pub joining-starts : (ts ps es p s l : List ℕ) → Sets p s → Joining ts ps es p l p s l 0 0
-joining-starts ts ps es p s l h = record { near = omega arith; inside = omega arith; long-p = refl; long-l = refl; done = []; whole = refl; passed = refl; joined = joined-none ts p s l h }
+pub joining-starts : (ts : List ℕ) (cs : List Constraint) (p s l : List ℕ) → Sets p s → Joining ts cs cs p l p s l
+joining-starts ts cs p s l h = record { long-p = refl; long-l = refl; done = []; whole = refl; passed = refl; joined = joined-none ts p s l h }
 
-module _ (ts ps es p₀ l₀ p s l : List ℕ) (k i : ℕ) (w : Joining ts ps es p₀ l₀ p s l k i) where
-  abbrev here : Bool → Constraint
-  here t = constraint t (get_or ps k 0) (get_or ps (k + 1) 0)
+module _ (ts : List ℕ) (cs left : List Constraint) (p₀ l₀ p s l : List ℕ) (w : Joining ts cs left p₀ l₀ p s l) where
+  asked-both : all (sound (length ts)) cs ≡ all (sound (length ts)) left
+  asked-both = ap (all (sound (length ts))) (sym w.whole) ∙ all_append (sound (length ts)) w.done left ∙ rw w.passed
 
-  asked-both : all (sound (length ts)) (constraintsOf ps es) ≡ all (sound (length ts)) (constraintsOf (drop k ps) (drop i es))
-  asked-both = ap (all (sound (length ts))) (sym w.whole) ∙ all_append (sound (length ts)) w.done (constraintsOf (drop k ps) (drop i es)) ∙ rw w.passed
+  -- the next of them, c, is tried
+  module _ (c : Constraint) (rest : List Constraint) (e : left ≡ c ∷ rest) (p' s' l' : List ℕ) (r : Bool) (j : JoinedOrRefused ts (c ∷ []) p l p' s' l' r) where
+    pub joining-turns : r ≡ true → length p' ≡ length p → length l' ≡ length l → Joining ts cs rest p₀ l₀ p' s' l'
+    joining-turns ok ep el = record {
+      long-p = ep ∙ w.long-p;
+      long-l = el ∙ w.long-l;
+      done = w.done ++ (c ∷ []);
+      whole = append_assoc w.done (c ∷ []) rest ∙ ap (λ (ds : List Constraint). w.done ++ ds) (sym e) ∙ w.whole;
+      passed = all_append (sound (length ts)) w.done (c ∷ []) ∙ and_both (all (sound (length ts)) w.done) (all (sound (length ts)) (c ∷ [])) w.passed (sym j.answer ∙ ok);
+      joined = joined-append ts w.done (c ∷ []) p₀ l₀ p s l p' s' l' w.joined (j.joined ok);
+    }
 
-  pub joining-turns : (p' s' l' : List ℕ) (t : Bool) → k + 1 < length ps → t ≡ eqb (get_or es i 1) 1 → all (sound (length ts)) (here t ∷ []) ≡ true
-      → length p' ≡ length p → length l' ≡ length l → Joined ts (here t ∷ []) p l p' s' l' → Joining ts ps es p₀ l₀ p' s' l' (k + 2) (i + 1)
-  joining-turns p' s' l' t h e ok ep el j = record {
-    near = omega (arith, w.near);
-    inside = omega arith;
-    long-p = ep ∙ w.long-p;
-    long-l = el ∙ w.long-l;
-    done = w.done ++ (here t ∷ []);
-    whole =
-        append_assoc w.done (here t ∷ []) (constraintsOf (drop (k + 2) ps) (drop (i + 1) es))
-        ∙ ap (λ (u : Bool). w.done ++ (here u ∷ constraintsOf (drop (k + 2) ps) (drop (i + 1) es))) e
-        ∙ ap (λ (cs : List Constraint). w.done ++ cs) (sym (pairs-step ps es k i h))
-        ∙ w.whole;
-    passed = all_append (sound (length ts)) w.done (here t ∷ []) ∙ and_both (all (sound (length ts)) w.done) (all (sound (length ts)) (here t ∷ [])) w.passed ok;
-    joined = joined-append ts w.done (here t ∷ []) p₀ l₀ p s l p' s' l' w.joined j;
-  }
+    pub joining-stops : r ≡ false → JoinedOrRefused ts cs p₀ l₀ p' s' l' false
+    joining-stops bad = record {
+      answer = sym (asked-both ∙ ap (all (sound (length ts))) e ∙ ap (λ (t : Bool). t && all (sound (length ts)) rest) (sym (and-true (sound (length ts) c)) ∙ sym j.answer ∙ bad));
+      joined = λ t. clashes false t refl;
+    }
 
-  all_done : length ps ≤ k + 1 → w.done ≡ constraintsOf ps es
-  all_done h = sym (append-nil w.done) ∙ ap (λ (cs : List Constraint). w.done ++ cs) (sym (pairs_end ps (drop i es) k h)) ∙ w.whole
-
-  pub joining-passes : length ps ≤ k + 1 → all (sound (length ts)) (constraintsOf ps es) ≡ true
-  joining-passes h = ap (all (sound (length ts))) (sym (all_done h)) ∙ w.passed
-
-  pub joining-ends : length ps ≤ k + 1 → Joined ts (constraintsOf ps es) p₀ l₀ p s l
-  joining-ends h = subst (λ (cs : List Constraint). Joined ts cs p₀ l₀ p s l) (all_done h) w.joined
+  pub joining-ends : left ≡ [] → JoinedOrRefused ts cs p₀ l₀ p s l true
+  joining-ends e =
+      let all_done : w.done ≡ cs = sym (append-nil w.done) ∙ ap (λ (ds : List Constraint). w.done ++ ds) (sym e) ∙ w.whole in
+      record {
+        answer = sym (ap (all (sound (length ts))) (sym all_done) ∙ w.passed);
+        joined = λ t. subst (λ (ds : List Constraint). Joined ts ds p₀ l₀ p s l) all_done w.joined;
+      }

@@ -1,7 +1,7 @@
 -- What joining constraints leaves.
-use Rattle.std.specs.Prelude.{ℕ, ◌≡◌, Bool, true, cond, List, length, get_or}
-use Rattle.lists.specs.Basics.{any, all}
-use Rattle.frame.specs.Frames.{Constraint, on, sound, none}
+use Rattle.std.specs.Prelude.{ℕ, ◌≡◌, ◌<◌, ◌≤◌, Bool, true, cond, List, length, get_or, drop}
+use Rattle.lists.specs.Basics.{filter, any, all}
+use Rattle.frame.specs.Frames.{Constraint, dynamic, on, sound, none}
 use Rattle.connected_sets.specs.Islands.{edges, hangAll}
 use Rattle.island_sets.specs.Sets.{rootOf}
 use Rattle.island_sets.specs.Steps.{Sets}
@@ -12,6 +12,12 @@ pub record Fit (ts p s l : List ℕ) : Type 0 where
   pub sets : Sets p s
   pub long-parents : length p ≡ length ts
   pub long-bodies : length l ≡ length ts
+
+-- r is the place of the first dynamic body in bs, or its length where none is: the dynamic ones stand from there on
+pub record FirstDynamic (ts bs : List ℕ) (r : ℕ) : Type 0 where
+  pub inside : r ≤ length bs
+  pub skipped : filter (dynamic (bare ts)) (drop r bs) ≡ filter (dynamic (bare ts)) bs
+  pub here : r < length bs → dynamic (bare ts) (get_or bs r 0) ≡ true
 
 -- the constraints cs join the sets of p₀, in order, and constrain the bodies that they are on in l₀
 pub record Joined (ts : List ℕ) (cs : List Constraint) (p₀ l₀ p s l : List ℕ) : Type 0 where

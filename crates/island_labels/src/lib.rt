@@ -1,9 +1,9 @@
 // The labels of bodies and constraints, once the constraints are joined. Internal: stages of an islands call.
 #![tactic(auto)]
 
-ghost use Rattle.std.specs.Prelude.{◌≡◌, true, cond, map, ◌<◌, ◌≤◌, length};
+ghost use Rattle.std.specs.Prelude.{◌≡◌, true, cond, map, min, ◌<◌, ◌≤◌, length};
 ghost use Rattle.lists.specs.Basics.{all};
-ghost use Rattle.frame.specs.Frames.{constraint, constraintsOf, sound};
+ghost use Rattle.frame.specs.Frames.{constraint, constraintsOf, counted_of, endCount, joints_of, sound};
 ghost use Rattle.island_sets.specs.Steps.{Balanced};
 ghost use Rattle.island_labels.specs.Labels.{inIslandBy, Numberable, Flagged, Stepped, NumberedByLowest, labelBy};
 
@@ -71,6 +71,16 @@ pub fn number(body_types: &[u8], parents: &[u16], body_islands: &mut [u16]) -> u
     islands
 }
 
+// The lower of two labels.
+fn lower(a: u16, b: u16) -> u16
+    ensures { result ≡ min a b }
+{
+    if a < b {
+        return a;
+    }
+    b
+}
+
 // The label of one constraint: none if it is not live, else the lower of its bodies' labels. Two dynamic bodies have the
 // same, and any other body has none, above every label.
 fn label_one(body_islands: &[u16], live: bool, a: u16, b: u16) -> u16
@@ -80,12 +90,7 @@ fn label_one(body_islands: &[u16], live: bool, a: u16, b: u16) -> u16
     if !live {
         return NONE;
     }
-    let island_a = body_islands[a as usize];
-    let island_b = body_islands[b as usize];
-    if island_a < island_b {
-        return island_a;
-    }
-    island_b
+    lower(body_islands[a as usize], body_islands[b as usize])
 }
 
 // The label of each constraint of a list.
@@ -103,4 +108,65 @@ pub fn label_all(pairs: &[u16], enabled: &[u8], body_islands: &[u16], labels: &m
         k += 2;
         i += 1;
     }
+}
+
+// The label of one constraint on any number of bodies: none if it is not live, else the least of its bodies' labels, as `label_one`.
+fn label_ends(body_islands: &[u16], live: bool, ends: &[u16]) -> u16
+    requires { sound (length body_islands.now) (record { ends = ends.now; live = live }) ≡ true }
+    ensures { result ≡ labelBy body_islands.now (record { ends = ends.now; live = live }) }
+{
+    if !live {
+        return NONE;
+    }
+    let mut least = NONE;
+    // `least` is the least of the labels of the bodies before `place`.
+    for place in 0..ends.len() {
+        least = lower(least, body_islands[ends[place] as usize]);
+    }
+    least
+}
+
+// The label of each constraint of a list with a count each: their bodies stand in `ends`, constraint after constraint.
+fn label_counted(
+    ends: &[u16],
+    counts: &[u8],
+    enabled: &[u8],
+    body_islands: &[u16],
+    labels: &mut [u16],
+)
+    requires { (endCount counts.now ≤ length ends.now)
+        × (length labels.old ≡ length (counted_of counts.now ends.now enabled.now))
+        × (all (sound (length body_islands.now)) (counted_of counts.now ends.now enabled.now) ≡ true) }
+    ensures { labels.new ≡ map (labelBy body_islands.now) (counted_of counts.now ends.now enabled.now) }
+{
+    let mut start: usize = 0;
+    let mut i: usize = 0;
+    // The first i constraints have their labels; the bodies of the next stand from `start` on.
+    while i < counts.len() {
+        let live = frame::live_at(enabled, i);
+        let end = start + frame::wide(counts[i]);
+        labels[i] = label_ends(body_islands, live, &ends[start..end]);
+        start = end;
+        i += 1;
+    }
+}
+
+// The labels of a frame's joints: pairs where there are no counts.
+pub fn label_joints(
+    ends: &[u16],
+    counts: &[u8],
+    enabled: &[u8],
+    body_islands: &[u16],
+    labels: &mut [u16],
+)
+    requires { (endCount counts.now ≤ length ends.now)
+        × (length labels.old ≡ length (joints_of counts.now ends.now enabled.now))
+        × (all (sound (length body_islands.now)) (joints_of counts.now ends.now enabled.now) ≡ true) }
+    ensures { labels.new ≡ map (labelBy body_islands.now) (joints_of counts.now ends.now enabled.now) }
+{
+    if counts.len() == 0 {
+        label_all(ends, enabled, body_islands, labels);
+        return;
+    }
+    label_counted(ends, counts, enabled, body_islands, labels);
 }

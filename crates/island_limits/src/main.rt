@@ -143,6 +143,34 @@ fn show_joints(
     report(name, answer, parents, sizes, body_islands);
 }
 
+// A frame of joints that have counts.
+fn show_counted(
+    name: &[u8],
+    body_types: &[u8],
+    joint_ends: &[u16],
+    joint_counts: &[u8],
+    enabled: &[u8],
+    parents: &mut [u16],
+    sizes: &mut [u16],
+    body_islands: &mut [u16],
+    joint_islands: &mut [u16],
+) {
+    let mut manifold_islands = [0; 1];
+    let answer = island::build_with_multi_joints(
+        body_types,
+        &joint_ends[..0],
+        joint_ends,
+        joint_counts,
+        enabled,
+        parents,
+        sizes,
+        body_islands,
+        &mut manifold_islands[..0],
+        joint_islands,
+    );
+    report(name, answer, parents, sizes, body_islands);
+}
+
 // 4,096 bodies in one chain, and 4,095 on one static body.
 fn most_bodies() {
     let mut body_types = [2; 4096];
@@ -317,6 +345,64 @@ fn joint_tables() {
     );
 }
 
+// Joint i is on the bodies i, i + 1, i + 2 and i + 3 of 4,096, around their end.
+fn fill_ends(ends: &mut [u16]) {
+    let mut k = 0;
+    // The first k endpoints are those of the first joints.
+    while k < ends.len() {
+        ends[k] = ((k / 4 + k % 4) % 4096) as u16;
+        k += 1;
+    }
+}
+
+// The most joints, of four bodies each.
+fn most_joints() {
+    let body_types = [2; 4096];
+    let counts = [4; 4096];
+    let enabled = [1; 4096];
+    let mut ends = [0; 16384];
+    let mut parents = [0; 4096];
+    let mut sizes = [0; 4096];
+    let mut body_islands = [0; 4096];
+    let mut labels = [0; 4096];
+    fill_ends(&mut ends);
+    show_counted(
+        b"4096 joints of four",
+        &body_types,
+        &ends,
+        &counts,
+        &enabled,
+        &mut parents,
+        &mut sizes,
+        &mut body_islands,
+        &mut labels,
+    );
+}
+
+// One joint too many.
+fn too_many_joints() {
+    let body_types = [2; 4];
+    let counts = [4; 4097];
+    let enabled = [1; 4097];
+    let mut ends = [0; 16388];
+    let mut parents = [0; 4];
+    let mut sizes = [0; 4];
+    let mut body_islands = [0; 4];
+    let mut labels = [0; 4097];
+    fill_ends(&mut ends);
+    show_counted(
+        b"4097 joints of four",
+        &body_types,
+        &ends,
+        &counts,
+        &enabled,
+        &mut parents,
+        &mut sizes,
+        &mut body_islands,
+        &mut labels,
+    );
+}
+
 // One body too many.
 fn too_many_bodies() {
     let body_types = [2; 4097];
@@ -351,5 +437,7 @@ fn main() {
     short_tables();
     size_tables();
     joint_tables();
+    most_joints();
+    too_many_joints();
     too_many_bodies();
 }

@@ -1,7 +1,7 @@
-// The samples of weighted union and of logged bodies, each an islands call on fresh tables, a line each: how many islands, then of each body its root, the
-// links to it and the size at the root, then the labels of bodies, manifolds and joints, where a dash is none. After a refusal the
-// two tables of parents and sizes are printed as they were left, with a dash for a place that was not lent. Every lent place holds 9
-// before the call.
+// The samples of weighted union, of logged bodies and of joints with two to four bodies, each an islands call on fresh tables, a line
+// each: how many islands, then of each body its root, the links to it and the size at the root, then the labels of bodies, manifolds
+// and joints, where a dash is none. After a refusal the two tables of parents and sizes are printed as they were left. A place that was
+// not lent is a dash too; every lent place holds 9 before the call.
 #![tactic(auto)]
 
 use island::Answer;
@@ -120,6 +120,27 @@ fn put_answer(answer: Answer, bodies: usize, parents: &[u16], sizes: &[u16]) {
     }
 }
 
+// The line of one frame: the answer, and the labels of so many bodies, manifolds and joints.
+fn put_line(
+    name: &[u8],
+    answer: Answer,
+    bodies: usize,
+    manifolds: usize,
+    joints: usize,
+    parents: &[u16],
+    sizes: &[u16],
+    body_islands: &[u16],
+    manifold_islands: &[u16],
+    joint_islands: &[u16],
+) {
+    io::write_all(STDOUT, name);
+    put_answer(answer, bodies, parents, sizes);
+    put_values(b" bodies", body_islands, bodies);
+    put_values(b" manifolds", manifold_islands, manifolds);
+    put_values(b" joints", joint_islands, joints);
+    io::write_all(STDOUT, b"\n");
+}
+
 // The line of one frame, at most 16 bodies, 8 manifolds and 7 joints, on these two tables.
 fn show(
     name: &[u8],
@@ -144,12 +165,58 @@ fn show(
         &mut manifold_islands,
         &mut joint_islands,
     );
-    io::write_all(STDOUT, name);
-    put_answer(answer, body_types.len(), parents, sizes);
-    put_values(b" bodies", &body_islands, body_types.len());
-    put_values(b" manifolds", &manifold_islands, manifolds.len() / 2);
-    put_values(b" joints", &joint_islands, joints.len() / 2);
-    io::write_all(STDOUT, b"\n");
+    put_line(
+        name,
+        answer,
+        body_types.len(),
+        manifolds.len() / 2,
+        joints.len() / 2,
+        parents,
+        sizes,
+        &body_islands,
+        &manifold_islands,
+        &joint_islands,
+    );
+}
+
+// The line of one frame whose joints have counts, on these five tables.
+fn show_counted(
+    name: &[u8],
+    body_types: &[u8],
+    manifolds: &[u16],
+    joint_ends: &[u16],
+    joint_counts: &[u8],
+    enabled: &[u8],
+    parents: &mut [u16],
+    sizes: &mut [u16],
+    body_islands: &mut [u16],
+    manifold_islands: &mut [u16],
+    joint_islands: &mut [u16],
+) {
+    let answer = island::build_with_multi_joints(
+        body_types,
+        manifolds,
+        joint_ends,
+        joint_counts,
+        enabled,
+        parents,
+        sizes,
+        body_islands,
+        manifold_islands,
+        joint_islands,
+    );
+    put_line(
+        name,
+        answer,
+        body_types.len(),
+        manifolds.len() / 2,
+        joint_counts.len(),
+        parents,
+        sizes,
+        body_islands,
+        manifold_islands,
+        joint_islands,
+    );
 }
 
 // A frame of manifolds.
@@ -236,12 +303,212 @@ fn logged_samples() {
     sample(b"type 4", &[2, 4], &[0, 1]);
 }
 
+// A frame whose joints have counts, on tables for 8 bodies, 4 manifolds and 4 joints.
+fn counted_sample(
+    name: &[u8],
+    body_types: &[u8],
+    manifolds: &[u16],
+    joint_ends: &[u16],
+    joint_counts: &[u8],
+    enabled: &[u8],
+) {
+    show_counted(
+        name,
+        body_types,
+        manifolds,
+        joint_ends,
+        joint_counts,
+        enabled,
+        &mut [9u16; 8],
+        &mut [9u16; 8],
+        &mut [9u16; 8],
+        &mut [9u16; 4],
+        &mut [9u16; 4],
+    );
+}
+
+// Joints of two to four bodies connect their dynamic bodies, whatever the others are.
+fn counted_samples() {
+    counted_sample(b"static end first", &[2, 2, 0], &[], &[2, 0, 1], &[3], &[1]);
+    counted_sample(b"first with each", &[2; 4], &[], &[3, 2, 1, 0], &[4], &[1]);
+    counted_sample(
+        b"third end",
+        &[2; 4],
+        &[],
+        &[0, 1, 3, 2, 1],
+        &[3, 2],
+        &[1, 1],
+    );
+    counted_sample(
+        b"logged among four",
+        &[0, 2, 3, 2],
+        &[],
+        &[0, 1, 2, 3],
+        &[4],
+        &[1],
+    );
+    counted_sample(
+        b"two, three and four",
+        &[2, 2, 3, 2, 0, 2],
+        &[0, 2, 3, 4],
+        &[3, 2, 5, 1, 0, 4, 9, 9, 4, 5, 1, 2],
+        &[3, 3, 2, 4],
+        &[1, 1, 0, 1],
+    );
+    counted_sample(b"none dynamic", &[3, 3, 0], &[0, 1], &[0, 1, 2], &[3], &[1]);
+    counted_sample(
+        b"around static and kinematic",
+        &[2, 0, 1, 2, 2],
+        &[3, 4],
+        &[0, 1, 2, 3],
+        &[4],
+        &[1],
+    );
+    counted_sample(
+        b"disabled joint of three",
+        &[2; 3],
+        &[],
+        &[0, 1, 2],
+        &[3],
+        &[0],
+    );
+    counted_sample(b"no counts", &[2; 2], &[0, 1], &[], &[], &[]);
+}
+
+// What questions 4, 5 and 7 refuse of joints with counts. Question 5 is asked of disabled joints too, and question 7 is not.
+fn refused_counts() {
+    counted_sample(b"count 5", &[2; 5], &[], &[0, 1, 2, 3, 4], &[5], &[1]);
+    counted_sample(
+        b"count 5 disabled",
+        &[2; 5],
+        &[],
+        &[0, 1, 2, 3, 4],
+        &[5],
+        &[0],
+    );
+    counted_sample(b"count 0", &[2; 2], &[], &[], &[0], &[1]);
+    counted_sample(
+        b"two enabled bytes",
+        &[2, 2, 0],
+        &[],
+        &[2, 0, 1],
+        &[3],
+        &[1, 1],
+    );
+    counted_sample(
+        b"counts 1 and 5",
+        &[2; 6],
+        &[],
+        &[0, 1, 2, 3, 4, 5],
+        &[1, 5],
+        &[1, 1],
+    );
+    counted_sample(
+        b"counts 1 and 4",
+        &[2; 6],
+        &[],
+        &[0, 1, 2, 3, 4, 5],
+        &[1, 4],
+        &[1, 1],
+    );
+    counted_sample(b"ends without counts", &[2; 2], &[], &[0, 1], &[], &[]);
+    counted_sample(b"one end twice", &[2; 3], &[], &[0, 1, 0], &[3], &[1]);
+    counted_sample(
+        b"one end twice disabled",
+        &[2; 3],
+        &[],
+        &[0, 1, 0],
+        &[3],
+        &[0],
+    );
+    counted_sample(b"end B", &[2; 3], &[], &[0, 1, 3], &[3], &[1]);
+}
+
+// One manifold and one joint of three bodies, on these tables.
+fn room_sample(
+    name: &[u8],
+    parents: &mut [u16],
+    sizes: &mut [u16],
+    body_islands: &mut [u16],
+    manifold_islands: &mut [u16],
+    joint_islands: &mut [u16],
+) {
+    show_counted(
+        name,
+        &[2; 3],
+        &[0, 1],
+        &[2, 1, 0],
+        &[3],
+        &[1],
+        parents,
+        sizes,
+        body_islands,
+        manifold_islands,
+        joint_islands,
+    );
+}
+
+// Tables of just its size, and each of them with an entry too few.
+fn room_samples() {
+    room_sample(
+        b"room",
+        &mut [9u16; 3],
+        &mut [9u16; 3],
+        &mut [9u16; 3],
+        &mut [9u16; 1],
+        &mut [9u16; 1],
+    );
+    room_sample(
+        b"short parents",
+        &mut [9u16; 2],
+        &mut [9u16; 3],
+        &mut [9u16; 3],
+        &mut [9u16; 1],
+        &mut [9u16; 1],
+    );
+    room_sample(
+        b"short sizes",
+        &mut [9u16; 3],
+        &mut [9u16; 2],
+        &mut [9u16; 3],
+        &mut [9u16; 1],
+        &mut [9u16; 1],
+    );
+    room_sample(
+        b"short body labels",
+        &mut [9u16; 3],
+        &mut [9u16; 3],
+        &mut [9u16; 2],
+        &mut [9u16; 1],
+        &mut [9u16; 1],
+    );
+    room_sample(
+        b"short manifold labels",
+        &mut [9u16; 3],
+        &mut [9u16; 3],
+        &mut [9u16; 3],
+        &mut [9u16; 0],
+        &mut [9u16; 1],
+    );
+    room_sample(
+        b"short joint labels",
+        &mut [9u16; 3],
+        &mut [9u16; 3],
+        &mut [9u16; 3],
+        &mut [9u16; 1],
+        &mut [9u16; 0],
+    );
+}
+
 // Every sample of request 7, in the order of its page; besides, two pairs of which the lower body asked has the higher root, a size table
-// that is too short, and logged bodies.
+// that is too short, logged bodies, and joints of two to four bodies.
 fn main() {
     dynamic_samples();
     eight_pairs();
     labelled_samples();
     refused_samples();
     logged_samples();
+    counted_samples();
+    refused_counts();
+    room_samples();
 }

@@ -3,29 +3,24 @@
 use Prim.Native.Nat.{ℕ, ◌*◌, ◌/◌}
 use mathlib.Core.Path.{◌≡◌, refl, sym, ap, ap₂, ◌∙◌}
 use mathlib.Core.Bool.{Bool, true, false, not, ◌&&◌, ◌||◌, or-false, or-true, or_assoc}
-use mathlib.Core.List.{List, [], ◌∷◌}
+use mathlib.Core.List.{List, ◌∷◌}
 use native.Mathlib.Omega.{arith}
 use lib.Dec.{eqb}
 use lib.ListN.{length, take}
-use lib.Seq.{take_at}
 use borrow.Author.Tests.{eqb-true, eq-eqb}
-use Rattle.lists.specs.Basics.{any, over, same}
-use Rattle.lists.proofs.Laws.{and_left, and_right, and_both, by_cases, bool-ext, clashes}
-use Rattle.groups.specs.Groups.{planFrom, plan_of, pairsOf, colorsOf, groupCount, largestGroup, flatten, colorFrom}
+use Rattle.lists.specs.Basics.{any, same}
+use Rattle.lists.proofs.Laws.{and_left, and_right, and_both, by_cases, bool-ext}
+use Rattle.groups.specs.Groups.{planFrom, pairsOf, colorsOf, groupCount, largestGroup, flatten, colorFrom}
 use Rattle.groups.proofs.Pairs.{pairs-length}
 use Rattle.plan_questions.specs.Plans.{Tables, roomy}
 use Rattle.constraint_coloring.specs.declared.ConstraintColoring.{ConstraintColoring}
 use Rattle.constraint_coloring.specs.declared.Update.{Update}
-use Rattle.constraint_coloring.specs.Calls.{updateChanged, planAfter, freshPlan, holds, refusalWith, changesWith, written, Updated}
+use Rattle.constraint_coloring.specs.Calls.{updateChanged, planAfter, freshPlan, holds, refusalWith, changesWith, Updated}
 use Rattle.constraint_coloring.proofs.Accepted.{accepted}
-use Rattle.constraint_coloring.proofs.Updates.{written-not, written_new}
 use Rattle.plan_history.specs.Memory.{Memory, fresh, changes, remembered, Input, Answered, answers}
 use Rattle.plan_history.specs.History.{answer_of, History, still, step, memoryAfter, Stands, Standing}
 use Rattle.plan_history.proofs.Memory.{same-eq}
-
-same_refl : (xs : List ℕ) → same xs xs ≡ true
-same_refl [] = refl
-same_refl (x ∷ xs) = and_both (eqb x x) (same xs xs) (eq-eqb x x refl) (same_refl xs)
+use Rattle.plan_history.proofs.Held.{stand-same, held-new, held-old, held-fresh}
 
 -- ---- the test for equal input
 
@@ -53,19 +48,19 @@ module _ (flags pairs mf mp D E : List ℕ) (df : Stands mf D) (ep : Stands mp E
       let x = and_right (bodies && counts) first (and_left (bodies && counts && first) second h) in
       let y = and_right (bodies && counts && first) second h in
       and_both (same flags mf) (same pairs mp)
-      (ap (same flags) (sym (ap (λ (k : ℕ). take k D) b ∙ df)) ∙ x)
-      (ap (same pairs) (sym (ap (λ (k : ℕ). take k E) l ∙ ep)) ∙ y)
+      (sym (stand-same flags mf D df b) ∙ x)
+      (sym (stand-same pairs mp E ep l) ∙ y)
 
   equal : (same flags mf && same pairs mp) ≡ true → (bodies && counts && first && second) ≡ true
   equal h =
-      let f = same-eq flags mf (and_left (same flags mf) (same pairs mp) h) in
-      let p = same-eq pairs mp (and_right (same flags mf) (same pairs mp) h) in
-      let l : length pairs / 2 ≡ length (pairsOf mp) = sym (pairs-length (length pairs / 2) mp (sym (ap length p) ∙ even)) in
+      let x = and_left (same flags mf) (same pairs mp) h in
+      let y = and_right (same flags mf) (same pairs mp) h in
+      let f = ap length (same-eq flags mf x) in
+      let p = ap length (same-eq pairs mp y) in
+      let l : length pairs / 2 ≡ length (pairsOf mp) = sym (pairs-length (length pairs / 2) mp (sym p ∙ even)) in
       and_both (bodies && counts && first) second
-      (and_both (bodies && counts) first
-      (and_both bodies counts (eq-eqb (length flags) (length mf) (ap length f)) (eq-eqb (length pairs / 2) (length (pairsOf mp)) l))
-      (ap (same flags) (ap (λ (xs : List ℕ). take (length xs) D) f ∙ df ∙ sym f) ∙ same_refl flags))
-      (ap (same pairs) (ap (λ (xs : List ℕ). take (length xs) E) p ∙ ep ∙ sym p) ∙ same_refl pairs)
+      (and_both (bodies && counts) first (and_both bodies counts (eq-eqb (length flags) (length mf) f) (eq-eqb (length pairs / 2) (length (pairsOf mp)) l)) (stand-same flags mf D df f ∙ x))
+      (stand-same pairs mp E ep p ∙ y)
 
   test-is : (bodies && counts && first && second) ≡ (same flags mf && same pairs mp)
   test-is = bool-ext (bodies && counts && first && second) (same flags mf && same pairs mp) tested equal
@@ -75,12 +70,6 @@ module _ (flags pairs mf mp D E : List ℕ) (df : Stands mf D) (ep : Stands mp E
 record Remembers (begun : Bool) (m : Memory) (p : ConstraintColoring) (t : Tables) : Type 0 where
   pub standing : Standing begun m p t
   pub even : Even m.pairs
-
-stand-new : (ch : Bool) (new old table : List ℕ) → table ≡ written ch new old → ch ≡ true → Stands new table
-stand-new ch new old table e y = ap (take (length new)) (e ∙ ap (λ (b : Bool). written b new old) y ∙ sym (written_new new old (over new old) refl)) ∙ take_at new _ (length new) refl
-
-stand-old : (ch : Bool) (s new old table : List ℕ) → table ≡ written ch new old → ch ≡ false → Stands s old → Stands s table
-stand-old ch s new old table e n h = ap (take (length s)) (e ∙ sym (written-not ch new old n)) ∙ h
 
 module _ (begun : Bool) (m : Memory) (p : ConstraintColoring) (t u : Tables) (flags pairs : List ℕ) (r : Update) (h : Remembers begun m p t) (w : Updated p flags pairs t u r) where
   abbrev room : Bool
@@ -94,7 +83,7 @@ module _ (begun : Bool) (m : Memory) (p : ConstraintColoring) (t u : Tables) (fl
   unfolding holds planFrom
   holds-is even =
       ap (λ (q : ConstraintColoring). eqb (length flags) q.body_count && eqb (length pairs / 2) q.constraint_count && same flags (take (length flags) t.dynamic-bodies) && same pairs (take (length pairs) t.endpoints)) h.standing.plan
-      ∙ test-is flags pairs m.flags m.pairs t.dynamic-bodies t.endpoints h.standing.dynamic-bodies h.standing.endpoints even h.even
+      ∙ test-is flags pairs m.flags m.pairs t.dynamic-bodies t.endpoints h.standing.tables.dynamic-bodies h.standing.tables.endpoints even h.even
 
   changes-is : ch ≡ changes m flags pairs room
   unfolding changesWith refusalWith changes
@@ -110,42 +99,10 @@ module _ (begun : Bool) (m : Memory) (p : ConstraintColoring) (t u : Tables) (fl
   changed-even y = (accepted flags pairs t (eqb-true (refusalWith t flags pairs) 0 (and_left (eqb (refusalWith t flags pairs) 0) (not (holds p t flags pairs)) y))).even
 
   after-new : ch ≡ true → Remembers true (record { flags = flags; pairs = pairs }) (planAfter p r) u
-  after-new y =
-      let d = plan_of flags pairs in
-      record {
-        standing =
-            record {
-              plan = w.plan ∙ rw y;
-              dynamic-bodies = stand-new ch flags _ _ w.tables.dynamic-bodies y;
-              endpoints = stand-new ch pairs _ _ w.tables.endpoints y;
-              constraint-colors = stand-new ch d.colors _ _ w.tables.constraint-colors y;
-              color-offsets = λ b. stand-new ch d.color-offsets _ _ w.tables.color-offsets y;
-              colored-constraints = stand-new ch d.colored-constraints _ _ w.tables.colored-constraints y;
-              color-body-offsets = λ b. stand-new ch d.color-body-offsets _ _ w.tables.color-body-offsets y;
-              color-bodies = stand-new ch d.color-bodies _ _ w.tables.color-bodies y;
-              constraint-body-positions = stand-new ch d.positions _ _ w.tables.constraint-body-positions y;
-            };
-        even = changed-even y;
-      }
+  after-new y = record { standing = record { plan = w.plan ∙ rw y; tables = held-new ch w.tables y }; even = changed-even y }
 
   after-old : ch ≡ false → Remembers begun m (planAfter p r) u
-  after-old n =
-      let s = h.standing in
-      record {
-        standing =
-            record {
-              plan = w.plan ∙ rw n s.plan;
-              dynamic-bodies = stand-old ch _ _ _ _ w.tables.dynamic-bodies n s.dynamic-bodies;
-              endpoints = stand-old ch _ _ _ _ w.tables.endpoints n s.endpoints;
-              constraint-colors = stand-old ch _ _ _ _ w.tables.constraint-colors n s.constraint-colors;
-              color-offsets = λ b. stand-old ch _ _ _ _ w.tables.color-offsets n (s.color-offsets b);
-              colored-constraints = stand-old ch _ _ _ _ w.tables.colored-constraints n s.colored-constraints;
-              color-body-offsets = λ b. stand-old ch _ _ _ _ w.tables.color-body-offsets n (s.color-body-offsets b);
-              color-bodies = stand-old ch _ _ _ _ w.tables.color-bodies n s.color-bodies;
-              constraint-body-positions = stand-old ch _ _ _ _ w.tables.constraint-body-positions n s.constraint-body-positions;
-            };
-        even = h.even;
-      }
+  after-old n = record { standing = record { plan = w.plan ∙ rw n h.standing.plan; tables = held-old ch w.tables begun m.flags m.pairs _ n h.standing.tables }; even = h.even }
 
   after : Remembers (begun || updateChanged r) (remembered m flags pairs room) (planAfter p r) u
   unfolding remembered
@@ -174,22 +131,7 @@ history-from {p} {q} {t} {v} begun m h (step {u = u} {ins = ins} {outs = outs} f
 
 fresh-remembers : (t : Tables) → Remembers false fresh freshPlan t
 unfolding planFrom colorsOf groupCount largestGroup flatten colorFrom
-fresh-remembers t =
-    record {
-      standing =
-          record {
-            plan = refl;
-            dynamic-bodies = refl;
-            endpoints = refl;
-            constraint-colors = refl;
-            color-offsets = λ e. clashes false e refl;
-            colored-constraints = refl;
-            color-body-offsets = λ e. clashes false e refl;
-            color-bodies = refl;
-            constraint-body-positions = refl;
-          };
-      even = refl;
-    }
+fresh-remembers t = record { standing = record { plan = refl; tables = held-fresh t }; even = refl }
 
 -- the memory theorem: after any list of updates from a fresh plan the answers are the definition's, and plan and tables hold what is remembered
 pub memory : {q : ConstraintColoring} {t v : Tables} {ins : List Input} {outs : List Answered} → History freshPlan t ins outs q v

@@ -1,6 +1,7 @@
 -- Histories: updates of one plan on one set of tables, one after another, with nobody else writing between.
 use Rattle.std.specs.Prelude.{ℕ, ◌≡◌, Bool, true, List, [], ◌∷◌, length, take}
 use Rattle.frame.specs.Questions.{pairCount}
+use Rattle.groups.specs.Groups.{Plan}
 use Rattle.plan_questions.specs.Plans.{Tables, roomy}
 use Rattle.constraint_coloring.specs.declared.ConstraintColoring.{ConstraintColoring}
 use Rattle.constraint_coloring.specs.declared.Update.{Update}
@@ -28,14 +29,18 @@ memoryAfter m (i ∷ ins) = memoryAfter (remembered m i.flags i.pairs i.room) in
 abbrev pub Stands : List ℕ → List ℕ → Type 0
 Stands new table = take (length new) table ≡ new
 
--- plan and tables hold what the definitions give for what is remembered; the offset tables do from the first "changed" on
+-- tables hold these flags and endpoints, and what the plan d gives; the offset tables do from the first "changed" on
+pub record Held (begun : Bool) (flags ends : List ℕ) (d : Plan) (t : Tables) : Type 0 where
+  pub dynamic-bodies : Stands flags t.dynamic-bodies
+  pub endpoints : Stands ends t.endpoints
+  pub constraint-colors : Stands d.colors t.constraint-colors
+  pub color-offsets : begun ≡ true → Stands d.color-offsets t.color-offsets
+  pub colored-constraints : Stands d.colored-constraints t.colored-constraints
+  pub color-body-offsets : begun ≡ true → Stands d.color-body-offsets t.color-body-offsets
+  pub color-bodies : Stands d.color-bodies t.color-bodies
+  pub constraint-body-positions : Stands d.positions t.constraint-body-positions
+
+-- plan and tables hold what the definitions give for what is remembered
 pub record Standing (begun : Bool) (m : Memory) (p : ConstraintColoring) (t : Tables) : Type 0 where
   pub plan : p ≡ carried (planFor m)
-  pub dynamic-bodies : Stands m.flags t.dynamic-bodies
-  pub endpoints : Stands m.pairs t.endpoints
-  pub constraint-colors : Stands (planFor m).colors t.constraint-colors
-  pub color-offsets : begun ≡ true → Stands (planFor m).color-offsets t.color-offsets
-  pub colored-constraints : Stands (planFor m).colored-constraints t.colored-constraints
-  pub color-body-offsets : begun ≡ true → Stands (planFor m).color-body-offsets t.color-body-offsets
-  pub color-bodies : Stands (planFor m).color-bodies t.color-bodies
-  pub constraint-body-positions : Stands (planFor m).positions t.constraint-body-positions
+  pub tables : Held begun m.flags m.pairs (planFor m) t

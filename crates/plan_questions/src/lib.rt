@@ -8,7 +8,48 @@ ghost use Rattle.plan_questions.specs.Plans.{updateRefusal, part, groupPart};
 
 use frame::Frame;
 
-// Question 6: is there room for `b` bodies and `c` constraints in tables of these lengths?
+// Question 6: is there room for `b` bodies, `c` constraints and `e` endpoints in tables of these lengths?
+pub fn roomy_with(
+    b: usize,
+    c: usize,
+    e: usize,
+    dynamic_bodies: usize,
+    endpoints: usize,
+    body_offsets: usize,
+    body_constraints: usize,
+    scratch_offsets: usize,
+    constraint_colors: usize,
+    color_stamps: usize,
+    body_stamps: usize,
+    color_offsets: usize,
+    colored_constraints: usize,
+    color_body_offsets: usize,
+    color_bodies: usize,
+    constraint_body_positions: usize,
+) -> bool
+    ensures { result ≡ (leb b dynamic_bodies && leb e endpoints && leb (b + 1) body_offsets
+        && leb e body_constraints && leb b scratch_offsets && leb c scratch_offsets
+        && leb c constraint_colors && leb c color_stamps && leb b body_stamps
+        && leb (c + 1) color_offsets && leb c colored_constraints && leb (c + 1) color_body_offsets
+        && leb e color_bodies && leb e constraint_body_positions) }
+{
+    (b <= dynamic_bodies)
+        & (e <= endpoints)
+        & (b < body_offsets)
+        & (e <= body_constraints)
+        & (b <= scratch_offsets)
+        & (c <= scratch_offsets)
+        & (c <= constraint_colors)
+        & (c <= color_stamps)
+        & (b <= body_stamps)
+        & (c < color_offsets)
+        & (c <= colored_constraints)
+        & (c < color_body_offsets)
+        & (e <= color_bodies)
+        & (e <= constraint_body_positions)
+}
+
+// The same where each constraint has two endpoints; the first test keeps their number from running over.
 pub fn roomy(
     b: usize,
     c: usize,
@@ -32,20 +73,27 @@ pub fn roomy(
         && leb (c + 1) color_offsets && leb c colored_constraints && leb (c + 1) color_body_offsets
         && leb (2 * c) color_bodies && leb (2 * c) constraint_body_positions) }
 {
-    (b <= dynamic_bodies)
-        & (c <= endpoints / 2)
-        & (b < body_offsets)
-        & (c <= body_constraints / 2)
-        & (b <= scratch_offsets)
-        & (c <= scratch_offsets)
-        & (c <= constraint_colors)
-        & (c <= color_stamps)
-        & (b <= body_stamps)
-        & (c < color_offsets)
-        & (c <= colored_constraints)
-        & (c < color_body_offsets)
-        & (c <= color_bodies / 2)
-        & (c <= constraint_body_positions / 2)
+    if endpoints / 2 < c {
+        return false;
+    }
+    roomy_with(
+        b,
+        c,
+        2 * c,
+        dynamic_bodies,
+        endpoints,
+        body_offsets,
+        body_constraints,
+        scratch_offsets,
+        constraint_colors,
+        color_stamps,
+        body_stamps,
+        color_offsets,
+        colored_constraints,
+        color_body_offsets,
+        color_bodies,
+        constraint_body_positions,
+    )
 }
 
 // Questions 3 to 7, where `room` answers 6; 0 where all get a "yes".
@@ -71,7 +119,7 @@ pub fn update_refusal(flags: &[u8], pairs: &[u16], room: bool) -> u8
 }
 
 // Whether two lists of flags are the same, place by place.
-fn same_flags(a: &[u8], b: &[u8]) -> bool
+pub fn same_flags(a: &[u8], b: &[u8]) -> bool
     requires { length b.now ≡ length a.now }
     ensures { result ≡ same a.now b.now }
 {
@@ -86,8 +134,8 @@ fn same_flags(a: &[u8], b: &[u8]) -> bool
     true
 }
 
-// The same of endpoint pairs.
-fn same_pairs(a: &[u16], b: &[u16]) -> bool
+// The same of endpoints.
+pub fn same_pairs(a: &[u16], b: &[u16]) -> bool
     requires { length b.now ≡ length a.now }
     ensures { result ≡ same a.now b.now }
 {

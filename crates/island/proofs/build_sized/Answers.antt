@@ -3,7 +3,7 @@ use Rattle.std.proofs.Common.{ℕ, List, Bool, true, false, ◌≡◌, length, r
 use mathlib.Core.Bool.{not, cond}
 use Rattle.lists.specs.Basics.{range}
 use Rattle.lists.proofs.Laws.{clashes}
-use Rattle.frame.specs.Frames.{Frame, frame_of, constraints, allSound, none}
+use Rattle.frame.specs.Frames.{Frame, frame_with, constraints, allSound, none}
 use Rattle.island_sets.specs.Sets.{rootOf}
 use Rattle.island_sets.specs.Steps.{Sets}
 use Rattle.island_sets.proofs.Starts.{fresh}
@@ -17,10 +17,10 @@ use Rattle.island.proofs.build_sized.Goals as goal
 alone : (f : Frame) (p₀ s₀ b m j p z : List ℕ) → Sized f p₀ b m j → length s₀ ≡ length p₀ → p ≡ range (length p₀) → z ≡ replicate (length s₀) 1 → Sets p z × (rootOf p ≡ (λ (x : ℕ). x))
 alone f p₀ s₀ b m j p z h e = fresh (length p₀) (length s₀) p z (omega (arith, h.few, h.long-parents)) e
 
-pub join_frame-requires : goal.join_frame-requires
-join_frame-requires c =
+pub join_frame-requires-clause-fit : goal.join_frame-requires-clause-fit
+join_frame-requires-clause-fit c =
     let a = c.args in
-    let f = frame_of a.body_types.now a.manifolds.now a.joints.now a.enabled.now in
+    let f = frame_with a.body_types.now a.manifolds.now a.joint_ends.now a.joint_counts.now a.enabled.now in
     let r = c.reset in
     let q = c.requires in
     record {
@@ -33,7 +33,7 @@ pub returns-then-not-join_frame : goal.returns-then-not-join_frame
 unfolding allSound
 returns-then-not-join_frame c =
     let a = c.args in
-    let f = frame_of a.body_types.now a.manifolds.now a.joints.now a.enabled.now in
+    let f = frame_with a.body_types.now a.manifolds.now a.joint_ends.now a.joint_counts.now a.enabled.now in
     let h = c.requires in
     let j = c.join_frame in
     let r = c.reset in
@@ -69,11 +69,11 @@ module _ (f : Frame) (p₀ s₀ b₀ m j p₁ s₁ b₁ p s b : List ℕ) (h : S
   joined-sets : WeighedSets f p s
   joined-sets = weighed-sets f p₁ b₁ p s b m j (length b₀) roots eb fits w
 
-pub label_frame-requires : goal.label_frame-requires
+pub label_frame-requires-clause-ready : goal.label_frame-requires-clause-ready
 unfolding allSound
-label_frame-requires c =
+label_frame-requires-clause-ready c =
     let a = c.args in
-    let f = frame_of a.body_types.now a.manifolds.now a.joints.now a.enabled.now in
+    let f = frame_with a.body_types.now a.manifolds.now a.joint_ends.now a.joint_counts.now a.enabled.now in
     let h = c.requires in
     let r = c.reset in
     let j = c.join_frame in
@@ -85,7 +85,7 @@ pub returns : goal.returns
 unfolding allSound
 returns c =
     let a = c.args in
-    let f = frame_of a.body_types.now a.manifolds.now a.joints.now a.enabled.now in
+    let f = frame_with a.body_types.now a.manifolds.now a.joint_ends.now a.joint_counts.now a.enabled.now in
     let h = c.requires in
     let r = c.reset in
     let j = c.join_frame in

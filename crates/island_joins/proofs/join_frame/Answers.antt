@@ -1,6 +1,6 @@
 -- `island_joins::join_frame` meets its contract: a frame's constraints are its manifolds and then its joints.
 use Rattle.std.proofs.Common.{[]}
-use Rattle.frame.specs.Frames.{constraintsOf}
+use Rattle.frame.specs.Frames.{constraintsOf, joints_of}
 use Rattle.island_joins.proofs.Joining.{tried-both}
 use Rattle.island_joins.proofs.join_frame.Goals as goal
 
@@ -8,6 +8,6 @@ pub returns : goal.returns
 returns c =
     let a = c.args in
     let f = c.join_all in
-    let g = c.join_all-2 in
-    tried-both a.body_types.now (constraintsOf a.manifolds.now []) (constraintsOf a.joints.now a.enabled.now) a.parents.now a.body_islands.now f.new.parents f.new.sizes f.new.body_islands f.result f.ensures c.if-not-join_all.false
+    let g = c.join_joints in
+    tried-both a.body_types.now (constraintsOf a.manifolds.now []) (joints_of a.joint_counts.now a.joint_ends.now a.enabled.now) a.parents.now a.body_islands.now f.new.parents f.new.sizes f.new.body_islands f.result f.ensures c.if-not-join_all.false
     g.new.parents g.new.sizes g.new.body_islands g.result g.ensures

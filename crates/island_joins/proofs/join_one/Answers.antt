@@ -1,8 +1,9 @@
 -- `island_joins::join_one` meets its contract: a constraint that is not live joins and constrains nothing, a live one that passes question 7 has its bodies inside the tables.
-use Rattle.std.proofs.Common.{ℕ, ◌<◌, length, sym, ◌∙◌, subst}
+use Rattle.std.proofs.Common.{ℕ, ◌<◌, [], ◌∷◌, get_or, length, sym, ap, ◌∙◌, subst}
 use mathlib.Core.Bool.{and-true}
+use Rattle.frame.specs.Frames.{none}
 use Rattle.frame.proofs.Pairs.{sound-in}
-use Rattle.island_joins.proofs.Joining.{joined-dead, joined-live}
+use Rattle.island_joins.proofs.Joining.{constrain-two, joined-dead, joined-live}
 use Rattle.island_joins.proofs.join_one.Goals as goal
 
 pub returns-then-not-live : goal.returns-then-not-live
@@ -10,7 +11,7 @@ returns-then-not-live c =
     let a = c.args in
     record {
       answer = sym c.if-not-sound_one.false ∙ c.sound_one.ensures ∙ sym (and-true _);
-      joined = λ e. joined-dead a.body_types.now a.parents.now a.body_islands.now a.live a.a a.b a.sizes.now c.requires.sets c.if-not-live.true;
+      joined = λ e. joined-dead a.body_types.now a.parents.now a.body_islands.now a.live (a.a ∷ a.b ∷ []) a.sizes.now c.requires.sets c.if-not-live.true;
     }
 
 pub constrain-requires : goal.constrain-requires
@@ -32,6 +33,6 @@ returns c =
     let j = c.join_dynamic in
     record {
       answer = sym c.if-not-sound_one.false ∙ c.sound_one.ensures ∙ sym (and-true _);
-      joined = λ e. joined-live a.body_types.now a.parents.now a.body_islands.now a.live a.a a.b j.new.parents j.new.sizes c.constrain.new.body_islands j.ensures.0 c.if-not-live.false
-          (subst (λ (n : ℕ). a.a < n) (sym c.requires.long-bodies) h.0) (subst (λ (n : ℕ). a.b < n) (sym c.requires.long-bodies) h.1) j.ensures.1 c.constrain.ensures;
+      joined = λ e. joined-live a.body_types.now a.parents.now a.body_islands.now a.live (a.a ∷ a.b ∷ []) j.new.parents j.new.sizes c.constrain.new.body_islands j.ensures.0 c.if-not-live.false j.ensures.1
+          (λ x. ap (λ l. get_or l x none) c.constrain.ensures ∙ constrain-two a.body_islands.now a.a a.b x (subst (λ (n : ℕ). a.a < n) (sym c.requires.long-bodies) h.0) (subst (λ (n : ℕ). a.b < n) (sym c.requires.long-bodies) h.1));
     }

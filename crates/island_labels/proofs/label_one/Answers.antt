@@ -10,14 +10,8 @@ bounds-body_islands-a c = (sound-in c.args.live c.args.a c.args.b (length c.args
 pub bounds-body_islands-b : goal.bounds-body_islands-b
 bounds-body_islands-b c = (sound-in c.args.live c.args.a c.args.b (length c.args.body_islands.now) c.if-not-live.false c.requires).1
 
-pub returns-then-island_a-island_b : goal.returns-then-island_a-island_b
-returns-then-island_a-island_b c =
-    let a = c.args in
-    let h = sound-in a.live a.a a.b (length a.body_islands.now) c.if-not-live.false c.requires in
-    label-live a.body_islands.now a.live a.a a.b _ c.if-not-live.false h.0 h.1 (omega arith) (omega (arith, c.type_inv.body_islands a.b))
-
 pub returns : goal.returns
 returns c =
     let a = c.args in
     let h = sound-in a.live a.a a.b (length a.body_islands.now) c.if-not-live.false c.requires in
-    label-live a.body_islands.now a.live a.a a.b _ c.if-not-live.false h.0 h.1 (omega arith) (omega (arith, c.type_inv.body_islands a.b))
+    label-live a.body_islands.now a.live a.a a.b c.lower.result c.if-not-live.false h.0 h.1 (omega arith) (omega (arith, c.type_inv.body_islands a.b))

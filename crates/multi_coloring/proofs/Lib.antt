@@ -1,0 +1,4 @@
+pub mod Questions
+pub mod Accepted
+pub mod Updates
+pub mod Lookups

@@ -1,0 +1,59 @@
+-- The lookup of positions: where a constraint's positions start, by the counts before it as they are read, that they end inside the table, and
+-- how they stand in four places.
+use Prim.Native.Nat.{ℕ, ◌+◌, ◌≤◌, ◌<◌}
+use mathlib.Core.Path.{◌≡◌, refl, sym, ap, ◌∙◌}
+use mathlib.Core.List.{List, [], ◌∷◌, ◌++◌, map}
+use native.Mathlib.Omega.{arith}
+use lib.Dec.{leb}
+use lib.ListN.{length, get_or, take, drop, replicate, length-map, length-drop}
+use lib.Seq.{length-take-le, get_or-take}
+use borrow.Author.Tests.{leb-true}
+use Rattle.std.proofs.lemmas.List.{take-map, take-take}
+use Rattle.lists.specs.Basics.{four}
+use Rattle.lists.proofs.Laws.{and_right, by_cases, getD-map-lt}
+use Rattle.frame.specs.Frames.{counted, endCount}
+use Rattle.parts.specs.Steps.{ends_before}
+use Rattle.parts.proofs.Bounds.{ends-more, ends-up, ends-all, counted-at}
+use Rattle.multi_coloring.specs.Counts.{count_read, counts_read, positions_in}
+
+-- a count that is read is at most four
+pub read-most : (c : ℕ) → count_read c ≤ 4
+read-most c = by_cases (counted c) (λ e. rw e (leb-true c 4 (and_right (leb 2 c) (leb c 4) e))) (λ e. rw e (omega arith))
+
+-- up to four positions, copied over four places
+copied : (xs : List ℕ) → length xs ≤ 4 → xs ++ drop (length xs) (replicate 4 0) ≡ four xs
+unfolding four
+copied [] h = refl
+copied (a ∷ []) h = refl
+copied (a ∷ b ∷ []) h = refl
+copied (a ∷ b ∷ d ∷ []) h = refl
+copied (a ∷ b ∷ d ∷ e ∷ []) h = refl
+copied (a ∷ b ∷ d ∷ e ∷ f ∷ r) h = absurd (omega arith)
+
+pub four-copied : (xs : List ℕ) (n : ℕ) → length xs ≡ n → n ≤ 4 → xs ++ drop n (replicate 4 0) ≡ four xs
+four-copied xs n l h = rw (← l) (copied xs (omega arith))
+
+module _ (n : ℕ) (counts table : List ℕ) (room : n ≤ length counts) (there : endCount (counts_read n counts) ≤ length table) (r start count : ℕ) (h : r < n) (s : start ≡ endCount (map count_read (take r counts))) (k : count ≡ count_read (get_or counts r 0)) where
+  abbrev read : List ℕ
+  read = counts_read n counts
+
+  read-length : length read ≡ n
+  read-length = length-map (take n counts) count_read ∙ length-take-le n counts room
+
+  -- the counts before, and the constraint's own
+  start-is : start ≡ ends_before read r
+  start-is = s ∙ ap endCount (ap (map count_read) (sym (take-take r n counts (omega arith))) ∙ sym (take-map count_read r (take n counts)))
+
+  own-is : count ≡ get_or read r 0
+  own-is = k ∙ ap count_read (sym (get_or-take n counts r 0 h)) ∙ sym (getD-map-lt count_read (take n counts) r 0 0 (omega (arith, length-take-le n counts room)))
+
+  -- they end inside the table
+  pub end-inside : start + count ≤ length table
+  end-inside = omega (arith, start-is, own-is, read-length, ends-more read r (omega (arith, read-length)), ends-up read (r + 1) (length read) (omega (arith, read-length)), ends-all read)
+
+  -- and are the definition's
+  pub positions-are : take count (drop start table) ≡ positions_in n counts table r
+  positions-are = rw (own-is, start-is) (counted-at read table r (omega (arith, read-length)))
+
+  pub count-is : count ≡ length (positions_in n counts table r)
+  count-is = sym (length-take-le count (drop start table) (omega (arith, length-drop start table, end-inside))) ∙ ap length positions-are

@@ -1,0 +1,14 @@
+-- Question 7 of constraints by their counts is that of live constraints with these endpoints.
+use Prim.Native.Nat.{ℕ}
+use mathlib.Core.Path.{◌≡◌, refl, ap}
+use mathlib.Core.Bool.{Bool, ◌&&◌}
+use mathlib.Core.List.{List, [], ◌∷◌}
+use lib.ListN.{take, drop}
+use Rattle.lists.specs.Basics.{all}
+use Rattle.frame.specs.Frames.{counted_of, sound, fits}
+use Rattle.groups.specs.Groups.{counted_parts}
+
+pub sound-counted : (n : ℕ) (counts ends : List ℕ) → all (sound n) (counted_of counts ends []) ≡ all (fits n) (counted_parts counts ends)
+unfolding sound
+sound-counted n [] ends = refl
+sound-counted n (c ∷ counts) ends = ap (λ (t : Bool). fits n (take c ends) && t) (sound-counted n counts (drop c ends))
