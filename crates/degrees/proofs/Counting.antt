@@ -12,7 +12,7 @@ use lib.ListN.{length, get_or, set, drop, replicate, length-set, length-replicat
 use lib.Seq.{get_or-set_same, get_or-set_other}
 use borrow.Author.Tests.{eqb-true, eqb-false, eq-eqb, ne_eqb, ltb-true, not-true}
 use Rattle.lists.specs.Basics.{one, all, count, max_of, range, mem}
-use Rattle.lists.proofs.Laws.{and_left, and_right, by_cases, or_right, mem-self, range-high, all_append, count-few}
+use Rattle.lists.proofs.Laws.{and_left, and_right, and_both, by_cases, or_right, mem-self, range-high, all_append, count-few}
 use Rattle.lists.proofs.Bits.{byte_one}
 use Rattle.lists.proofs.Ranges.{max-range-suc}
 use Rattle.lists.proofs.Sums.{sum-append}
@@ -84,9 +84,10 @@ module _ (ts counts : List ℕ) (live : Bool) (a b : ℕ) (h : Countable ts (con
             (λ r. rw (eqb-true x a r, counts-a, get_or-set_same counts a v 0 (apart-live e).a_in) (omega (arith, byte_one t)))
             (λ r. rw (get_or-set_other counts a x v 0 (eqb-false x a r), counts-live ts x live a b e t et, q, r) (omega (arith, ap one (never t))))))
 
-  pub counted-dead : live ≡ false → Counted ts (constraint live a b ∷ []) counts counts
-  unfolding touches
-  counted-dead e = record { each = λ x l. rw e (omega arith) }
+-- a dead constraint counts for no body
+pub counted-dead : (ts counts : List ℕ) (c : Constraint) → c.live ≡ false → Counted ts (c ∷ []) counts counts
+unfolding touches
+counted-dead ts counts c e = record { each = λ x l. rw e (omega arith) }
 
 -- ---- one after another
 
@@ -99,6 +100,14 @@ pub record Counting (ts : List ℕ) (cs rest : List Constraint) (old now : List 
 module _ {ts : List ℕ} {cs rest later : List Constraint} {c : Constraint} {old now : List ℕ} (h : Countable ts cs old) (g : Counting ts cs rest old now) (e : rest ≡ c ∷ later) where
   next : Counting ts cs (c ∷ later) old now
   next = rw e at g
+
+  -- the next one can be counted
+  pub counting-one : Countable ts (c ∷ []) now
+  counting-one = record {
+    sound = rw next.long (and_both (sound (length old) c) true (and_left (sound (length old) c) (all (sound (length old)) later) next.sound) refl);
+    long = next.long ∙ h.long;
+    fits = λ b k. omega (arith, next.long, next.each b (omega (arith, next.long)), h.fits b (omega (arith, next.long)));
+  }
 
   pub counting_more : (new : List ℕ) → length new ≡ length now → Counted ts (c ∷ []) now new → Counting ts cs later old new
   counting_more new l d = record {

@@ -1,10 +1,10 @@
 // D, internal to the frame run: the largest number of constraints with an island on one body that makes conflicts.
 #![tactic(auto)]
 
-ghost use Rattle.std.specs.Prelude.{◌≤◌, ◌<◌, ◌≡◌, true, [], ◌∷◌, length, get_or};
-ghost use Rattle.lists.specs.Basics.{max_of, range};
-ghost use Rattle.frame.specs.Frames.{constraint, constraints, constraintsOf, frame_of, touches, allSound, degreeMax};
-ghost use Rattle.degrees.specs.Counts.{Countable, Counted, counted};
+ghost use Rattle.std.specs.Prelude.{◌≤◌, ◌<◌, ◌≡◌, true, [], ◌∷◌, ltb, length, get_or};
+ghost use Rattle.lists.specs.Basics.{all, max_of, range};
+ghost use Rattle.frame.specs.Frames.{constraint, constraints, constraintsOf, counted_of, joints_of, frame_of, frame_with, endCount, touches, allSound, degreeMax};
+ghost use Rattle.degrees.specs.Counts.{CountsOf, Addable, Added, Countable, Counted, counted};
 
 // Whether a live constraint on these two bodies touches a dynamic one: then it has an island.
 fn touches(types: &[u8], a: u16, b: u16) -> bool
@@ -42,6 +42,86 @@ fn count_all(types: &[u8], pairs: &[u16], enabled: &[u8], counts: &mut [u16])
     }
 }
 
+// Whether one of these endpoints of a live constraint is a dynamic body: then it has an island.
+fn touches_any(types: &[u8], ends: &[u16]) -> bool
+    requires { all (λ b. ltb b (length types.now)) ends.now ≡ true }
+    ensures { result ≡ touches (frame_of types.now [] [] []) (record { ends = ends.now; live = true }) }
+{
+    let mut touched = false;
+    let mut i = 0;
+    // `touched` tells whether one of the first i endpoints is a dynamic body.
+    while i < ends.len() {
+        touched = touched | (types[ends[i] as usize] == 2);
+        i += 1;
+    }
+    touched
+}
+
+// Each of these endpoints counts this amount.
+fn count_ends(ends: &[u16], amount: u16, counts: &mut [u16])
+    requires { Addable amount ends.now counts.old }
+    ensures { Added amount ends.now counts.old counts.new }
+{
+    let mut k = 0;
+    // The first k endpoints have counted.
+    while k < ends.len() {
+        counts[ends[k] as usize] += amount;
+        k += 1;
+    }
+}
+
+// A live constraint that has an island counts for each of its bodies.
+fn count_part(types: &[u8], counts: &mut [u16], live: bool, ends: &[u16])
+    requires { Countable types.now (record { ends = ends.now; live = live } ∷ []) counts.old }
+    ensures { Counted types.now (record { ends = ends.now; live = live } ∷ []) counts.old counts.new }
+{
+    if live {
+        let one = touches_any(types, ends) as u16;
+        count_ends(ends, one, counts);
+    }
+}
+
+// The same of joints that have a count each: the endpoints of one start where those of the one before it end.
+fn count_counted(
+    types: &[u8],
+    ends: &[u16],
+    joint_counts: &[u8],
+    enabled: &[u8],
+    counts: &mut [u16],
+)
+    requires { (endCount joint_counts.now ≤ length ends.now) × Countable types.now (counted_of joint_counts.now ends.now enabled.now) counts.old }
+    ensures { Counted types.now (counted_of joint_counts.now ends.now enabled.now) counts.old counts.new }
+{
+    let mut start: usize = 0;
+    let mut joint: usize = 0;
+    // Each body's count has grown by the joints that count for it among those before `joint`, whose endpoints end at `start`.
+    while joint < joint_counts.len() {
+        let live = frame::live_at(enabled, joint);
+        let count = frame::wide(joint_counts[joint]);
+        count_part(types, counts, live, &ends[start..start + count]);
+        start += count;
+        joint += 1;
+    }
+}
+
+// The joints; without counts they are pairs.
+fn count_joints(
+    types: &[u8],
+    joints: &[u16],
+    joint_counts: &[u8],
+    enabled: &[u8],
+    counts: &mut [u16],
+)
+    requires { CountsOf joint_counts.now joints.now × Countable types.now (joints_of joint_counts.now joints.now enabled.now) counts.old }
+    ensures { Counted types.now (joints_of joint_counts.now joints.now enabled.now) counts.old counts.new }
+{
+    if joint_counts.len() == 0 {
+        count_all(types, joints, enabled, counts);
+    } else {
+        count_counted(types, joints, joint_counts, enabled, counts);
+    }
+}
+
 // What a body counts for.
 fn degree_of(body_type: u8, count: u16) -> u16
     ensures { result ≡ counted body_type count }
@@ -67,19 +147,21 @@ fn largest(types: &[u8], counts: &[u16]) -> usize
     most as usize
 }
 
-// D of a frame that passed question 7; `counts` is free.
+// D of a frame that passed question 7, whose joints have these counts; without counts they are pairs. The table `on_bodies` is free.
 pub fn degree(
     types: &[u8],
     manifolds: &[u16],
     joints: &[u16],
+    counts: &[u8],
     enabled: &[u8],
-    counts: &mut [u16],
+    on_bodies: &mut [u16],
 ) -> usize
-    requires { (length counts.old ≡ length types.now) × (allSound (frame_of types.now manifolds.now joints.now enabled.now) ≡ true) × (length (constraints (frame_of types.now manifolds.now joints.now enabled.now)) ≤ 8192) }
-    ensures { result ≡ degreeMax (frame_of types.now manifolds.now joints.now enabled.now) }
+    requires { (length on_bodies.old ≡ length types.now) × CountsOf counts.now joints.now
+        × (allSound (frame_with types.now manifolds.now joints.now counts.now enabled.now) ≡ true) × (length (constraints (frame_with types.now manifolds.now joints.now counts.now enabled.now)) ≤ 8192) }
+    ensures { result ≡ degreeMax (frame_with types.now manifolds.now joints.now counts.now enabled.now) }
 {
-    tables::fill(counts, 0);
-    count_all(types, manifolds, &[], counts);
-    count_all(types, joints, enabled, counts);
-    largest(types, counts)
+    tables::fill(on_bodies, 0);
+    count_all(types, manifolds, &[], on_bodies);
+    count_joints(types, joints, counts, enabled, on_bodies);
+    largest(types, on_bodies)
 }

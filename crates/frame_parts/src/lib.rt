@@ -3,19 +3,31 @@
 #![tactic(auto)]
 
 ghost use Rattle.std.specs.Prelude.{◌+◌, ◌*◌, ◌≤◌, ◌≡◌, cond, ◌++◌, eqb, length, take, drop};
-ghost use Rattle.frame.specs.Frames.{frame_of, degreeMax};
-ghost use Rattle.island.specs.Calls.{islandTablesOf, rooms_of, islandRefusal, Built};
+ghost use Rattle.frame.specs.Frames.{degreeMax};
+ghost use Rattle.island.specs.Calls.{islandTablesOf, rooms_of, Built};
 ghost use Rattle.island.specs.Answers.{answerNumber, answerIslands};
 ghost use Rattle.island_numbers.specs.Numbers.{byIsland, Labels, Sortable};
-ghost use Rattle.frame_parts.specs.Parts.{Countable};
+ghost use Rattle.frame_parts.specs.Parts.{standing_frame, standingRefusal, Countable};
 
 use island::Answer;
 
-// The islands.
+// The counts of the joints, behind the manifolds'; none if the constraints are pairs.
+fn joint_counts<'a>(counts: &'a [u8], manifolds: usize) -> &'a [u8]
+    requires { (length counts.now ≡ 0 → ⊥) → manifolds ≤ length counts.now }
+    ensures { result.now ≡ drop manifolds counts.now }
+{
+    if counts.len() == 0 {
+        return counts;
+    }
+    &counts[manifolds..]
+}
+
+// The islands; without counts the joints are pairs.
 pub fn build(
     types: &[u8],
     pairs: &[u16],
     manifolds: usize,
+    counts: &[u8],
     enabled: &[u8],
     parents: &mut [u16],
     sizes: &mut [u16],
@@ -23,15 +35,29 @@ pub fn build(
     manifold_islands: &mut [u16],
     joint_islands: &mut [u16],
 ) -> Answer
-    requires { 2 * manifolds ≤ length pairs.now }
-    ensures { Built (frame_of types.now (take (2 * manifolds) pairs.now) (drop (2 * manifolds) pairs.now) enabled.now)
-        (islandRefusal types.now (take (2 * manifolds) pairs.now) (drop (2 * manifolds) pairs.now) enabled.now
+    requires { (2 * manifolds ≤ length pairs.now) × ((length counts.now ≡ 0 → ⊥) → manifolds ≤ length counts.now) }
+    ensures { Built (standing_frame types.now pairs.now manifolds counts.now enabled.now)
+        (standingRefusal types.now pairs.now manifolds counts.now enabled.now
         (rooms_of (islandTablesOf parents.old sizes.old body_islands.old manifold_islands.old joint_islands.old)))
         (islandTablesOf parents.old sizes.old body_islands.old manifold_islands.old joint_islands.old)
         (islandTablesOf parents.new sizes.new body_islands.new manifold_islands.new joint_islands.new)
         (answerNumber result) (answerIslands result) }
 {
     let n = 2 * manifolds;
+    if counts.len() != 0 {
+        return island::build_with_multi_joints(
+            types,
+            &pairs[..n],
+            &pairs[n..],
+            joint_counts(counts, manifolds),
+            enabled,
+            parents,
+            sizes,
+            body_islands,
+            manifold_islands,
+            joint_islands,
+        );
+    }
     island::build_with_joints(
         types,
         &pairs[..n],
@@ -51,11 +77,12 @@ pub fn degree_of(
     types: &[u8],
     pairs: &[u16],
     manifolds: usize,
+    counts: &[u8],
     enabled: &[u8],
-    counts: &mut [u16],
+    on_bodies: &mut [u16],
 ) -> usize
-    requires { Countable refusal types.now pairs.now manifolds enabled.now counts.old }
-    ensures { result ≡ cond (eqb refusal 0) (degreeMax (frame_of types.now (take (2 * manifolds) pairs.now) (drop (2 * manifolds) pairs.now) enabled.now)) 0 }
+    requires { Countable refusal types.now pairs.now manifolds counts.now enabled.now on_bodies.old }
+    ensures { result ≡ cond (eqb refusal 0) (degreeMax (standing_frame types.now pairs.now manifolds counts.now enabled.now)) 0 }
 {
     if refusal != 0 {
         return 0;
@@ -65,8 +92,9 @@ pub fn degree_of(
         types,
         &pairs[..n],
         &pairs[n..],
+        joint_counts(counts, manifolds),
         enabled,
-        &mut counts[..types.len()],
+        &mut on_bodies[..types.len()],
     )
 }
 

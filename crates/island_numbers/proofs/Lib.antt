@@ -1,2 +1,4 @@
 pub mod Scans
 pub mod Sorting
+pub mod Collecting
+pub mod Among

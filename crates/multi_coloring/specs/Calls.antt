@@ -4,6 +4,7 @@ use Rattle.lists.specs.Basics.{same, four}
 use Rattle.groups.specs.Groups.{Plan, multi_plan_of}
 use Rattle.plan_questions.specs.Plans.{Tables, roomy_with}
 use Rattle.constraint_coloring.specs.Calls.{written, Leaves}
+use Rattle.constraint_coloring.specs.declared.ConstraintColoring.{ConstraintColoring}
 use Rattle.multi_coloring.specs.Counts.{counts_read, multiUpdateRefusal, multiPositionsRefusal, positions_in}
 use Rattle.multi_coloring.specs.declared.MultiColoring.{MultiColoring}
 use Rattle.multi_coloring.specs.declared.MultiUpdate.{MultiUpdate}
@@ -61,6 +62,10 @@ freshMulti = record { body_count = 0; constraint_count = 0; color_count = 0; max
 -- what is carried by value
 abbrev pub multiCarried : Plan → MultiColoring
 multiCarried q = record { body_count = q.bodies; constraint_count = q.constraints; color_count = q.groups; max_color_constraint_count = q.largest }
+
+-- the same numbers, as a plan of pairs carries them
+abbrev pub numbersOf : MultiColoring → ConstraintColoring
+numbersOf p = record { body_count = p.body_count; constraint_count = p.constraint_count; color_count = p.color_count; max_color_constraint_count = p.max_color_constraint_count }
 
 -- the plan, its tables t and its counts c hold exactly these flags, endpoints and counts
 unfoldable pub multiHolds : MultiColoring → Tables → List ℕ → List ℕ → List ℕ → List ℕ → Bool

@@ -1,40 +1,59 @@
--- What acceptance says of a file's frame: few bodies and constraints, known types, and live constraints with two different endpoints inside.
+-- What acceptance says of a file's frame: few bodies and constraints, known types, and live constraints with different endpoints inside, two
+-- to four, and just two on version 1.
 use Prim.Native.Nat.{ℕ, ◌≤◌, ◌<◌}
 use mathlib.Core.Path.{◌≡◌, refl, ap, ◌∙◌}
-use mathlib.Core.Bool.{true, not, ◌&&◌, ◌||◌}
+use mathlib.Core.Bool.{Bool, true, false, not, ◌||◌, cond}
 use mathlib.Core.List.{List, [], ◌∷◌}
 use native.Mathlib.Omega.{arith}
 use lib.Dec.{leb, ltb, eqb}
 use lib.ListN.{length, get_or, drop, length-take, get_or-map, get_or-eq_default}
-use borrow.Author.Tests.{leb-true, ltb-true, ltb-false}
-use Rattle.lists.specs.Basics.{any, all, distinct}
-use Rattle.lists.proofs.Laws.{and_left, and_right, or_left, clashes, by_cases, all_get_d}
+use borrow.Author.Tests.{le-leb, eqb-true, ltb-true, ltb-false}
+use Rattle.lists.specs.Basics.{any, all}
+use Rattle.lists.proofs.Laws.{and_left, and_both, or_left, clashes, by_cases, all_get_d, all_append}
 use Rattle.lists.proofs.Bits.{one-true}
-use Rattle.frame.specs.Frames.{Constraint, Frame, constraints, constraintAt, nothing, connects, logged, conflicts, dynamic, conflicting, touches, most, fewest, fits, sound, allSound, flagOf}
+use Rattle.frame.specs.Frames.{Constraint, Frame, constraints, constraintAt, constraintsOf, nothing, connects, logged, conflicts, dynamic, conflicting, touches, fits, counted as two-to-four, sound, allSound, flagOf}
 use Rattle.frame.specs.Questions.{question, typesKnown, bits}
-use Rattle.frame.specs.Files.{countB, types_in, enabledIn, decode, fileQuestions, frameRefusal}
+use Rattle.frame.specs.Files.{countB, types_in, manifoldsIn, jointsIn, enabledIn, liveIn, second, decode, fileQuestions, frameRefusal}
 use Rattle.frame.proofs.Questions.{passed, asked-both}
+use Rattle.frame.proofs.Counted.{Fitting, fits-parts}
 use Rattle.frame.proofs.Files.{file-sized, file-known, constraint-count}
 use Rattle.groups.specs.Groups.{flagged}
 use Rattle.schedules.specs.Runs.{flags}
 
--- what the questions that a frame passed tell
-pub record Accepted (f : Frame) : Type 0 where
+-- a live constraint has two endpoints
+abbrev paired : Constraint → Bool
+paired c = not c.live || eqb (length c.ends) 2
+
+-- what the questions that a frame passed tell; if its constraints have no counts, they are pairs
+pub record Accepted (counted : Bool) (f : Frame) : Type 0 where
   pub few-bodies : length f.types ≤ 4096
   pub types-known : typesKnown f.types ≡ true
   pub few-constraints : length (constraints f) ≤ 8192
   pub all_sound : allSound f ≡ true
+  pub pairs : counted ≡ false → all paired (constraints f) ≡ true
 
-pub accepted : (bs : List ℕ) → frameRefusal bs ≡ 0 → Accepted (decode bs)
+all-paired : (ps es : List ℕ) → all paired (constraintsOf ps es) ≡ true
+all-paired [] es = refl
+all-paired (a ∷ []) es = refl
+all-paired (a ∷ b ∷ r) [] = all-paired r []
+all-paired (a ∷ b ∷ r) (e ∷ es) = by_cases (eqb e 1) (λ t. rw t (all-paired r es)) (λ t. rw t (all-paired r es))
+
+-- version 1
+decoded-pairs : (bs : List ℕ) → second bs ≡ false → all paired (constraints (decode bs)) ≡ true
+unfolding decode
+decoded-pairs bs e = rw (e, all_append paired (constraintsOf (manifoldsIn bs) []) (constraintsOf (jointsIn bs) (enabledIn bs)), all-paired (manifoldsIn bs) [], all-paired (jointsIn bs) (enabledIn bs)) refl
+
+pub accepted : (bs : List ℕ) → frameRefusal bs ≡ 0 → Accepted (second bs) (decode bs)
 unfolding frameRefusal decode
 accepted bs e =
     let a = asked-both (fileQuestions bs) (question 7 (allSound (decode bs)) ∷ []) refl e in
     let s = file-sized bs a.0 in
     record {
       few-bodies = omega (arith, length-take (countB bs) (drop 11 bs), s.bodies);
-      types-known = and_left (typesKnown (types_in bs)) (bits (enabledIn bs)) (file-known bs a.0);
+      types-known = and_left (typesKnown (types_in bs)) (bits (liveIn bs)) (file-known bs a.0);
       few-constraints = omega (arith, constraint-count bs, s.manifolds, s.joints);
       all_sound = (passed (allSound (decode bs)) 0 6 a.1).0;
+      pairs = decoded-pairs bs;
     }
 
 -- a flag of a body says whether it makes conflicts
@@ -56,29 +75,22 @@ pub touch-is-live : (f : Frame) (c : Constraint) → touches f c ≡ true → c.
 unfolding touches
 touch-is-live f c t = and_left c.live (any (dynamic f) c.ends) t
 
-module _ (f : Frame) (ok : Accepted f) where
-  -- a live constraint's endpoints: two, different, of the frame
-  pub record Live (n : ℕ) : Type 0 where
-    pub fitting : fits (length f.types) (constraintAt f n).ends ≡ true
-    pub least : fewest ≤ length (constraintAt f n).ends
-    pub two : length (constraintAt f n).ends ≤ most
-    pub apart : distinct (constraintAt f n).ends ≡ true
-    pub inside : all (λ b. ltb b (length f.types)) (constraintAt f n).ends ≡ true
+module _ {counted : Bool} (f : Frame) (ok : Accepted counted f) (n : ℕ) (e : (constraintAt f n).live ≡ true) where
+  pub fitting : fits (length f.types) (constraintAt f n).ends ≡ true
+  unfolding constraintAt sound allSound
+  fitting = rw e at (all_get_d (sound (length f.types)) nothing (constraints f) n refl ok.all_sound)
 
-  pub live : (n : ℕ) → (constraintAt f n).live ≡ true → Live n
-  unfolding constraintAt sound fits allSound
-  live n e =
-      let c = get_or (constraints f) n nothing in
-      let p1 = leb fewest (length c.ends) in
-      let p2 = leb (length c.ends) most in
-      let p3 = distinct c.ends in
-      let p4 = all (λ b. ltb b (length f.types)) c.ends in
-      let s : (not c.live || (p1 && p2 && p3 && p4)) ≡ true = all_get_d (sound (length f.types)) nothing (constraints f) n refl ok.all_sound in
-      let t : (p1 && p2 && p3 && p4) ≡ true = rw e at s in
-      record {
-        fitting = t;
-        least = leb-true fewest (length c.ends) (and_left p1 p2 (and_left (p1 && p2) p3 (and_left (p1 && p2 && p3) p4 t)));
-        two = leb-true (length c.ends) most (and_right p1 p2 (and_left (p1 && p2) p3 (and_left (p1 && p2 && p3) p4 t)));
-        apart = and_right (p1 && p2) p3 (and_left (p1 && p2 && p3) p4 t);
-        inside = and_right (p1 && p2 && p3) p4 t;
-      }
+  -- a live constraint's endpoints: two to four, different, of the frame
+  pub live : Fitting (length f.types) (constraintAt f n).ends
+  live = fits-parts (length f.types) (constraintAt f n).ends fitting
+
+  pub sized : two-to-four (length (constraintAt f n).ends) ≡ true
+  sized = let k = length (constraintAt f n).ends in and_both (leb 2 k) (leb k 4) (le-leb 2 k live.least) (le-leb k 4 live.most)
+
+  pub two-ends : counted ≡ false → length (constraintAt f n).ends ≡ 2
+  unfolding constraintAt
+  two-ends v = eqb-true (length (constraintAt f n).ends) 2 (rw e at (all_get_d paired nothing (constraints f) n refl (ok.pairs v)))
+
+  -- so not more than its version has
+  pub ends-few : length (constraintAt f n).ends ≤ cond counted 4 2
+  ends-few = by_cases counted (λ v. rw v live.most) (λ v. rw v (omega (arith, two-ends v)))

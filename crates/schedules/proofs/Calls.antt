@@ -3,7 +3,7 @@
 use Prim.Native.Nat.{ℕ, ◌+◌, ◌≤◌, ◌<◌}
 use mathlib.Core.Path.{◌≡◌, refl, sym, ap, ◌∙◌}
 use mathlib.Core.Logic.{⊎_elim}
-use mathlib.Core.Bool.{true}
+use mathlib.Core.Bool.{Bool, true}
 use mathlib.Core.List.Memᴰ
 use mathlib.Core.List.{List, [], ◌∷◌, ◌++◌, map, Memᴰ}
 use native.Mathlib.Omega.{arith}
@@ -74,7 +74,7 @@ placed f p i k c r l h m e g n = record {
   number = rw e n;
 }
 
-module _ (f : Frame) (ok : Accepted f) (p : Plans) (st : (i : ℕ) (l : i < islandCount f) → Stands f ok i l (p i)) (o : Orders)
+module _ {counted : Bool} (f : Frame) (ok : Accepted counted f) (p : Plans) (st : (i : ℕ) → i < islandCount f → Stands f i (p i)) (o : Orders)
     (ord : (i k : ℕ) → i < islandCount f → k < (p i).groups → SameNumbers (o i k) (membersIn (p i) k)) where
   pub call-member : (c : Call) → Memᴰ c (schedule f p o) → Member f p c
   unfolding schedule groupCalls

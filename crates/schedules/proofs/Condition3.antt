@@ -16,7 +16,7 @@ use Rattle.lists.specs.Basics.{one, all, sum_of, max_of, count, joinMap, rangeFr
 use Rattle.lists.proofs.Sums.{collapse, sum-swap, sum-ext, sum-null, sum-zero, sum-map, sum-filter, sum-joinMap, sum-getD, filter-all}
 use Rattle.lists.proofs.Laws.{or_right, by_cases, mem-self, range-high, max-in, getD-mem, same_sum, sum-ext-in, eqb-sym, sum_one, sum-distinct, all_map}
 use Rattle.lists.proofs.Ranges.{joinMap-ext-in}
-use Rattle.frame.specs.Files.{decode, frameRefusal}
+use Rattle.frame.specs.Files.{second, decode, frameRefusal}
 use Rattle.frame.proofs.Pairs.{live-number}
 use Rattle.connected_sets.specs.Islands.{islandCount, label, ofIsland}
 use Rattle.connected_sets.proofs.Theorem.{islands-few, label-below-at}
@@ -60,13 +60,13 @@ unfolding label
 untouched f c e = rw e
 
 -- a constraint has an island exactly if it touches a dynamic body
-pub has-island : (f : Frame) → Accepted f → (n : ℕ) → ltb (label f (constraintAt f n)) (islandCount f) ≡ touching f n
+pub has-island : {counted : Bool} (f : Frame) → Accepted counted f → (n : ℕ) → ltb (label f (constraintAt f n)) (islandCount f) ≡ touching f n
 has-island f ok n = by_cases (touching f n)
     (λ e. lt-ltb (label f (constraintAt f n)) (islandCount f) (label-below-at f n e) ∙ sym e)
     (λ e. le-ltb (label f (constraintAt f n)) (islandCount f) (omega (arith, untouched f (constraintAt f n) e, islands-few f, ok.few-bodies)) ∙ sym e)
 
 -- over the islands: each touching constraint has one, any other none
-islands-sum : (F : ℕ → ℕ) (f : Frame) → Accepted f → sum_of (λ i. sum_of F (ofIsland f i)) (range (islandCount f)) ≡ sum_of (λ n. one (touching f n) * F n) (numbers f)
+islands-sum : {counted : Bool} (F : ℕ → ℕ) (f : Frame) → Accepted counted f → sum_of (λ i. sum_of F (ofIsland f i)) (range (islandCount f)) ≡ sum_of (λ n. one (touching f n) * F n) (numbers f)
 unfolding ofIsland
 islands-sum F f ok =
     let at : ℕ → ℕ = λ n. label f (constraintAt f n) in
@@ -77,7 +77,7 @@ islands-sum F f ok =
     (λ e. rw e (collapse (λ i. F n) (at n) 0 (islandCount f) (omega arith) (omega (arith, label-below-at f n e)) ∙ omega arith))
     (λ e. rw (e, untouched f (constraintAt f n) e) (beyond (F n) none 0 (islandCount f) (omega (arith, islands-few f, ok.few-bodies)) ∙ omega arith)))
 
-module _ (f : Frame) (ok : Accepted f) (p : Plans) (st : (i : ℕ) (l : i < islandCount f) → Stands f ok i l (p i)) (o : Orders)
+module _ {counted : Bool} (f : Frame) (ok : Accepted counted f) (p : Plans) (st : (i : ℕ) → i < islandCount f → Stands f i (p i)) (o : Orders)
     (ord : (i k : ℕ) → i < islandCount f → k < (p i).groups → SameNumbers (o i k) (membersIn (p i) k)) where
   abbrev islandOf : ℕ → List Call
   islandOf i = joinMap (groupCalls f p o i) (range (p i).groups)
@@ -207,10 +207,10 @@ same-calls p q ns i k e b (r ∷ rs) =
     let c : Call = record { island = i; group = k; constraint = get_or ns r 0; refusal = t.refusal; handed = t.handed } in
     rw (e b r) (ap (λ (cs : List Call). c ∷ cs) (same-calls p q ns i k e t.after rs))
 
-pub same-schedule : (f : Frame) (ok : Accepted f) (p q : Plans) → ((i : ℕ) (l : i < islandCount f) → Stands f ok i l (p i)) → ((i : ℕ) (l : i < islandCount f) → Stands f ok i l (q i))
+pub same-schedule : (f : Frame) (p q : Plans) → ((i : ℕ) → i < islandCount f → Stands f i (p i)) → ((i : ℕ) → i < islandCount f → Stands f i (q i))
     → schedule f p (rising p) ≡ schedule f q (rising q)
 unfolding schedule groupCalls rising
-same-schedule f ok p q sp sq = joinMap-ext-in _ _ (range (islandCount f))
+same-schedule f p q sp sq = joinMap-ext-in _ _ (range (islandCount f))
     (λ i m.
     let l : i < islandCount f = omega (arith, range-high i 0 (islandCount f) m) in
     let s = sp i l in
@@ -230,24 +230,27 @@ unfolding rising
 rising-ordered f p i k l h n = refl
 
 -- ---- the run itself
-module _ (f : Frame) (ok : Accepted f) where
-  run-stands : (i : ℕ) (l : i < islandCount f) → Stands f ok i l (plan_at f i)
-  run-stands i l = plan-stands f ok i l
+module _ {counted : Bool} (f : Frame) (ok : Accepted counted f) where
+  abbrev plans : Plans
+  plans = plan_at counted f
 
-  run-rises : (i k : ℕ) → i < islandCount f → k < (plan_at f i).groups → SameNumbers (rising (plan_at f) i k) (membersIn (plan_at f i) k)
-  run-rises = rising-ordered f (plan_at f)
+  run-stands : (i : ℕ) → i < islandCount f → Stands f i (plans i)
+  run-stands = plan-stands counted f ok
 
-  pub run-turns : length (turnsOf (runCalls f)) ≡ turnCount f
-  run-turns = count-turns f ok (plan_at f) run-stands (rising (plan_at f)) run-rises
+  run-rises : (i k : ℕ) → i < islandCount f → k < (plans i).groups → SameNumbers (rising plans i k) (membersIn (plans i) k)
+  run-rises = rising-ordered f plans
 
-  pub run-takes : takesOf (runCalls f) ≡ degreeSum f
-  run-takes = count-takes f ok (plan_at f) run-stands (rising (plan_at f)) run-rises
+  pub run-turns : length (turnsOf (runCalls counted f)) ≡ turnCount f
+  run-turns = count-turns f ok plans run-stands (rising plans) run-rises
 
-  pub run-all : turnsOf (runCalls f) ≡ runCalls f
-  run-all = all-turns f ok (plan_at f) run-stands (rising (plan_at f)) run-rises
+  pub run-takes : takesOf (runCalls counted f) ≡ degreeSum f
+  run-takes = count-takes f ok plans run-stands (rising plans) run-rises
 
-  pub run-once : (n : ℕ) → takesOn n (runCalls f) ≡ one (touches f (constraintAt f n))
-  run-once = all_once f ok (plan_at f) run-stands (rising (plan_at f)) run-rises
+  pub run-all : turnsOf (runCalls counted f) ≡ runCalls counted f
+  run-all = all-turns f ok plans run-stands (rising plans) run-rises
+
+  pub run-once : (n : ℕ) → takesOn n (runCalls counted f) ≡ one (touches f (constraintAt f n))
+  run-once = all_once f ok plans run-stands (rising plans) run-rises
 
 -- its report: the numbers read from the frame, and a turn for each take
 pub run-report : (bs : List ℕ) → frameRefusal bs ≡ 0 → run_of bs true ≡ record {
@@ -256,7 +259,7 @@ pub run-report : (bs : List ℕ) → frameRefusal bs ≡ 0 → run_of bs true �
   turns = turnCount (decode bs);
   takes = degreeSum (decode bs);
   degree = degreeMax (decode bs);
-  table = joinMap turn_of (runCalls (decode bs));
+  table = joinMap turn_of (runCalls (second bs) (decode bs));
 }
 unfolding run_of
 run-report bs e =
@@ -268,7 +271,7 @@ pub condition3 : Claim
 condition3 bs p o e sch =
     let f = decode bs in
     let ok = accepted bs e in
-    let st : (i : ℕ) (l : i < islandCount f) → Stands f ok i l (p i) = λ i l. planned-stands f ok i l (p i) (sch.plans i l) in
+    let st : (i : ℕ) → i < islandCount f → Stands f i (p i) = λ i l. planned-stands (second bs) f ok i l (p i) (sch.plans i l) in
     let ord = sch.orders in
     record {
       succeed = all-succeed f ok p st o ord;
@@ -283,5 +286,5 @@ condition3 bs p o e sch =
         untouched f (constraintAt f n) (dead-touches f (constraintAt f n) q),
         all_once f ok p st o ord n ∙ ap one (dead-touches f (constraintAt f n) q),
       );
-      report = rw (same-schedule f ok p (plan_at f) st (run-stands f ok)) (run-report bs e);
+      report = rw (same-schedule f p (plan_at (second bs) f) st (run-stands f ok)) (run-report bs e);
     }

@@ -12,7 +12,7 @@ use Rattle.lists.specs.Basics.{any, mem}
 use Rattle.lists.proofs.Laws.{and_left, and_right, and_both, or_cases, clashes, not-true-false, any-in, any_out, getD-mem, range-high, any-map, getD-listed}
 use Rattle.lists.proofs.Bits.{one-le}
 use Rattle.frame.specs.Frames.{Constraint, Frame, connects, logged, constraints, constraintAt, nothing, dynamic, conflicting, on, touches}
-use Rattle.frame.specs.Files.{decode, frameRefusal}
+use Rattle.frame.specs.Files.{second, decode, frameRefusal}
 use Rattle.connected_sets.specs.Islands.{islandCount, bodyLabel, ofIsland}
 use Rattle.connected_sets.proofs.Theorem.{label-each}
 use Rattle.groups.specs.Groups.{members}
@@ -44,7 +44,7 @@ held_by f b n hs e h =
 
 -- ---- two members
 
-module _ (f : Frame) (ok : Accepted f) where
+module _ {counted : Bool} (f : Frame) (ok : Accepted counted f) where
   -- a dynamic body of a member's constraint has the label of its island
   body-island : (i k r n b : ℕ) → i < islandCount f → mem r (members (colorsAt f i) k) ≡ true → n ≡ get_or (ofIsland f i) r 0 → dynamic f b ≡ true → mem b (ends_at f n) ≡ true → i ≡ bodyLabel f b
   unfolding constraintAt on touches
@@ -55,7 +55,7 @@ module _ (f : Frame) (ok : Accepted f) where
       let live = and_left (constraintAt f n).live (any (dynamic f) (ends_at f n)) known.2 in
       sym known.1 ∙ label-each f (constraintAt f n) b (getD-listed (constraints f) n nothing inside) (and_both (constraintAt f n).live (mem b (ends_at f n)) live h) d
 
-  module _ (p : Plans) (st : (i : ℕ) (l : i < islandCount f) → Stands f ok i l (p i)) where
+  module _ (p : Plans) (st : (i : ℕ) → i < islandCount f → Stands f i (p i)) where
     -- two constraints of one group share no body that makes conflicts
     group-apart : (i k r s n m b : ℕ) → i < islandCount f → k < (p i).groups → mem r (members (colorsAt f i) k) ≡ true → mem s (members (colorsAt f i) k) ≡ true
         → n ≡ get_or (ofIsland f i) r 0 → m ≡ get_or (ofIsland f i) s 0 → (n ≡ m → ⊥) → conflicting f b ≡ true → mem b (ends_at f n) ≡ true → mem b (ends_at f m) ≡ true → ⊥
@@ -64,15 +64,15 @@ module _ (f : Frame) (ok : Accepted f) where
 
 -- ---- two turns
 
-module _ (bs : List ℕ) (p : Plans) (o : Orders) (c d : Call) (e : frameRefusal bs ≡ 0) (sch : Schedule (decode bs) p o) (two : Turns (decode bs) p o c d) where
+module _ (bs : List ℕ) (p : Plans) (o : Orders) (c d : Call) (e : frameRefusal bs ≡ 0) (sch : Schedule (second bs) (decode bs) p o) (two : Turns (decode bs) p o c d) where
   abbrev f : Frame
   f = decode bs
 
-  abbrev ok : Accepted f
+  abbrev ok : Accepted (second bs) f
   ok = accepted bs e
 
-  st : (i : ℕ) (l : i < islandCount f) → Stands f ok i l (p i)
-  st i l = planned-stands f ok i l (p i) (sch.plans i l)
+  st : (i : ℕ) → i < islandCount f → Stands f i (p i)
+  st i l = planned-stands (second bs) f ok i l (p i) (sch.plans i l)
 
   -- every take is a turn
   listed : schedule f p o ≡ two.earlier ++ c ∷ two.between ++ d ∷ two.later

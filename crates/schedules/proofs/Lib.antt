@@ -1,11 +1,12 @@
-pub mod Accepted
+pub mod Places
 pub mod Standing
+pub mod Accepted
 pub mod Plans
 pub mod Groups
 pub mod Condition3
-pub mod Existence
 pub mod Calls
 pub mod Lanes
-pub mod Table
 pub mod Labels
+pub mod Existence
+pub mod Table
 pub mod Samples

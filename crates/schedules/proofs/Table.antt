@@ -9,7 +9,7 @@ use lib.ListN.{length, get_or, take, drop, take-append-drop}
 use lib.Seq.{drop-cons, get_or-take, length-take-le}
 use Rattle.lists.specs.Basics.{joinMap}
 use Rattle.frame.specs.Frames.{constraintAt, on}
-use Rattle.frame.specs.Files.{decode}
+use Rattle.frame.specs.Files.{second, decode}
 use Rattle.schedules.specs.Runs.{Call, turn_of, turnsOf, schedule, rising, runCalls}
 use Rattle.schedules.specs.Lanes.{Turns, turnEntry, TableApart}
 use Rattle.schedules.proofs.Accepted.{accepted}
@@ -50,16 +50,16 @@ pub table-apart : TableApart
 table-apart bs rest a b e h l i g x t on-a =
     let f = decode bs in
     let ok = accepted bs e in
-    let room = room-exists f in
-    let s = rising-exists bs room.0 e room.1 in
+    let room = room-exists (second bs) f in
+    let s = rising-exists bs room.0 room.1 e room.2 in
     let p = s.plans in
-    let cs = runCalls f in
+    let cs = runCalls (second bs) f in
     let c = get_or cs a noCall in
     let d = get_or cs b noCall in
     let same : schedule f p (rising p) ≡ cs = rising-runs bs p e s.made in
     let short : b < length cs = omega (arith, run-turns f ok, ap length (run-all f ok)) in
     let first = entries cs rest a (omega arith) in
-    let second = entries cs rest b short in
+    let last = entries cs rest b short in
     let two : Turns f p (rising p) c d = record {
       earlier = take a (take b cs);
       between = drop (suc a) (take b cs);
@@ -67,5 +67,5 @@ table-apart bs rest a b e h l i g x t on-a =
       listed = ap turnsOf same ∙ run-all f ok ∙ split-two cs a b noCall h short;
     } in
     let n : ℕ → Bool = λ k. on x (constraintAt f k) in
-    ap n second.number
-    ∙ (lanes-apart bs p (rising p) c d e s.made two (sym first.island ∙ i ∙ second.island) (sym first.group ∙ g ∙ second.group)).bodies x t (sym (ap n first.number) ∙ on-a)
+    ap n last.number
+    ∙ (lanes-apart bs p (rising p) c d e s.made two (sym first.island ∙ i ∙ last.island) (sym first.group ∙ g ∙ last.group)).bodies x t (sym (ap n first.number) ∙ on-a)

@@ -3,7 +3,7 @@
 use Rattle.std.specs.Prelude.{ℕ, ◌+◌, ◌*◌, ◌<◌, ◌≡◌, Bool, true, false, ◌&&◌, List, [], ◌∷◌, ◌++◌, map, eqb, get_or}
 use Rattle.lists.specs.Basics.{any, joinMap}
 use Rattle.frame.specs.Frames.{Frame, logged, constraintAt, dynamic, conflicting, on, turnCount}
-use Rattle.frame.specs.Files.{decode, frameRefusal}
+use Rattle.frame.specs.Files.{second, decode, frameRefusal}
 use Rattle.schedules.specs.Runs.{Call, Plans, Orders, schedule, turn_of, turnsOf, runCalls}
 use Rattle.schedules.specs.Condition.{Schedule}
 
@@ -29,15 +29,15 @@ pub record Apart (f : Frame) (c d : Call) : Type 0 where
 
 -- of every accepted file and every schedule of its frame: two different turns of one group of one island are apart
 abbrev pub LanesApart : Type 0
-LanesApart = (bs : List ℕ) (p : Plans) (o : Orders) (c d : Call) → frameRefusal bs ≡ 0 → Schedule (decode bs) p o → Turns (decode bs) p o c d → c.island ≡ d.island → c.group ≡ d.group → Apart (decode bs) c d
+LanesApart = (bs : List ℕ) (p : Plans) (o : Orders) (c d : Call) → frameRefusal bs ≡ 0 → Schedule (second bs) (decode bs) p o → Turns (decode bs) p o c d → c.island ≡ d.island → c.group ≡ d.group → Apart (decode bs) c d
 
 -- and two turns of different islands have no dynamic body on both constraints; a logged one may be on both (`LoggedShared`)
 abbrev pub IslandsApart : Type 0
-IslandsApart = (bs : List ℕ) (p : Plans) (o : Orders) (c d : Call) → frameRefusal bs ≡ 0 → Schedule (decode bs) p o → Turns (decode bs) p o c d → (c.island ≡ d.island → ⊥) → NoneOnBoth (dynamic (decode bs)) (decode bs) c.constraint d.constraint
+IslandsApart = (bs : List ℕ) (p : Plans) (o : Orders) (c d : Call) → frameRefusal bs ≡ 0 → Schedule (second bs) (decode bs) p o → Turns (decode bs) p o c d → (c.island ≡ d.island → ⊥) → NoneOnBoth (dynamic (decode bs)) (decode bs) c.constraint d.constraint
 
 -- where no body is logged, no body that makes conflicts is on both
 abbrev pub UnloggedApart : Type 0
-UnloggedApart = (bs : List ℕ) (p : Plans) (o : Orders) (c d : Call) → frameRefusal bs ≡ 0 → Schedule (decode bs) p o → Turns (decode bs) p o c d → (c.island ≡ d.island → ⊥) → any logged (decode bs).types ≡ false → NoneOnBoth (conflicting (decode bs)) (decode bs) c.constraint d.constraint
+UnloggedApart = (bs : List ℕ) (p : Plans) (o : Orders) (c d : Call) → frameRefusal bs ≡ 0 → Schedule (second bs) (decode bs) p o → Turns (decode bs) p o c d → (c.island ≡ d.island → ⊥) → any logged (decode bs).types ≡ false → NoneOnBoth (conflicting (decode bs)) (decode bs) c.constraint d.constraint
 
 -- types 2, 3, 2 with the manifolds (0,1) and (2,1): body 1 is logged
 abbrev pub twoOnLogged : List ℕ
@@ -46,8 +46,8 @@ twoOnLogged = 1 ∷ 0 ∷ 0 ∷ 0 ∷ 17 ∷ 0 ∷ 3 ∷ 0 ∷ 2 ∷ 0 ∷ 0 ∷
 -- it is accepted, its two turns are of the islands 0 and 1, and both hold body 1
 abbrev pub LoggedShared : Type 0
 LoggedShared = (frameRefusal twoOnLogged ≡ 0)
-    × (map (λ c. c.island) (runCalls (decode twoOnLogged)) ≡ 0 ∷ 1 ∷ [])
-    × (map (holdsBody 1) (runCalls (decode twoOnLogged)) ≡ true ∷ true ∷ [])
+    × (map (λ c. c.island) (runCalls false (decode twoOnLogged)) ≡ 0 ∷ 1 ∷ [])
+    × (map (holdsBody 1) (runCalls false (decode twoOnLogged)) ≡ true ∷ true ∷ [])
 
 -- ---- the same of a turn table
 
@@ -62,4 +62,4 @@ ApartIn f table a b = turnEntry table a 0 ≡ turnEntry table b 0 → turnEntry 
 
 -- of every accepted file and every table that begins with the run's turns
 abbrev pub TableApart : Type 0
-TableApart = (bs rest : List ℕ) (a b : ℕ) → frameRefusal bs ≡ 0 → a < b → b < turnCount (decode bs) → ApartIn (decode bs) (joinMap turn_of (runCalls (decode bs)) ++ rest) a b
+TableApart = (bs rest : List ℕ) (a b : ℕ) → frameRefusal bs ≡ 0 → a < b → b < turnCount (decode bs) → ApartIn (decode bs) (joinMap turn_of (runCalls (second bs) (decode bs)) ++ rest) a b

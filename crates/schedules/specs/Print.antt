@@ -42,7 +42,7 @@ unfoldable pub head_of : ℕ → ℕ → ℕ → ℕ → List ℕ
 head_of islands turns takes degree =
     line (islandsWord ∷ decimal islands ∷ turnsWord ∷ decimal turns ∷ takesWord ∷ decimal takes ∷ degreeWord ∷ decimal degree ∷ [])
 
--- a turn: island, group, constraint, and its endpoints a, b
+-- a turn: island, group, constraint, and its endpoints
 unfoldable pub turnLine : ℕ → ℕ → ℕ → List ℕ → List ℕ
 turnLine island group number ends = line (map decimal (island ∷ group ∷ number ∷ ends))
 
@@ -62,7 +62,7 @@ firstLine r = cond (eqb r.refusal 0) (head_of r.islands r.turns r.takes r.degree
 
 -- what is printed of: above the longest frame's length refusal 3, before any question; else the run
 unfoldable pub answerTo : List ℕ → Report
-answerTo bs = cond (ltb 40971 (length bs)) (refused 3) (run_of bs true)
+answerTo bs = cond (ltb 61451 (length bs)) (refused 3) (run_of bs true)
 
 -- the whole print: the first line, then a line a turn
 unfoldable pub printOf : List ℕ → List ℕ

@@ -3,11 +3,12 @@ use Rattle.std.specs.Prelude.{ℕ, Bool, true, cond, List, [], ◌∷◌, ◌++�
 use Rattle.lists.specs.Basics.{filter, sum_of, count, range, joinMap}
 use Rattle.frame.specs.Frames.{Frame, constraintAt, flagOf, allSound, degreeMax}
 use Rattle.frame.specs.Questions.{question, asked}
-use Rattle.frame.specs.Files.{decode, fileQuestions}
+use Rattle.frame.specs.Files.{second, decode, fileQuestions}
 use Rattle.connected_sets.specs.Islands.{islandCount, ofIsland}
-use Rattle.groups.specs.Groups.{pair_at, Plan}
+use Rattle.groups.specs.Groups.{pair_at, Plan, multi_plan_of}
 use Rattle.plan_questions.specs.Plans.{groupPart, positionsRefusal}
 use Rattle.plan_history.specs.Memory.{fresh, remembered, planFor}
+use Rattle.multi_coloring.specs.Counts.{multiPositionsRefusal, positions_in}
 use Rattle.colored_bodies.specs.declared.BodyBinding.{BodyBinding}
 use Rattle.colored_bodies.specs.Bindings.{Handed, Taking, bindOf, take_of}
 
@@ -24,9 +25,17 @@ endsOf f i = map (λ n. (constraintAt f n).ends) (ofIsland f i)
 unfoldable pub pairsFor : Frame → ℕ → List ℕ
 pairsFor f i = joinMap (λ ends. ends) (endsOf f i)
 
--- the definition's plan of island i: what an update of a fresh plan leaves in the used places
-unfoldable pub plan_at : Frame → ℕ → Plan
-plan_at f i = planFor (remembered fresh (flags f) (pairsFor f i) true)
+-- their counts, where the update is lent counts: on version 2
+unfoldable pub countsFor : Bool → Frame → ℕ → List ℕ
+countsFor counted f i = cond counted (map length (endsOf f i)) []
+
+-- what an update of a fresh plan leaves in the used places: of endpoints with counts, or of pairs where there are none
+unfoldable pub freshly : List ℕ → List ℕ → List ℕ → Plan
+freshly flags counts ends = cond (eqb (length counts) 0) (planFor (remembered fresh flags ends true)) (multi_plan_of flags ends counts)
+
+-- the definition's plan of island i
+unfoldable pub plan_at : Bool → Frame → ℕ → Plan
+plan_at counted f i = freshly (flags f) (countsFor counted f i) (pairsFor f i)
 
 -- a group's members and bodies, as the lookups hand them back from a plan's tables
 unfoldable pub membersIn : Plan → ℕ → List ℕ
@@ -35,11 +44,18 @@ membersIn p k = groupPart p.groups p.color-offsets p.colored-constraints k
 unfoldable pub bodiesIn : Plan → ℕ → List ℕ
 bodiesIn p k = groupPart p.groups p.color-body-offsets p.color-bodies k
 
+-- the positions of the constraint of rank r, as the plan's lookup answers them: its refusal or 0, and two to four places
+unfoldable pub lookupRefusal : Plan → ℕ → ℕ
+lookupRefusal p r = cond (eqb (length p.counts) 0) (positionsRefusal p.constraints p.positions r) (multiPositionsRefusal p.constraints p.counts p.positions r)
+
+unfoldable pub lookupOf : Plan → ℕ → List ℕ
+lookupOf p r = cond (eqb (length p.counts) 0) (pair_at p.positions r) (positions_in p.constraints p.counts p.positions r)
+
 -- a take asks for its constraint's positions, by its rank r in the island, and takes them
 unfoldable pub takeRank : Plan → BodyBinding → ℕ → Taking
 takeRank p b r =
-    let q = positionsRefusal p.constraints p.positions r in
-    cond (eqb q 0) (take_of b (pair_at p.positions r)) (record { refusal = q; handed = []; after = b })
+    let q = lookupRefusal p r in
+    cond (eqb q 0) (take_of b (lookupOf p r)) (record { refusal = q; handed = []; after = b })
 
 -- a take that was made: for which island, group and constraint, its refusal or 0, and the bodies it answered
 pub record Call : Type 0 where
@@ -113,12 +129,12 @@ unfoldable pub rising : Plans → Orders
 rising p i k = membersIn (p i) k
 
 -- the run's calls
-abbrev pub runCalls : Frame → List Call
-runCalls f = schedule f (plan_at f) (rising (plan_at f))
+abbrev pub runCalls : Bool → Frame → List Call
+runCalls counted f = schedule f (plan_at counted f) (rising (plan_at counted f))
 
 -- the run of a file, where `room` answers question 6
 unfoldable pub runRefusal : List ℕ → Bool → ℕ
 runRefusal bs room = asked (fileQuestions bs ++ question 6 room ∷ question 7 (allSound (decode bs)) ∷ [])
 
 unfoldable pub run_of : List ℕ → Bool → Report
-run_of bs room = cond (eqb (runRefusal bs room) 0) (reportOf (decode bs) (runCalls (decode bs))) (refused (runRefusal bs room))
+run_of bs room = cond (eqb (runRefusal bs room) 0) (reportOf (decode bs) (runCalls (second bs) (decode bs))) (refused (runRefusal bs room))

@@ -31,4 +31,4 @@ pub returns-then-live : goal.returns-then-live
 returns-then-live c = counted-live _ _ _ _ _ c.requires c.if-live.true c.touches-one.result c.touches-one.ensures _ _ refl (ap (λ (n : ℕ). n + bool_byte c.touches-one.result) (same-b _ _ _ _ _ c.requires c.if-live.true c.touches-one.result c.touches-one.ensures _))
 
 pub returns-else-live : goal.returns-else-live
-returns-else-live c = counted-dead _ _ _ _ _ c.requires c.if-live.false
+returns-else-live c = counted-dead _ _ _ c.if-live.false

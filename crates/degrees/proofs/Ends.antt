@@ -1,0 +1,62 @@
+-- Constraints by their endpoints: a live one that passes question 7 has endpoints that are all different and have places in the tables, so
+-- each counts once, for as much as the constraint does.
+use Prim.Native.Nat.{ℕ, ◌+◌, ◌≤◌, ◌<◌}
+use mathlib.Core.Path.{◌≡◌, refl, ap, ◌∙◌}
+use mathlib.Core.Bool.{Bool, true, false, not, ◌&&◌, ◌||◌, or-false, or_assoc, cond}
+use mathlib.Core.List.{List, [], ◌∷◌}
+use native.Mathlib.Omega.{arith}
+use native.Mathlib.Numerals.{add-one}
+use lib.Dec.{ltb, eqb}
+use mir.Val.{bool_byte}
+use lib.ListN.{length, get_or, drop, drop_of_length-le}
+use lib.Seq.{drop-cons}
+use borrow.Author.Tests.{eqb-true, not-true}
+use Rattle.lists.specs.Basics.{one, any, all, mem, distinct}
+use Rattle.lists.proofs.Laws.{and_left, and_right, by_cases}
+use Rattle.frame.specs.Frames.{frame_of, on, touches, sound}
+use Rattle.frame.proofs.Counted.{Fitting, sound-fits}
+use Rattle.degrees.specs.Counts.{added, Addable, Added, countsFor, Countable, Counted}
+
+-- ---- a scan of the endpoints
+
+module _ (p : ℕ → Bool) (ends : List ℕ) (i : ℕ) (t : Bool) where
+  pub any-turn : i < length ends → (t || any p (drop i ends)) ≡ any p ends → ((t || p (get_or ends i 0)) || any p (drop (i + 1) ends)) ≡ any p ends
+  any-turn h e = rw (or_assoc, add-one) (rw (drop-cons ends i 0 h) at e)
+
+  pub any-last : length ends ≤ i → (t || any p (drop i ends)) ≡ any p ends → t ≡ any p ends
+  any-last h e = rw (drop_of_length-le ends h, or-false) at e
+
+-- ---- one constraint
+
+added-once : (amount : ℕ) (xs : List ℕ) (b : ℕ) → distinct xs ≡ true → added amount xs b ≡ cond (mem b xs) amount 0
+added-once amount [] b d = refl
+added-once amount (x ∷ xs) b d =
+    let more = added-once amount xs b (and_right (not (mem x xs)) (distinct xs) d) in
+    by_cases (eqb b x)
+    (λ e. let out : mem b xs ≡ false = ap (λ (y : ℕ). mem y xs) (eqb-true b x e) ∙ not-true (mem x xs) (and_left (not (mem x xs)) (distinct xs) d) in rw (e, more, out) (omega arith))
+    (λ e. rw (e, more) (omega arith))
+
+both : (t m : Bool) → one (t && m) ≡ cond m (bool_byte t) 0
+both true true = refl
+both true false = refl
+both false true = refl
+both false false = refl
+
+module _ (ts counts ends : List ℕ) (live : Bool) (h : Countable ts (record { ends = ends; live = live } ∷ []) counts) (e : live ≡ true) where
+  fitting : Fitting (length counts) ends
+  fitting = sound-fits (length counts) (record { ends = ends; live = live }) e (and_left (sound (length counts) (record { ends = ends; live = live })) true h.sound)
+
+  pub ends-there : all (λ b. ltb b (length ts)) ends ≡ true
+  ends-there = rw (← h.long) fitting.inside
+
+  -- t: it touches a dynamic body
+  module _ (t : Bool) (et : t ≡ touches (frame_of ts [] [] []) (record { ends = ends; live = true })) where
+    counts-once : (b : ℕ) → one (countsFor ts b (record { ends = ends; live = live })) ≡ added (bool_byte t) ends b
+    unfolding on
+    counts-once b = rw (e, ← et, added-once (bool_byte t) ends b fitting.apart) (both t (mem b ends))
+
+    pub ends-addable : Addable (bool_byte t) ends counts
+    ends-addable = record { inside = fitting.inside; fits = λ b l. omega (arith, h.fits b l, counts-once b) }
+
+    pub counted-ends : (new : List ℕ) → Added (bool_byte t) ends counts new → Counted ts (record { ends = ends; live = live } ∷ []) counts new
+    counted-ends new a = record { each = λ b l. omega (arith, a.each b l, counts-once b) }

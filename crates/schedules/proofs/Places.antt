@@ -1,0 +1,61 @@
+-- The lookup of positions of a plan with counts hands back what its tables were made of, whatever stands behind them: the positions of a
+-- constraint are its list.
+use Prim.Native.Nat.{ℕ, ◌≤◌, ◌<◌}
+use mathlib.Core.Path.{◌≡◌, refl, sym, ap, ap₂, ◌∙◌}
+use mathlib.Core.Bool.{true, cond}
+use mathlib.Core.List.{List, [], ◌∷◌, ◌++◌, map, map-map}
+use native.Mathlib.Omega.{arith}
+use lib.Dec.{ltb}
+use lib.ListN.{length, get_or, length-append}
+use lib.Seq.{take_at}
+use borrow.Author.Tests.{le-leb}
+use Rattle.lists.specs.Basics.{range, joinMap}
+use Rattle.lists.proofs.Laws.{and_left, and_right}
+use Rattle.lists.proofs.Sums.{sum-map}
+use Rattle.lists.proofs.Ranges.{length-joinMap, length-map-range, map-range-at}
+use Rattle.frame.specs.Frames.{counted, countsKnown, endCount}
+use Rattle.groups.specs.Groups.{counted_parts, flatten}
+use Rattle.groups.proofs.Counts.{parts_apart}
+use Rattle.multi_coloring.specs.Counts.{count_read, counts_read, multiPositionsRefusal, positions_in}
+
+-- lists one after another
+pub joined : {A B : Type 0} (g : B → List A) (xs : List B) → joinMap (λ (l : List A). l) (map g xs) ≡ joinMap g xs
+joined g [] = refl
+joined {A} g (x ∷ xs) = ap (λ (l : List A). g x ++ l) (joined g xs)
+
+-- counts of two to four are read as they are
+pub read-known : (counts : List ℕ) → countsKnown counts ≡ true → map count_read counts ≡ counts
+read-known [] e = refl
+read-known (c ∷ counts) e =
+    let k : counted c ≡ true = and_left (counted c) (countsKnown counts) e in
+    ap₂ (λ (x : ℕ) (xs : List ℕ). x ∷ xs) (rw k) (read-known counts (and_right (counted c) (countsKnown counts) e))
+
+module _ (g : ℕ → List ℕ) (n : ℕ) (counts x y : List ℕ) (sizes : counts ≡ map (λ r. length (g r)) (range n)) (known : countsKnown counts ≡ true) where
+  counts-read : counts_read n (counts ++ x) ≡ counts
+  counts-read = ap (map count_read) (take_at counts x n (ap length sizes ∙ length-map-range (λ r. length (g r)) n)) ∙ read-known counts known
+
+  counts-sum : endCount counts ≡ length (flatten g n)
+  unfolding flatten
+  counts-sum = ap endCount sizes ∙ sum-map (λ c. c) (λ r. length (g r)) (range n) ∙ sym (length-joinMap g (range n))
+
+  -- the questions: 12 past the constraints
+  pub places-asked : (r : ℕ) → n ≤ 8192 → multiPositionsRefusal n (counts ++ x) (flatten g n ++ y) r ≡ cond (ltb r n) 0 12
+  unfolding multiPositionsRefusal
+  places-asked r few =
+      rw (
+        counts-read,
+        le-leb n 8192 few,
+        le-leb n (length (counts ++ x)) (omega (arith, length-append counts x, ap length sizes, length-map-range (λ r. length (g r)) n)),
+        le-leb (endCount counts) (length (flatten g n ++ y)) (omega (arith, length-append (flatten g n) y, counts-sum)),
+      )
+
+  -- and the positions
+  pub places-found : (r : ℕ) → r < n → positions_in n (counts ++ x) (flatten g n ++ y) r ≡ g r
+  unfolding flatten
+  places-found r h =
+      let lists = map g (range n) in
+      let long : map length lists ≡ counts = map-map length g (range n) ∙ sym sizes in
+      ap (λ (l : List ℕ). get_or (counted_parts l (flatten g n ++ y)) r []) (counts-read ∙ sym long)
+      ∙ ap (λ (l : List ℕ). get_or (counted_parts (map length lists) (l ++ y)) r []) (sym (joined g (range n)))
+      ∙ ap (λ (l : List (List ℕ)). get_or l r []) (parts_apart lists y)
+      ∙ map-range-at g [] n r h
