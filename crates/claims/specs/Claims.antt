@@ -1,9 +1,9 @@
 -- What is proved: each claim, and the proof that it cites. To believe a claim, read it and the definitions that it names, all under specs/.
-use Rattle.std.specs.Prelude.{ℕ, ◌^◌, ◌≤◌, ◌<◌, ◌≡◌, refl, true, false, ◌&&◌, ltb, length, get_or, take}
+use Rattle.std.specs.Prelude.{ℕ, ◌^◌, ◌≤◌, ◌<◌, ◌≡◌, refl, Bool, true, false, ◌&&◌, ltb, length, get_or, take}
 use mathlib.Core.List.{List, [], ◌∷◌, ◌++◌, map, Memᴰ}
 use Rattle.lists.specs.Basics.{any, mem}
 use Rattle.frame.specs.Frames.{Constraint, Frame, logged, constraints, constraintAt, dynamic, conflicting, on, touches, frame_of}
-use Rattle.frame.specs.Files.{decode, frameRefusal}
+use Rattle.frame.specs.Files.{second, decode, frameRefusal}
 use Rattle.frame_file.specs.Written.{fileOf, Writable}
 use Rattle.frame_file.proofs.Decoded.{written-decoded}
 use Rattle.generator.specs.Draws.{stateAfter}
@@ -25,6 +25,11 @@ use Rattle.constraint_coloring.specs.Calls.{freshPlan}
 use Rattle.plan_history.specs.Memory.{fresh, Input, Answered, answers}
 use Rattle.plan_history.specs.History.{History, memoryAfter, Standing}
 use Rattle.plan_history.proofs.History.{memory}
+use Rattle.multi_coloring.specs.declared.MultiColoring.{MultiColoring}
+use Rattle.multi_coloring.specs.Calls.{freshMulti}
+use Rattle.multi_history.specs.Memory.{multiFresh, MultiInput, multiAnswers}
+use Rattle.multi_history.specs.History.{MultiHistory, multiMemoryAfter, MultiStanding}
+use Rattle.multi_history.proofs.History.{multi-memory}
 use Rattle.colored_bodies.specs.declared.BodyBinding.{BodyBinding}
 use Rattle.colored_bodies.specs.declared.Marked.{Marked}
 use Rattle.colored_bodies.specs.Answers.{Marks}
@@ -57,25 +62,25 @@ use Rattle.print_pieces.proofs.Whole.{whole-print}
 
 -- Two lanes never hold one body: of every accepted file and every schedule of its frame, two different turns of one group of one island
 -- hold no body in common, and no body that makes conflicts, dynamic or logged (a drum that logs its line pull), is on both constraints.
-pub two-lanes : (bs : List ℕ) (p : Plans) (o : Orders) (c d : Call) → frameRefusal bs ≡ 0 → Schedule (decode bs) p o → Turns (decode bs) p o c d
+pub two-lanes : (bs : List ℕ) (p : Plans) (o : Orders) (c d : Call) → frameRefusal bs ≡ 0 → Schedule (second bs) (decode bs) p o → Turns (decode bs) p o c d
     → c.island ≡ d.island → c.group ≡ d.group → Apart (decode bs) c d
 two-lanes = lanes-apart
 
 -- And turns of two different islands, whatever their groups, have no dynamic body on both constraints. THIS DOES NOT SAY that islands may be
 -- solved at once: a logged body may be on both, as the claim after the next shows. Islands are solved one after another.
-pub two-islands : (bs : List ℕ) (p : Plans) (o : Orders) (c d : Call) → frameRefusal bs ≡ 0 → Schedule (decode bs) p o → Turns (decode bs) p o c d
+pub two-islands : (bs : List ℕ) (p : Plans) (o : Orders) (c d : Call) → frameRefusal bs ≡ 0 → Schedule (second bs) (decode bs) p o → Turns (decode bs) p o c d
     → (c.island ≡ d.island → ⊥) → NoneOnBoth (dynamic (decode bs)) (decode bs) c.constraint d.constraint
 two-islands = islands-apart
 
 -- Only in a frame without a logged body do turns of two islands share no body that makes conflicts.
-pub two-islands-unlogged : (bs : List ℕ) (p : Plans) (o : Orders) (c d : Call) → frameRefusal bs ≡ 0 → Schedule (decode bs) p o → Turns (decode bs) p o c d
+pub two-islands-unlogged : (bs : List ℕ) (p : Plans) (o : Orders) (c d : Call) → frameRefusal bs ≡ 0 → Schedule (second bs) (decode bs) p o → Turns (decode bs) p o c d
     → (c.island ≡ d.island → ⊥) → any logged (decode bs).types ≡ false → NoneOnBoth (conflicting (decode bs)) (decode bs) c.constraint d.constraint
 two-islands-unlogged = unlogged-apart
 
 -- Two islands may share a logged body: types 2, 3, 2 with the manifolds (0,1) and (2,1) are accepted, the run's two turns are of the islands
 -- 0 and 1, and both hold body 1.
-pub islands-share-logged : (frameRefusal twoOnLogged ≡ 0) × (map (λ c. c.island) (runCalls (decode twoOnLogged)) ≡ 0 ∷ 1 ∷ [])
-    × (map (holdsBody 1) (runCalls (decode twoOnLogged)) ≡ true ∷ true ∷ [])
+pub islands-share-logged : (frameRefusal twoOnLogged ≡ 0) × (map (λ c. c.island) (runCalls false (decode twoOnLogged)) ≡ 0 ∷ 1 ∷ [])
+    × (map (holdsBody 1) (runCalls false (decode twoOnLogged)) ≡ true ∷ true ∷ [])
 islands-share-logged = logged-shared
 
 -- Of the code: any two turns of one island and group in the turn table that an accepted call of `run` leaves have no body that makes
@@ -158,14 +163,19 @@ pub plan-memory : {q : ConstraintColoring} {t v : Tables} {ins : List Input} {ou
     → (outs ≡ answers fresh ins) × Standing (any (λ a. a.changed) outs) (memoryAfter fresh ins) q v
 plan-memory = memory
 
+-- The same of a plan whose constraints have a count each.
+pub multi-plan-memory : {q : MultiColoring} {t v : Tables} {c e : List ℕ} {ins : List MultiInput} {outs : List Answered} → MultiHistory freshMulti t c ins outs q v e
+    → (outs ≡ multiAnswers multiFresh ins) × MultiStanding (any (λ a. a.changed) outs) (multiMemoryAfter multiFresh ins) q v e
+multi-plan-memory = multi-memory
+
 -- ---- condition 3
 
--- Of the definitions: of every accepted file and every schedule of its frame.
-pub condition-3 : (bs : List ℕ) (p : Plans) (o : Orders) → frameRefusal bs ≡ 0 → Schedule (decode bs) p o → Condition3 bs (decode bs) p o
+-- Of the definitions: of every accepted file, of version 1 or 2, and every schedule of its frame.
+pub condition-3 : (bs : List ℕ) (p : Plans) (o : Orders) → frameRefusal bs ≡ 0 → Schedule (second bs) (decode bs) p o → Condition3 bs (decode bs) p o
 condition-3 = condition3
 
 -- Of the code: of every accepted call of `run`, as its contract allows it, and every schedule of its frame.
-pub condition-3-of-run : (bs : List ℕ) (l m : Lent) (r : Answer) (p : Plans) (o : Orders) → refusalIn bs l ≡ 0 → Ran bs l m r → Schedule (decode bs) p o → Conditioned bs l m r p o
+pub condition-3-of-run : (bs : List ℕ) (l m : Lent) (r : Answer) (p : Plans) (o : Orders) → refusalIn bs l ≡ 0 → Ran bs l m r → Schedule (second bs) (decode bs) p o → Conditioned bs l m r p o
 condition-3-of-run = conditioned
 
 -- What takes and D are counted over: a constraint has an island exactly if it touches a dynamic body.
@@ -175,17 +185,17 @@ counted-have-islands bs n e = has-island (decode bs) (accepted bs e) n
 -- ---- schedules
 
 -- There are schedules: for any tables with room and any orders that permute the groups' members; and there are tables with room.
-pub schedule-made : (bs : List ℕ) (t : ℕ → Tables) (o : Orders) → frameRefusal bs ≡ 0 → Roomy (decode bs) t → Permuted (decode bs) o → Scheduled (decode bs) t (λ p. o)
+pub schedule-made : (bs : List ℕ) (t : ℕ → Tables) (c : ℕ → List ℕ) (o : Orders) → frameRefusal bs ≡ 0 → Roomy (second bs) (decode bs) t c → Permuted (second bs) (decode bs) o → Scheduled (second bs) (decode bs) t c (λ p. o)
 schedule-made = schedules-exist
 
-pub room-found : (f : Frame) → (t : ℕ → Tables) × Roomy f t
+pub room-found : (counted : Bool) (f : Frame) → (t : ℕ → Tables) × (c : ℕ → List ℕ) × Roomy counted f t c
 room-found = room-exists
 
 -- There is one with rising orders, and each such schedule is the run.
-pub rising-made : (bs : List ℕ) (t : ℕ → Tables) → frameRefusal bs ≡ 0 → Roomy (decode bs) t → Scheduled (decode bs) t rising
+pub rising-made : (bs : List ℕ) (t : ℕ → Tables) (c : ℕ → List ℕ) → frameRefusal bs ≡ 0 → Roomy (second bs) (decode bs) t c → Scheduled (second bs) (decode bs) t c rising
 rising-made = rising-exists
 
-pub rising-is-run : (bs : List ℕ) (p : Plans) → frameRefusal bs ≡ 0 → Schedule (decode bs) p (rising p) → schedule (decode bs) p (rising p) ≡ runCalls (decode bs)
+pub rising-is-run : (bs : List ℕ) (p : Plans) → frameRefusal bs ≡ 0 → Schedule (second bs) (decode bs) p (rising p) → schedule (decode bs) p (rising p) ≡ runCalls (second bs) (decode bs)
 rising-is-run = rising-runs
 
 -- ---- takes by marks
@@ -221,6 +231,6 @@ first-states = states-from-0
 
 -- ---- samples
 
--- Document 01's ● samples, its printed example and request 6's samples: one table, computed.
+-- Document 01's ● samples, its printed example and the samples of requests 6 and 11: one table, computed.
 pub samples-answered : map (λ s. answer s.ask) samples ≡ map (λ s. s.gives) samples
 samples-answered = samples-hold
