@@ -2,5 +2,8 @@ pub mod Questions
 pub mod Pairs
 pub mod Counted
 pub mod Decoding
+pub mod Walks
 pub mod Files
 pub mod Whole
+pub mod Answered
+pub mod Decodes

@@ -1,28 +1,27 @@
 -- What decoding a file needs and leaves.
-use Rattle.std.specs.Prelude.{ℕ, ◌+◌, ◌*◌, ◌≡◌, List, ◌++◌, map, length}
+use Rattle.std.specs.Prelude.{ℕ, ◌+◌, ◌*◌, ◌≡◌, cond, List, [], ◌++◌, map, length, replicate}
 use Rattle.frame.specs.Frames.{flagOf}
 use Rattle.frame.specs.Questions.{asked}
-use Rattle.frame.specs.Files.{countB, countM, countJ, types_in, manifoldsIn, jointsIn, enabledIn, fileQuestions}
+use Rattle.frame.specs.Files.{second, countB, countM, countJ, types_in, manifoldsIn, jointEndsIn, countsIn, liveIn, fileQuestions}
+
+-- the counts of all constraints: manifolds are pairs; on version 1 there are none
+abbrev pub allCounts : List ℕ → List ℕ
+allCounts bs = cond (second bs) (replicate (countM bs) 2 ++ countsIn bs) []
 
 -- a file that passed questions 1 to 5, and tables of its frame's sizes
-pub record Decodable (bs : List ℕ) (m : ℕ) (ts fs ps es : List ℕ) : Type 0 where
+pub record Decodable (bs : List ℕ) (m : ℕ) (ts fs ps cs es : List ℕ) : Type 0 where
   pub file : asked (fileQuestions bs) ≡ 0
   pub manifolds : m ≡ countM bs
   pub types : length ts ≡ countB bs
   pub flags : length fs ≡ countB bs
-  pub pairs : length ps ≡ 2 * (countM bs + countJ bs)
+  pub ends : length ps ≡ 2 * countM bs + length (jointEndsIn bs)
+  pub counts : length cs ≡ length (allCounts bs)
   pub enabled : length es ≡ countJ bs
 
--- the two runs of endpoint pairs in a file, for a table of both
-pub record Paired (bs : List ℕ) (b m : ℕ) (ps : List ℕ) : Type 0 where
-  pub file : asked (fileQuestions bs) ≡ 0
-  pub bodies : b ≡ countB bs
-  pub manifolds : m ≡ countM bs
-  pub pairs : length ps ≡ 2 * (countM bs + countJ bs)
-
--- types, dynamic flags, endpoint pairs (manifolds, then joints), enabled bytes
-pub record Decoded (bs ts fs ps es : List ℕ) : Type 0 where
+-- types, flags, endpoints (manifolds, then joints), counts, enabled bytes
+pub record Decoded (bs ts fs ps cs es : List ℕ) : Type 0 where
   pub types : ts ≡ types_in bs
   pub flags : fs ≡ map flagOf (types_in bs)
-  pub pairs : ps ≡ manifoldsIn bs ++ jointsIn bs
-  pub enabled : es ≡ enabledIn bs
+  pub ends : ps ≡ manifoldsIn bs ++ jointEndsIn bs
+  pub counts : cs ≡ allCounts bs
+  pub enabled : es ≡ liveIn bs

@@ -1,5 +1,6 @@
 pub mod Frames
 pub mod Questions
 pub mod Files
+pub mod Joints
 pub mod Answers
 pub mod Decodes

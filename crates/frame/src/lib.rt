@@ -1,18 +1,22 @@
 // Frames in the file form: the limits, questions 1 to 5 over a file's bytes, the decoding of an accepted file into lent
 // tables, and the questions that several calls put to their lists (5 and 7); `multi` has those of constraints with a count
-// each. `Frame::read` answers every byte string.
+// each, and `entries` the joints of a version 2 file. `Frame::read` answers every byte string.
 // `decode` is internal: a stage of the frame run, which calls it on a file that `Frame::read` accepted.
 #![tactic(auto)]
 
+pub mod entries;
 pub mod multi;
 
-ghost use Rattle.std.specs.Prelude.{◌≡◌, ◌&&◌, map, ◌++◌, ◌+◌, ◌-◌, ◌*◌, ◌/◌, ◌%◌, ◌≤◌, ◌<◌, leb, ltb, eqb, length, get_or, take, drop};
+ghost use Rattle.std.specs.Prelude.{◌≡◌, ◌&&◌, ◌||◌, map, ◌+◌, ◌-◌, ◌*◌, ◌/◌, ◌%◌, ◌≤◌, ◌<◌, leb, ltb, eqb, length, get_or, take, drop, replicate};
 ghost use Rattle.lists.specs.Basics.{all};
 ghost use Rattle.frame.specs.Frames.{constraint, constraintsOf, sound, conflicts, flagOf};
 ghost use Rattle.frame.specs.Questions.{asked, fewEach, bits};
-ghost use Rattle.frame.specs.Files.{byte, half, word, pairsFrom, enabledFrom, countM, countJ, manifoldsIn, jointsIn, ends_at, sizeQuestions};
-ghost use Rattle.frame.specs.Decodes.{Paired, Decodable, Decoded};
+ghost use Rattle.frame.specs.Files.{byte, half, word, second, pairsFrom, enabledFrom, countM, countJ, jointsAt, liveIn, ends_at, headQuestions};
+ghost use Rattle.frame.specs.Joints.{JointsRead, Passed};
+ghost use Rattle.frame.specs.Decodes.{Decodable, Decoded};
 ghost use Rattle.frame.specs.Answers.{readNumber, readSizes, Read};
+
+use crate::entries::Walked;
 
 // The file form: how many bytes stand before the types, and how many a manifold and a joint have.
 pub const HEADER: usize = 11;
@@ -21,12 +25,14 @@ pub const PAIR: usize = 4;
 
 pub const JOINT: usize = 5;
 
-// How many bodies, manifolds and joints a frame has.
+// A file's version, how many bodies, manifolds and joints its frame has, and how many endpoints the joints have together.
 #[derive(Clone, Copy)]
 pub struct Frame {
+    pub version: u8,
     pub bodies: usize,
     pub manifolds: usize,
     pub joints: usize,
+    pub joint_ends: usize,
 }
 
 // The answer of reading a file: its sizes, or the number of the first question that got a "no".
@@ -36,7 +42,7 @@ pub enum Reading {
     Refused(u8),
 }
 
-// What reading the file answered: the refusal or 0, and B, M and J.
+// What reading the file answered: the refusal or 0, and the sizes.
 pub fn refusal_of(reading: Reading) -> u8
     ensures { result ≡ readNumber reading }
 {
@@ -52,9 +58,11 @@ pub fn sizes_of(reading: Reading) -> Frame
     match reading {
         Reading::Accepted(sizes) => sizes,
         Reading::Refused(_) => Frame {
+            version: 0,
             bodies: 0,
             manifolds: 0,
             joints: 0,
+            joint_ends: 0,
         },
     }
 }
@@ -84,12 +92,19 @@ fn word_at(bytes: &[u8], i: usize) -> usize
 
 // Question 1.
 fn version_known(bytes: &[u8]) -> bool
-    ensures { result ≡ (ltb 0 (length bytes.now) && eqb (byte bytes.now 0) 1) }
+    ensures { result ≡ (ltb 0 (length bytes.now) && (eqb (byte bytes.now 0) 1 || second bytes.now)) }
 {
     if bytes.len() == 0 {
         return false;
     }
-    bytes[0] == 1
+    (bytes[0] == 1) | (bytes[0] == 2)
+}
+
+// Whether a file's version is 2.
+pub fn is_second(bytes: &[u8]) -> bool
+    ensures { result ≡ second bytes.now }
+{
+    byte_or_zero(bytes, 0) == 2
 }
 
 // Question 2.
@@ -111,9 +126,9 @@ pub fn few_each(bodies: usize, manifolds: usize, joints: usize) -> bool
         & (joints <= Frame::MAX_JOINTS)
 }
 
-// Questions 1 to 4; 0 where all get a "yes".
-fn size_refusal(bytes: &[u8]) -> u8
-    ensures { result ≡ asked (sizeQuestions bytes.now) }
+// Questions 1 to 3; 0 where all get a "yes".
+fn head_refusal(bytes: &[u8]) -> u8
+    ensures { result ≡ asked (headQuestions bytes.now) }
 {
     if !version_known(bytes) {
         return 1;
@@ -121,16 +136,30 @@ fn size_refusal(bytes: &[u8]) -> u8
     if !length_right(bytes) {
         return 2;
     }
-    let bodies = half_at(bytes, 5);
-    let manifolds = half_at(bytes, 7);
-    let joints = half_at(bytes, 9);
-    if !few_each(bodies, manifolds, joints) {
+    if !few_each(half_at(bytes, 5), half_at(bytes, 7), half_at(bytes, 9)) {
         return 3;
     }
-    if word_at(bytes, 1) != 6 + bodies + PAIR * manifolds + JOINT * joints {
-        return 4;
-    }
     0
+}
+
+// Questions 5 (of counts) and 4 of the joints that start at `from`: the walk of version 2, the length of version 1.
+fn walk_joints(bytes: &[u8], from: usize, joints: usize) -> Walked
+    requires { (asked (headQuestions bytes.now) ≡ 0) × (from ≡ jointsAt bytes.now) × (joints ≡ countJ bytes.now) }
+    ensures { JointsRead bytes.now result }
+{
+    if is_second(bytes) {
+        return entries::walk(bytes, from, joints);
+    }
+    if bytes.len() != from + JOINT * joints {
+        return Walked {
+            refusal: 4,
+            ends: 0,
+        };
+    }
+    Walked {
+        refusal: 0,
+        ends: 2 * joints,
+    }
 }
 
 // Question 5: is every byte at most `limit`? (`Frame::MAX_TYPE` for types, 1 for enabled bytes and flags)
@@ -147,7 +176,7 @@ pub fn at_most(s: &[u8], limit: u8) -> bool
     known
 }
 
-// Question 5 of the enabled bytes of the `joints` joints that start at `from`.
+// Question 5 of the enabled bytes of the `joints` joints that start at `from`, version 1.
 fn enabled_known(bytes: &[u8], from: usize, joints: usize) -> bool
     requires { (from + 5 * joints ≤ length bytes.now) × (joints ≤ 4096) }
     ensures { result ≡ bits (enabledFrom bytes.now from joints) }
@@ -165,6 +194,17 @@ fn enabled_known(bytes: &[u8], from: usize, joints: usize) -> bool
     true
 }
 
+// Question 5 of the enabled bytes, by version.
+fn live_known(bytes: &[u8], from: usize, joints: usize) -> bool
+    requires { Passed bytes.now from joints }
+    ensures { result ≡ bits (liveIn bytes.now) }
+{
+    if is_second(bytes) {
+        return entries::enabled_known(bytes, from, joints);
+    }
+    enabled_known(bytes, from, joints)
+}
+
 impl Frame {
     pub const MAX_BODIES: usize = 4096;
 
@@ -174,7 +214,7 @@ impl Frame {
 
     pub const MAX_PAIRS: usize = 8192;
 
-    pub const MAX_BYTES: usize = 40971;
+    pub const MAX_BYTES: usize = 61451;
 
     // The types are static (0), kinematic (1), dynamic (2) and logged (3).
     pub const MAX_TYPE: u8 = 3;
@@ -188,23 +228,30 @@ impl Frame {
     pub fn read(bytes: &[u8]) -> Reading
         ensures { Read bytes.now result }
     {
-        let refusal = size_refusal(bytes);
+        let refusal = head_refusal(bytes);
         if refusal != 0 {
             return Reading::Refused(refusal);
         }
         let bodies = half_at(bytes, 5);
         let manifolds = half_at(bytes, 7);
         let joints = half_at(bytes, 9);
+        let from = HEADER + bodies + PAIR * manifolds;
+        let walked = walk_joints(bytes, from, joints);
+        if walked.refusal != 0 {
+            return Reading::Refused(walked.refusal);
+        }
         if !at_most(&bytes[HEADER..HEADER + bodies], Frame::MAX_TYPE) {
             return Reading::Refused(5);
         }
-        if !enabled_known(bytes, HEADER + bodies + PAIR * manifolds, joints) {
+        if !live_known(bytes, from, joints) {
             return Reading::Refused(5);
         }
         Reading::Accepted(Frame {
+            version: bytes[0],
             bodies: bodies,
             manifolds: manifolds,
             joints: joints,
+            joint_ends: walked.ends,
         })
     }
 }
@@ -264,7 +311,7 @@ fn decode_pairs(bytes: &[u8], from: usize, step: usize, pairs: &mut [u16])
     }
 }
 
-// The enabled bytes of the joints that start at `from`.
+// The enabled bytes of the joints that start at `from`, version 1.
 fn decode_enabled(bytes: &[u8], from: usize, enabled: &mut [u8])
     requires { from + 5 * length enabled.old ≤ length bytes.now }
     ensures { enabled.new ≡ enabledFrom bytes.now from (length enabled.old) }
@@ -279,41 +326,54 @@ fn decode_enabled(bytes: &[u8], from: usize, enabled: &mut [u8])
     }
 }
 
-// All endpoint pairs: manifolds, then joints.
-fn decode_constraints(bytes: &[u8], bodies: usize, manifolds: usize, pairs: &mut [u16])
-    requires { Paired bytes.now bodies manifolds pairs.old }
-    ensures { pairs.new ≡ manifoldsIn bytes.now ++ jointsIn bytes.now }
+// The counts of constraints that are pairs.
+fn fill_twos(counts: &mut [u8])
+    ensures { counts.new ≡ replicate (length counts.old) 2 }
 {
-    let n = 2 * manifolds;
-    decode_pairs(bytes, HEADER + bodies, PAIR, &mut pairs[..n]);
-    decode_pairs(
-        bytes,
-        HEADER + bodies + PAIR * manifolds,
-        JOINT,
-        &mut pairs[n..],
-    );
+    let mut i = 0;
+    // The first i counts are 2.
+    while i < counts.len() {
+        counts[i] = 2;
+        i += 1;
+    }
 }
 
-// The whole file, into tables of its frame's sizes.
+// The whole file, into tables of its frame's sizes. On version 1 `counts` is empty; on version 2 it has a count for each
+// manifold and joint.
 pub fn decode(
     bytes: &[u8],
     manifolds: usize,
     types: &mut [u8],
     flags: &mut [u8],
     pairs: &mut [u16],
+    counts: &mut [u8],
     enabled: &mut [u8],
 )
-    requires { Decodable bytes.now manifolds types.old flags.old pairs.old enabled.old }
-    ensures { Decoded bytes.now types.new flags.new pairs.new enabled.new }
+    requires { Decodable bytes.now manifolds types.old flags.old pairs.old counts.old enabled.old }
+    ensures { Decoded bytes.now types.new flags.new pairs.new counts.new enabled.new }
 {
     decode_types(bytes, types);
     flag_bodies(types, flags);
-    decode_constraints(bytes, types.len(), manifolds, pairs);
-    decode_enabled(bytes, HEADER + types.len() + PAIR * manifolds, enabled);
+    let n = 2 * manifolds;
+    decode_pairs(bytes, HEADER + types.len(), PAIR, &mut pairs[..n]);
+    let from = HEADER + types.len() + PAIR * manifolds;
+    if is_second(bytes) {
+        fill_twos(&mut counts[..manifolds]);
+        entries::decode(
+            bytes,
+            from,
+            &mut pairs[n..],
+            &mut counts[manifolds..],
+            enabled,
+        );
+        return;
+    }
+    decode_pairs(bytes, from, JOINT, &mut pairs[n..]);
+    decode_enabled(bytes, from, enabled);
 }
 
 // The byte at any place of any file, 0 past its end.
-fn byte_or_zero(bytes: &[u8], i: usize) -> usize
+pub fn byte_or_zero(bytes: &[u8], i: usize) -> usize
     ensures { (result ≡ byte bytes.now i) × (result < 256) }
 {
     if i < bytes.len() {
@@ -337,7 +397,8 @@ pub fn constraint_count(bytes: &[u8]) -> usize
     half_or_zero(bytes, 7) + half_or_zero(bytes, 9)
 }
 
-// Where a file has the endpoints of a constraint: manifolds first, then joints.
+// Where a version 1 file has the endpoints of a constraint: manifolds first, then joints. A version 2 file has its manifolds' there,
+// and its joints' where `entries::entry_places` says.
 pub fn ends_at(bytes: &[u8], constraint: usize) -> usize
     requires { constraint < 131072 }
     ensures { (result ≡ ends_at bytes.now constraint) × (result + 2 < 1048576) }

@@ -3,7 +3,7 @@
 -- back since n / 256 * 256 + n % 256 is n, and pairs and joints are read back one after another.
 use Prim.Native.Nat.{ℕ, zero, suc, ◌+◌, ◌-◌, ◌*◌, ◌/◌, ◌%◌}
 use mathlib.Core.Path.{◌≡◌, refl, sym, ap, ◌∙◌}
-use mathlib.Core.Bool.{true, ◌&&◌}
+use mathlib.Core.Bool.{true, false, ◌&&◌, ◌||◌}
 use mathlib.Core.List.{List, [], ◌∷◌, ◌++◌}
 use native.Mathlib.Omega.{arith}
 use lib.Dec.{leb, ltb, eqb}
@@ -12,7 +12,8 @@ use lib.Seq.{get_or-drop, drop-drop, take_at, drop_at}
 use borrow.Author.Tests.{lt-ltb, le-leb, eq-eqb}
 use Rattle.frame.specs.Frames.{frame_of, allSound}
 use Rattle.frame.specs.Questions.{fewEach, pairCount, typesKnown, bits}
-use Rattle.frame.specs.Files.{byte, half, word, countB, countM, countJ, pairsAt, jointsAt, pairsFrom, enabledFrom, types_in, manifoldsIn, jointsIn, enabledIn, decode, frameRefusal}
+use Rattle.frame.specs.Files.{byte, half, word, countB, countM, countJ, pairsAt, jointsAt, pairsFrom, enabledFrom, types_in, manifoldsIn, jointsIn, enabledIn, second, decode, frameRefusal}
+use Rattle.frame.proofs.Files.{decode-first}
 use Rattle.frame_file.specs.Written.{halfBytes, word_bytes, fileLength, headerBytes, pairBytes, jointBytes, fileOf, Writable}
 
 -- ---- numbers, at a place s of a file bs
@@ -99,6 +100,9 @@ module _ (ts ps js es : List ℕ) where
   unfolding fileOf headerBytes
   version-read = refl
 
+  first-read : second file ≡ false
+  first-read = rw version-read
+
   length-read : word file 1 ≡ 6 + length ts + 4 * pairCount ps + 5 * length es
   unfolding fileOf headerBytes word_bytes halfBytes
   length-read = word_at file 1 (6 + length ts + 4 * pairCount ps + 5 * length es) _ refl
@@ -149,14 +153,13 @@ module _ (ts ps js es : List ℕ) where
         )
 
     pub written-decoded : decode (fileOf ts ps js es) ≡ frame_of ts ps js es
-    unfolding decode
-    written-decoded = rw (types-read, manifolds-read, joint-parts.0, joint-parts.1)
+    written-decoded = decode-first file first-read ∙ rw (types-read, manifolds-read, joint-parts.0, joint-parts.1)
 
     pub written-passes : typesKnown ts ≡ true → bits es ≡ true → allSound (frame_of ts ps js es) ≡ true → frameRefusal (fileOf ts ps js es) ≡ 0
     unfolding frameRefusal
-    written-passes known enabled sound = rw (q1, q2, q3, q4, q5, q7)
+    written-passes known enabled sound = rw (first-read, q1, q2, q3, q4, q5, q7)
       where
-        q1 : (ltb 0 (length file) && eqb (byte file 0) 1) ≡ true
+        q1 : (ltb 0 (length file) && (eqb (byte file 0) 1 || false)) ≡ true
         q1 =
             let some = lt-ltb 0 (length file) (omega (arith, file-long)) in
             let one = eq-eqb (byte file 0) 1 version-read in

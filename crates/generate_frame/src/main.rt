@@ -3,8 +3,6 @@
 // can't be read gets a message on standard error, and nothing goes to standard output. What is printed is made by `lift_print`.
 #![tactic(auto)]
 
-use frame::Frame;
-
 // The standard streams, by their file descriptors.
 const STDERR: i32 = 2;
 
@@ -31,7 +29,7 @@ fn complain() {
 
 fn main() {
     let mut text = [0u8; LINE];
-    let mut out = [0u8; Frame::MAX_BYTES];
+    let mut out = [0u8; generator::MAX_BYTES];
     let read = io::read_full(STDIN, &mut text);
     let size = lift_print::put_print(&text[..read], &mut out);
     if size == 0 {

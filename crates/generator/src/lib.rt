@@ -1,6 +1,6 @@
 // Test lifts from a number: one seed gives the same frame on every unit. A linear congruential generator draws the types, then the
 // manifolds' pairs, then the joints, each pair of two different bodies, straight into the lent bytes in the file form. `generate`
-// answers every seed and all sizes; its time is linear in the frame's bytes, and the largest frame has 40,971 of them.
+// answers every seed and all sizes; its time is linear in the frame's bytes.
 #![tactic(auto)]
 
 ghost use Rattle.std.specs.Prelude.{◌≡◌, ◌+◌, ◌*◌, ◌/◌, ◌%◌, ◌^◌, ◌<◌, ◌≤◌, true, [], ◌∷◌, ◌++◌, length};
@@ -11,6 +11,9 @@ ghost use Rattle.generator.specs.Draws.{nextState, stateAfter, draw, pairDrawn, 
 ghost use Rattle.generator.specs.Calls.{pairsPossible, generateRefusal, generatedNumber, generatedLength, Makes};
 
 use frame::{HEADER, JOINT, PAIR};
+
+// How long the largest frame is that it makes, a file of version 1.
+pub const MAX_BYTES: usize = 40971;
 
 // The answer of `generate`: the frame's length, or the number of the first question that got a "no".
 #[derive(Clone, Copy)]

@@ -2,7 +2,6 @@
 // FNV-1a hash of 32 bits. The lent bytes are 0xab before the call.
 #![tactic(auto)]
 
-use frame::Frame;
 use generator::Generated;
 
 // Standard output, by its file descriptor.
@@ -103,10 +102,10 @@ fn short(name: &[u8], seed: u32, bodies: usize, manifolds: usize, joints: usize,
     }
 }
 
-// A sample with at most as many bytes lent as the longest frame has.
+// A sample with at most as many bytes lent as the largest frame has.
 fn long(name: &[u8], seed: u32, bodies: usize, manifolds: usize, joints: usize, lent: usize) {
-    let mut bytes = [171u8; Frame::MAX_BYTES];
-    if lent <= Frame::MAX_BYTES {
+    let mut bytes = [171u8; generator::MAX_BYTES];
+    if lent <= generator::MAX_BYTES {
         show_sums(name, seed, bodies, manifolds, joints, &mut bytes[..lent]);
     }
 }

@@ -16,8 +16,8 @@ const BOTH_DYNAMIC: usize = 514;
 // The type of a dynamic body.
 const DYNAMIC: u8 = 2;
 
-// Two bodies are joined if both are dynamic. Their types are tested as one number: one branch to guess, not two. The loops that call it have
-// its code in place: no call for each pair.
+// Two bodies are joined if both are dynamic. Their types are tested as one number: one branch to guess, not two. Its code stands in both
+// loops that call it, so that no pair costs a call.
 #[inline(always)]
 fn join_dynamic(body_types: &[u8], parents: &mut [u16], sizes: &mut [u16], a: u16, b: u16)
     requires { Sets parents.old sizes.old × (length parents.old ≡ length body_types.now) × (a < length body_types.now) × (b < length body_types.now) }

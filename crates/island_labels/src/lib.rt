@@ -151,7 +151,8 @@ fn label_counted(
     }
 }
 
-// The labels of a frame's joints: pairs where there are no counts.
+// The labels of a frame's joints: pairs where there are no counts. A function of its own, so that the loop over pairs keeps its registers.
+#[inline(never)]
 pub fn label_joints(
     ends: &[u16],
     counts: &[u8],

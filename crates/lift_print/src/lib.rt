@@ -6,7 +6,6 @@ ghost use Rattle.std.specs.Prelude.{◌≡◌, length};
 ghost use Rattle.lift_line.specs.Lines.{line_of};
 ghost use Rattle.lift_print.specs.Prints.{liftOf, liftAsked, Printed};
 
-use frame::Frame;
 use generator::Generated;
 use lift_line::Line;
 
@@ -36,7 +35,7 @@ fn put_asked(out: &mut [u8], line: Line) -> usize
 }
 
 // The print of a text.
-pub fn put_print(text: &[u8], out: &mut [u8; Frame::MAX_BYTES]) -> usize
+pub fn put_print(text: &[u8], out: &mut [u8; generator::MAX_BYTES]) -> usize
     ensures { Printed (liftAsked (line_of text.now)) out.old out.new result }
 {
     let line = lift_line::read_line(text);

@@ -7,7 +7,7 @@ use mathlib.Core.List.{List}
 use lib.Dec.{eqb}
 use borrow.Author.Tests.{ne_eqb}
 use Rattle.lists.specs.Basics.{over}
-use Rattle.groups.specs.Groups.{multi_plan_of}
+use Rattle.groups.specs.Groups.{Plan, with_counts, multi_plan_of}
 use Rattle.plan_questions.specs.Plans.{Tables}
 use Rattle.constraint_coloring.specs.Stages.{Rebuilt}
 use Rattle.constraint_coloring.specs.declared.ConstraintColoring.{ConstraintColoring}
@@ -20,6 +20,28 @@ use Rattle.multi_coloring.specs.declared.MultiUpdate.TheVariants.{Changed, Uncha
 -- what a built plan carries, as a plan with counts
 abbrev pub counted-plan : ConstraintColoring → MultiColoring
 counted-plan q = record { body_count = q.body_count; constraint_count = q.constraint_count; color_count = q.color_count; max_color_constraint_count = q.max_color_constraint_count }
+
+-- counts are no part of what is built
+pub built-counts : (counts : List ℕ) {flags ends : List ℕ} {d : Plan} {t u : Tables} {r : ConstraintColoring} → Rebuilt flags ends d t u r → Rebuilt flags ends (with_counts counts d) t u r
+built-counts counts w =
+    record {
+      plan = w.plan;
+      tables = record {
+        dynamic-bodies = w.tables.dynamic-bodies;
+        endpoints = w.tables.endpoints;
+        body-offsets = w.tables.body-offsets;
+        body-constraints = w.tables.body-constraints;
+        scratch-offsets = w.tables.scratch-offsets;
+        constraint-colors = w.tables.constraint-colors;
+        color-stamps = w.tables.color-stamps;
+        body-stamps = w.tables.body-stamps;
+        color-offsets = w.tables.color-offsets;
+        colored-constraints = w.tables.colored-constraints;
+        color-body-offsets = w.tables.color-body-offsets;
+        color-bodies = w.tables.color-bodies;
+        constraint-body-positions = w.tables.constraint-body-positions;
+      };
+    }
 
 module _ (p : MultiColoring) (flags ends counts : List ℕ) (t : Tables) (c : List ℕ) where
   abbrev refusal : ℕ

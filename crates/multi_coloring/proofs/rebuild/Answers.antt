@@ -9,6 +9,7 @@ use lib.Seq.{take_at, length-take-le, length_front}
 use Rattle.parts.proofs.Bounds.{parts-counted}
 use Rattle.plan_questions.specs.Plans.{Tables, tables_of}
 use Rattle.constraint_coloring.proofs.Updates.{built}
+use Rattle.multi_coloring.proofs.Updates.{built-counts}
 use Rattle.multi_coloring.proofs.Accepted.{Accepted, accepted, two-each, few-ends, buildable}
 use Rattle.multi_coloring.proofs.rebuild.Goals as goal
 use Rattle.multi_coloring.proofs.rebuild.Goals.{After-bound_counts}
@@ -77,4 +78,4 @@ returns-clause-built c =
     c.build_plan.new.scratch_offsets c.build_plan.new.constraint_colors p.args.color_stamps.now c.build_plan.new.body_stamps
     c.build_plan.new.color_offsets c.build_plan.new.colored_constraints c.build_plan.new.color_body_offsets c.build_plan.new.color_bodies
     c.build_plan.new.constraint_body_positions in
-    built (entry p) exit w refl (bounds-kept p) refl
+    built-counts p.args.counts_in.now (built (entry p) exit w refl (bounds-kept p) refl)

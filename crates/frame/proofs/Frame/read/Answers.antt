@@ -1,9 +1,11 @@
--- `Frame::read`: questions 1 to 4 give the sizes, so that the parts looked at for question 5 lie inside the file.
+-- `Frame::read`: the head's questions, then the joints', then 5 of types and enabled bytes.
 use Rattle.std.proofs.Common.{sym, ◌∙◌, arith}
-use Rattle.frame.proofs.Files.{sized}
+use Rattle.frame.proofs.Files.{joints-inside}
+use Rattle.frame.proofs.Answered.{read-joints}
 use Rattle.frame.proofs.Frame.read.Goals as goal
 
-pub enabled_known-requires : goal.enabled_known-requires
-enabled_known-requires c =
-    let s = sized c.args.bytes.now (sym c.size_refusal-refusal.ensures ∙ c.if-refusal-ne0.false) in
-    (omega (arith, s.bytes, c.half_at-bodies.ensures.0, c.half_at-manifolds.ensures.0, c.half_at-joints.ensures.0), omega (arith, s.joints, c.half_at-joints.ensures.0))
+pub returns-then-walked-ne0 : goal.returns-then-walked-ne0
+returns-then-walked-ne0 c = read-joints c.args.bytes.now (sym c.head_refusal-refusal.ensures ∙ c.if-refusal-ne0.false) _ c.walk_joints-walked.ensures.refusal c.if-walked-ne0.true
+
+pub slice_bounds-at_most-end : goal.slice_bounds-at_most-end
+slice_bounds-at_most-end c = omega (arith, c.half_at-bodies.ensures.0, joints-inside c.args.bytes.now (sym c.head_refusal-refusal.ensures ∙ c.if-refusal-ne0.false) (sym c.walk_joints-walked.ensures.refusal ∙ c.if-walked-ne0.false))

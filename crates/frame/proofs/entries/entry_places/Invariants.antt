@@ -1,0 +1,18 @@
+-- `frame::entries::entry_places`: the places filled so far, and those of the entries from place `at` on, make up all.
+use Prim.Native.Nat.{◌≤◌, ◌-◌}
+use mathlib.Core.Path.{◌≡◌}
+use mathlib.Core.List.{◌++◌}
+use lib.ListN.{length, take}
+use Rattle.frame.specs.Files.{entriesRefusal, placesFrom, jointsAt, countJ}
+use Rattle.frame.proofs.entries.entry_places.Given as goal
+
+abbrev pub invariant-loop-j : goal.invariant-loop-j
+invariant-loop-j l = record {
+  few : l.j ≤ length l.initial.places;
+  long : length l.places ≡ length l.initial.places;
+  walked : entriesRefusal l.bytes l.at (length l.initial.places - l.j) ≡ 0;
+  places : take l.j l.places ++ placesFrom l.bytes l.at (length l.initial.places - l.j) ≡ placesFrom l.bytes (jointsAt l.bytes) (countJ l.bytes);
+}
+
+abbrev pub decreases-loop-j : goal.decreases-loop-j
+decreases-loop-j l = length l.initial.places - l.j

@@ -1,0 +1,18 @@
+-- `frame::entries::walk`: the refusal of the walk from place `at` on is that of the whole walk, and the endpoints counted so far and those
+-- still to come make up all. An entry that passes lies inside the file, so no place and no sum wraps.
+use Prim.Native.Nat.{◌≤◌, ◌+◌}
+use mathlib.Core.Path.{◌≡◌}
+use lib.ListN.{length}
+use Rattle.frame.specs.Files.{entriesRefusal, endsFrom}
+use Rattle.frame.proofs.entries.walk.Given as goal
+
+abbrev pub invariant-loop-left : goal.invariant-loop-left
+invariant-loop-left l = record {
+  inside : l.at ≤ length l.bytes;
+  few : l.ends ≤ l.at;
+  refusal : entriesRefusal l.bytes l.at l.left ≡ entriesRefusal l.bytes l.from l.joints;
+  ends : l.ends + length (endsFrom l.bytes l.at l.left) ≡ length (endsFrom l.bytes l.from l.joints);
+}
+
+abbrev pub decreases-loop-left : goal.decreases-loop-left
+decreases-loop-left l = l.left

@@ -1,0 +1,137 @@
+// The joints of a version 2 file, entry after entry: an enabled byte, a count of two to four, and as many endpoints of 16 bits. The place
+// of an entry is found only by a walk over those before it.
+ghost use Rattle.std.specs.Prelude.{◌≡◌, ◌+◌, ◌*◌, ◌≤◌, length};
+ghost use Rattle.frame.specs.Questions.{bits};
+ghost use Rattle.frame.specs.Files.{entryRefusal, entriesRefusal, placesFrom, halvesFrom, liveFrom, countJ, jointsAt};
+ghost use Rattle.frame.specs.Joints.{Walks, Walkable, Entered, Placeable};
+
+use crate::multi::counted;
+use crate::{HEADER, PAIR, half_at, wide};
+
+// What a walk over joints answers: its refusal or 0, and how many endpoints they have together.
+#[derive(Clone, Copy)]
+pub struct Walked {
+    pub refusal: u8,
+    pub ends: usize,
+}
+
+// The entry at a place of the file: cut off before its count is met (4), a wrong count (5), cut off behind it (4), or 0.
+fn entry_refusal(bytes: &[u8], at: usize) -> u8
+    requires { at ≤ length bytes.now }
+    ensures { result ≡ entryRefusal bytes.now at }
+{
+    let left = bytes.len() - at;
+    if left < 2 {
+        return 4;
+    }
+    let count = wide(bytes[at + 1]);
+    if !counted(count) {
+        return 5;
+    }
+    if left - 2 < 2 * count {
+        return 4;
+    }
+    0
+}
+
+// The walk over the `joints` entries that start at `from`; behind the last one nothing may be left over.
+pub fn walk(bytes: &[u8], from: usize, joints: usize) -> Walked
+    ensures { Walks bytes.now from joints result }
+{
+    if bytes.len() < from {
+        return Walked {
+            refusal: 4,
+            ends: 0,
+        };
+    }
+    let mut at = from;
+    let mut left = joints;
+    let mut ends: usize = 0;
+    // The entries before place `at` pass and have `ends` endpoints; `left` of them are still to be met.
+    while 0 < left {
+        let refusal = entry_refusal(bytes, at);
+        if refusal != 0 {
+            return Walked {
+                refusal: refusal,
+                ends: 0,
+            };
+        }
+        let count = wide(bytes[at + 1]);
+        at += 2 + 2 * count;
+        ends += count;
+        left -= 1;
+    }
+    let refusal = if at != bytes.len() { 4 } else { 0 };
+    Walked {
+        refusal: refusal,
+        ends: ends,
+    }
+}
+
+// Question 5 of the enabled bytes of the `joints` entries that start at `from`.
+pub fn enabled_known(bytes: &[u8], from: usize, joints: usize) -> bool
+    requires { entriesRefusal bytes.now from joints ≡ 0 }
+    ensures { result ≡ bits (liveFrom bytes.now from joints) }
+{
+    let mut at = from;
+    let mut left = joints;
+    // The entries before place `at` have known bytes; `left` of them are still to be asked.
+    while 0 < left {
+        if 1 < bytes[at] {
+            return false;
+        }
+        at += 2 + 2 * wide(bytes[at + 1]);
+        left -= 1;
+    }
+    true
+}
+
+// Numbers of 16 bits, from place `from` on.
+fn decode_halves(bytes: &[u8], from: usize, halves: &mut [u16])
+    requires { from + 2 * length halves.old ≤ length bytes.now }
+    ensures { halves.new ≡ halvesFrom bytes.now from (length halves.old) }
+{
+    let mut at = from;
+    let mut k = 0;
+    // The first k entries are the numbers before place `at`.
+    while k < halves.len() {
+        halves[k] = half_at(bytes, at) as u16;
+        at += 2;
+        k += 1;
+    }
+}
+
+// The entries that start at `from`: their endpoints one entry after another, their counts and their enabled bytes.
+pub fn decode(bytes: &[u8], from: usize, ends: &mut [u16], counts: &mut [u8], enabled: &mut [u8])
+    requires { Walkable bytes.now from ends.old counts.old enabled.old }
+    ensures { Entered bytes.now from (length enabled.old) ends.new counts.new enabled.new }
+{
+    let mut at = from;
+    let mut k = 0;
+    let mut j = 0;
+    // The first j entries stand before place `at`, and their endpoints before entry k.
+    while j < enabled.len() {
+        let count = wide(bytes[at + 1]);
+        enabled[j] = bytes[at];
+        counts[j] = bytes[at + 1];
+        decode_halves(bytes, at + 2, &mut ends[k..k + count]);
+        at += 2 + 2 * count;
+        k += count;
+        j += 1;
+    }
+}
+
+// The places of all entries of a file.
+pub fn entry_places(bytes: &[u8], places: &mut [u16])
+    requires { Placeable bytes.now places.old }
+    ensures { places.new ≡ placesFrom bytes.now (jointsAt bytes.now) (countJ bytes.now) }
+{
+    let mut at = HEADER + half_at(bytes, 5) + PAIR * half_at(bytes, 7);
+    let mut j = 0;
+    // The first j places are those of the entries before place `at`.
+    while j < places.len() {
+        places[j] = at as u16;
+        at += 2 + 2 * wide(bytes[at + 1]);
+        j += 1;
+    }
+}
