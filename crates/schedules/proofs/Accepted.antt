@@ -2,27 +2,24 @@
 -- to four, and just two on version 1.
 use Prim.Native.Nat.{ℕ, ◌≤◌, ◌<◌}
 use mathlib.Core.Path.{◌≡◌, refl, ap, ◌∙◌}
-use mathlib.Core.Bool.{Bool, true, false, not, ◌||◌, cond}
+use mathlib.Core.Bool.{Bool, true, false, cond}
 use mathlib.Core.List.{List, [], ◌∷◌}
 use native.Mathlib.Omega.{arith}
 use lib.Dec.{leb, ltb, eqb}
 use lib.ListN.{length, get_or, drop, length-take, get_or-map, get_or-eq_default}
-use borrow.Author.Tests.{le-leb, eqb-true, ltb-true, ltb-false}
-use Rattle.lists.specs.Basics.{any, all}
-use Rattle.lists.proofs.Laws.{and_left, and_both, or_left, clashes, by_cases, all_get_d, all_append}
+use borrow.Author.Tests.{le-leb, ltb-true, ltb-false}
+use Rattle.lists.specs.Basics.{any}
+use Rattle.lists.proofs.Laws.{and_left, and_both, or_left, clashes, by_cases, all_get_d}
 use Rattle.lists.proofs.Bits.{one-true}
-use Rattle.frame.specs.Frames.{Constraint, Frame, constraints, constraintAt, constraintsOf, nothing, connects, logged, conflicts, dynamic, conflicting, touches, fits, counted as two-to-four, sound, allSound, flagOf}
-use Rattle.frame.specs.Questions.{question, typesKnown, bits}
-use Rattle.frame.specs.Files.{countB, types_in, manifoldsIn, jointsIn, enabledIn, liveIn, second, decode, fileQuestions, frameRefusal}
+use Rattle.frame.specs.Frames.{Constraint, Frame, constraints, constraintAt, nothing, connects, logged, conflicts, dynamic, conflicting, touches, fits, counted as two-to-four, sound, allSound, flagOf}
+use Rattle.frame.specs.Questions.{question, typesKnown}
+use Rattle.frame.specs.Files.{countB, second, decode, fileQuestions, frameRefusal}
 use Rattle.frame.proofs.Questions.{passed, asked-both}
+use Rattle.frame.proofs.Pairs.{live-number}
 use Rattle.frame.proofs.Counted.{Fitting, fits-parts}
-use Rattle.frame.proofs.Files.{file-sized, file-known, constraint-count}
+use Rattle.frame.proofs.Files.{file-sized, file-types, constraint-count, two-ends as file-two}
 use Rattle.groups.specs.Groups.{flagged}
 use Rattle.schedules.specs.Runs.{flags}
-
--- a live constraint has two endpoints
-abbrev paired : Constraint → Bool
-paired c = not c.live || eqb (length c.ends) 2
 
 -- what the questions that a frame passed tell; if its constraints have no counts, they are pairs
 pub record Accepted (counted : Bool) (f : Frame) : Type 0 where
@@ -30,18 +27,7 @@ pub record Accepted (counted : Bool) (f : Frame) : Type 0 where
   pub types-known : typesKnown f.types ≡ true
   pub few-constraints : length (constraints f) ≤ 8192
   pub all_sound : allSound f ≡ true
-  pub pairs : counted ≡ false → all paired (constraints f) ≡ true
-
-all-paired : (ps es : List ℕ) → all paired (constraintsOf ps es) ≡ true
-all-paired [] es = refl
-all-paired (a ∷ []) es = refl
-all-paired (a ∷ b ∷ r) [] = all-paired r []
-all-paired (a ∷ b ∷ r) (e ∷ es) = by_cases (eqb e 1) (λ t. rw t (all-paired r es)) (λ t. rw t (all-paired r es))
-
--- version 1
-decoded-pairs : (bs : List ℕ) → second bs ≡ false → all paired (constraints (decode bs)) ≡ true
-unfolding decode
-decoded-pairs bs e = rw (e, all_append paired (constraintsOf (manifoldsIn bs) []) (constraintsOf (jointsIn bs) (enabledIn bs)), all-paired (manifoldsIn bs) [], all-paired (jointsIn bs) (enabledIn bs)) refl
+  pub pairs : counted ≡ false → (n : ℕ) → n < length (constraints f) → length (constraintAt f n).ends ≡ 2
 
 pub accepted : (bs : List ℕ) → frameRefusal bs ≡ 0 → Accepted (second bs) (decode bs)
 unfolding frameRefusal decode
@@ -50,10 +36,10 @@ accepted bs e =
     let s = file-sized bs a.0 in
     record {
       few-bodies = omega (arith, length-take (countB bs) (drop 11 bs), s.bodies);
-      types-known = and_left (typesKnown (types_in bs)) (bits (liveIn bs)) (file-known bs a.0);
+      types-known = file-types bs a.0;
       few-constraints = omega (arith, constraint-count bs, s.manifolds, s.joints);
       all_sound = (passed (allSound (decode bs)) 0 6 a.1).0;
-      pairs = decoded-pairs bs;
+      pairs = λ v n h. file-two bs n v (omega (arith, constraint-count bs));
     }
 
 -- a flag of a body says whether it makes conflicts
@@ -88,8 +74,7 @@ module _ {counted : Bool} (f : Frame) (ok : Accepted counted f) (n : ℕ) (e : (
   sized = let k = length (constraintAt f n).ends in and_both (leb 2 k) (leb k 4) (le-leb 2 k live.least) (le-leb k 4 live.most)
 
   pub two-ends : counted ≡ false → length (constraintAt f n).ends ≡ 2
-  unfolding constraintAt
-  two-ends v = eqb-true (length (constraintAt f n).ends) 2 (rw e at (all_get_d paired nothing (constraints f) n refl (ok.pairs v)))
+  two-ends v = ok.pairs v n (live-number f n e)
 
   -- so not more than its version has
   pub ends-few : length (constraintAt f n).ends ≤ cond counted 4 2

@@ -176,7 +176,7 @@ module _ (flags : List ℕ) (cs : List (List ℕ)) where
 -- ---- pairs
 module _ (flags pairs : List ℕ) (room : Bool) (ok : updateRefusal flags pairs room ≡ 0) where
   -- what the questions of an update say
-  asked-pairs : (length pairs / 2 ≤ 8192) × (length pairs ≡ 2 * (length pairs / 2))
+  pub asked-pairs : (length pairs / 2 ≤ 8192) × (length pairs ≡ 2 * (length pairs / 2))
   unfolding updateRefusal
   asked-pairs =
       let q3 = passed (few flags pairs) _ 2 ok in
@@ -211,7 +211,7 @@ updated-pairs flags pairs t u r ok up =
 
 -- ---- constraints that have a count each
 module _ (flags ends counts : List ℕ) (room : Bool) (ok : multiUpdateRefusal flags ends counts room ≡ 0) where
-  asked-counts : (leb (length flags) 4096 ≡ true) × (length counts ≤ 8192) × (endCount counts ≡ length ends) × (bits flags ≡ true) × (countsKnown counts ≡ true)
+  pub asked-counts : (leb (length flags) 4096 ≡ true) × (length counts ≤ 8192) × (endCount counts ≡ length ends) × (bits flags ≡ true) × (countsKnown counts ≡ true)
   unfolding multiUpdateRefusal
   asked-counts =
       let q3 = passed (leb (length flags) 4096 && leb (length counts) 8192) _ 2 ok in
@@ -268,21 +268,24 @@ module _ (flags ends counts : List ℕ) (t u : Tables) (c c' : List ℕ) (r : Mu
   carries : numbersOf (multiPlanAfter freshMulti r) ≡ cond changes (carried (planFrom flags parts)) freshPlan
   carries = by_cases changes (λ e. rw e (rw e at (ap numbersOf up.plan))) (λ e. rw e (rw e at (ap numbersOf up.plan)))
 
-  remembered-counts : Counted flags parts c'
+  -- the counts that the plan remembers begin with those of the update
+  remembered-counts : (rest : List ℕ) × (c' ≡ counts ++ rest)
   unfolding written
   remembered-counts = by_cases changes
-      (λ e. rw (up.counts-are, e) (each flags ends counts _ passes (drop (length counts) c)))
-      (λ e. rw (up.counts-are, e) (subst (Counted flags parts) (ap (λ (l : List ℕ). l ++ c) (none e)) (each flags ends counts _ passes c)))
+      (λ e. (drop (length counts) c, rw (up.counts-are, e) refl))
+      (λ e. (c, rw (up.counts-are, e, none e) refl))
 
-  updated-by : (k : List ℕ) → Counted flags parts k → Lookups flags parts (standing (numbersOf (multiPlanAfter freshMulti r)) k u)
-  updated-by k h = left flags parts (few-counts flags ends counts _ passes) changes ends k counts (numbersOf (multiPlanAfter freshMulti r)) t u (λ e. ap (λ (l : List ℕ). counted_parts l ends) (none e)) carries up.tables h
+  updated-behind : (rest : List ℕ) → Lookups flags parts (standing (numbersOf (multiPlanAfter freshMulti r)) (counts ++ rest) u)
+  updated-behind rest =
+      left flags parts (few-counts flags ends counts _ passes) changes ends (counts ++ rest) counts (numbersOf (multiPlanAfter freshMulti r)) t u
+      (λ e. ap (λ (l : List ℕ). counted_parts l ends) (none e)) carries up.tables (each flags ends counts _ passes rest)
 
   pub updated-counts : Lookups flags parts (standing (numbersOf (multiPlanAfter freshMulti r)) c' u)
-  updated-counts = updated-by c' remembered-counts
+  updated-counts = rw remembered-counts.1 (updated-behind remembered-counts.0)
 
-  -- the same by the counts that were lent
+  -- the same, where the lookups are lent the counts of the update alone
   pub updated-lent : Lookups flags parts (standing (numbersOf (multiPlanAfter freshMulti r)) counts u)
-  updated-lent = updated-by counts (rw append-nil at (each flags ends counts _ passes []))
+  updated-lent = rw append-nil at (updated-behind [])
 
   -- and there are as many constraints as counts
   pub constraints-lent : (numbersOf (multiPlanAfter freshMulti r)).constraint_count ≡ length counts
