@@ -66,7 +66,7 @@ module _ (f : Frame) where
       (λ e. or_right (ltb (label f c) (islandCount f)) (eqb (label f c) none) e)
       (λ e. or_left (ltb (label f c) (islandCount f)) (eqb (label f c) none) (lt-ltb (label f c) (islandCount f) (label-below f c m (island-touches f c (eqb-false (label f c) none e)))))
 
-  pub frame-labels : Accepted f → Labels (islandCount f) (map (label f) (constraints f))
+  pub frame-labels : {counted : Bool} → Accepted counted f → Labels (islandCount f) (map (label f) (constraints f))
   frame-labels ok = record {
     few = omega (arith, length-map (constraints f) (label f), ok.few-constraints);
     low = omega (arith, islands-few f, ok.few-bodies);

@@ -1,41 +1,49 @@
--- Once questions 1 to 6 are passed, an islands call asks only 7. Its labels, read from the front of the lent tables, are the frame's, or
--- none after 7, and either way they can be sorted.
-use Prim.Native.Nat.{ℕ, zero, suc, ◌+◌, ◌*◌, ◌/◌, ◌%◌, ◌≤◌}
+-- Once questions 1 to 6 are passed, an islands call asks only 7, with counts or without. Its labels, read from the front of the lent tables,
+-- are the frame's, or none after 7, and either way they can be sorted.
+use Prim.Native.Nat.{ℕ, ◌+◌, ◌*◌, ◌/◌, ◌%◌, ◌≤◌}
 use mathlib.Core.Path.{◌≡◌, refl, sym, ap, ◌∙◌, subst}
 use mathlib.Core.Bool.{true, cond}
 use mathlib.Core.List.{List, [], ◌∷◌, ◌++◌, map}
 use native.Mathlib.Omega.{arith}
 use lib.Dec.{eqb}
-use lib.ListN.{length, take, drop, replicate, length-map, length-append, length-drop, length-replicate, replicate-append-replicate}
-use lib.Seq.{take_at, drop_at, length-take-le}
-use borrow.Author.Tests.{le-leb, eq-eqb}
-use Rattle.lists.proofs.Laws.{by_cases}
+use lib.ListN.{length, take, drop, replicate, length-map, length-append, length-replicate, replicate-append-replicate}
+use lib.Seq.{drop-nil, take_at, drop_at, length-take-le}
+use borrow.Author.Tests.{le-leb, eq-eqb, eqb-true, eqb-false}
+use Rattle.lists.proofs.Laws.{by_cases, no_length}
 use Rattle.lists.proofs.Ranges.{map-append}
-use Rattle.frame.specs.Frames.{Frame, constraints, frame_of, none, allSound, degreeMax}
+use Rattle.frame.specs.Frames.{Frame, constraints, none, endCount, allSound, degreeMax}
 use Rattle.frame.specs.Questions.{question, asked, fewEach}
-use Rattle.frame.specs.Files.{countB, countM, countJ, pairsAt, jointsAt, types_in, manifoldsIn, jointsIn, enabledIn, pairsFrom, enabledFrom, decode, fileQuestions, frameRefusal}
+use Rattle.frame.specs.Files.{second, countM, countJ, types_in, manifoldsIn, jointEndsIn, countsIn, liveIn, decode, fileQuestions, frameRefusal}
+use Rattle.frame.specs.Decodes.{allCounts, Decoded}
 use Rattle.frame.proofs.Questions.{asked-append}
-use Rattle.frame.proofs.Files.{Sized, manifolds-count, joints-count, constraint-count, file-sized, file-known}
+use Rattle.frame.proofs.Files.{Sized, manifolds-count, joints-count, constraint-count, file-sized, file-known, file-counts, types-long, manifold-ends-long, live-in-long, ends-first-long, counts-second-long, ends-second-long, all-counts-second, all-counts-long}
 use Rattle.connected_sets.specs.Islands.{label}
-use Rattle.island.specs.Calls.{IslandTables, Rooms, rooms_of, islandRefusal, labelsAfter, Built}
+use Rattle.island.specs.Calls.{IslandTables, Rooms, rooms_of, islandRefusal, multiIslandRefusal, labelsAfter, Built}
 use Rattle.schedules.proofs.Accepted.{Accepted, accepted}
 use Rattle.island_numbers.specs.Numbers.{Labels, Sortable, byIsland}
-use Rattle.frame.specs.Decodes.{Decoded}
-use Rattle.frame_parts.specs.Parts.{Countable}
+use Rattle.frame_parts.specs.Parts.{standing_frame, standingRefusal, Countable}
 use Rattle.frame_tables.specs.Filled.{Roomy, Fills, labelsIn, soundRefusal}
 use Rattle.frame_tables.proofs.Labels.{frame-labels, none-labels}
 
--- ---- the lengths of a file's parts
+-- ---- the counts of a file's constraints
 
-pub pairs-long : (bs : List ℕ) (s step n : ℕ) → length (pairsFrom bs s step n) ≡ 2 * n
-unfolding pairsFrom
-pairs-long bs s step zero = refl
-pairs-long bs s step (suc n) = omega (arith, pairs-long bs (s + step) step n)
+module _ (bs : List ℕ) where
+  -- behind those of the manifolds, the joints'
+  pub joint-counts : drop (countM bs) (allCounts bs) ≡ countsIn bs
+  joint-counts = by_cases (second bs)
+      (λ v. rw (all-counts-second bs v) (drop_at (replicate (countM bs) 2) (countsIn bs) (countM bs) (length-replicate {A = ℕ} (countM bs) 2)))
+      (λ v. rw v (drop-nil (countM bs)))
 
-pub enabled-long : (bs : List ℕ) (s n : ℕ) → length (enabledFrom bs s n) ≡ n
-unfolding enabledFrom
-enabled-long bs s zero = refl
-enabled-long bs s (suc n) = ap suc (enabled-long bs (s + 5) n)
+  -- without them all joints are pairs
+  pub no-counts : length (allCounts bs) ≡ 0 → (countsIn bs ≡ []) × (length (jointEndsIn bs) ≡ 2 * countJ bs)
+  no-counts z = by_cases (second bs)
+      (λ v.
+      let c : countsIn bs ≡ [] = no_length (countsIn bs) (omega (arith, all-counts-long bs v, counts-second-long bs v)) in
+      (c, omega (arith, ends-second-long bs v, ap endCount c, counts-second-long bs v, ap length c)))
+      (λ v. (rw v, ends-first-long bs v))
+
+  pub some-counts : (length (allCounts bs) ≡ 0 → ⊥) → second bs ≡ true
+  some-counts n = by_cases (second bs) (λ v. v) (λ v. absurd (n (rw v)))
 
 module _ (bs : List ℕ) (e : asked (fileQuestions bs) ≡ 0) where
   abbrev s : Sized bs
@@ -44,13 +52,10 @@ module _ (bs : List ℕ) (e : asked (fileQuestions bs) ≡ 0) where
   abbrev f : Frame
   f = decode bs
 
-  pub types_long : length (types_in bs) ≡ countB bs
-  types_long = length-take-le (countB bs) (drop 11 bs) (omega (arith, length-drop 11 bs, s.bytes))
-
   pub few-constraints : length (constraints f) ≤ 8192
   few-constraints = omega (arith, constraint-count bs, s.manifolds, s.joints)
 
-  pub file-accepted : allSound f ≡ true → Accepted f
+  pub file-accepted : allSound f ≡ true → Accepted (second bs) f
   unfolding frameRefusal
   file-accepted t = accepted bs (asked-append (fileQuestions bs) (question 7 (allSound f) ∷ []) refl ∙ rw (e, t))
 
@@ -79,50 +84,93 @@ module _ (bs : List ℕ) (e : asked (fileQuestions bs) ≡ 0) where
 
   -- ---- the frame that stands in the decoded tables
 
-  module _ (m : ℕ) (ts fs ps es : List ℕ) (em : m ≡ countM bs) (d : Decoded bs ts fs ps es) where
+  module _ (m : ℕ) (ts fs ps cs es : List ℕ) (em : m ≡ countM bs) (d : Decoded bs ts fs ps cs es) where
     front : take (2 * m) ps ≡ manifoldsIn bs
-    front = rw (d.pairs, em) (take_at (manifoldsIn bs) (jointsIn bs) (2 * countM bs) (pairs-long bs (pairsAt bs) 4 (countM bs)))
+    front = rw (d.ends, em) (take_at (manifoldsIn bs) (jointEndsIn bs) (2 * countM bs) (manifold-ends-long bs))
 
-    rest : drop (2 * m) ps ≡ jointsIn bs
-    rest = rw (d.pairs, em) (drop_at (manifoldsIn bs) (jointsIn bs) (2 * countM bs) (pairs-long bs (pairsAt bs) 4 (countM bs)))
+    rest : drop (2 * m) ps ≡ jointEndsIn bs
+    rest = rw (d.ends, em) (drop_at (manifoldsIn bs) (jointEndsIn bs) (2 * countM bs) (manifold-ends-long bs))
 
-    frame_is : frame_of ts (take (2 * m) ps) (drop (2 * m) ps) es ≡ f
+    joints-counted : drop m cs ≡ countsIn bs
+    joints-counted = rw (d.counts, em) (joint-counts bs)
+
+    frame_is : standing_frame ts ps m cs es ≡ f
     unfolding decode
-    frame_is = rw (d.types, front, rest, d.enabled)
+    frame_is = rw (d.types, front, rest, joints-counted, d.enabled)
 
     pub pairs-inside : 2 * m ≤ length ps
-    pairs-inside = omega (arith, ap length d.pairs, length-append (manifoldsIn bs) (jointsIn bs), pairs-long bs (pairsAt bs) 4 (countM bs), em)
+    pairs-inside = omega (arith, ap length d.ends, length-append (manifoldsIn bs) (jointEndsIn bs), manifold-ends-long bs, em)
 
-    module _ (t : IslandTables) (ns ks ss os cs : List ℕ) (room : Roomy bs t ns ks ss os cs) where
+    -- with counts the file is of version 2
+    counted-second : (length cs ≡ 0 → ⊥) → second bs ≡ true
+    counted-second n = some-counts bs (λ z. n (ap length d.counts ∙ z))
+
+    pub counts-inside : (length cs ≡ 0 → ⊥) → m ≤ length cs
+    counts-inside n = omega (arith, ap length d.counts, all-counts-long bs (counted-second n), em)
+
+    module _ (t : IslandTables) (ns ks ss os ds : List ℕ) (room : Roomy bs t ns ks ss os ds) where
       abbrev rooms : Rooms
       rooms = rooms_of t
 
-      refusal_is : islandRefusal ts (take (2 * m) ps) (drop (2 * m) ps) es rooms ≡ soundRefusal bs
+      pairs-refusal : length cs ≡ 0 → islandRefusal ts (take (2 * m) ps) (drop (2 * m) ps) es rooms ≡ soundRefusal bs
       unfolding islandRefusal soundRefusal fewEach decode
-      refusal_is =
-          let lm = pairs-long bs (pairsAt bs) 4 (countM bs) in
-          let lj = pairs-long bs (jointsAt bs) 5 (countJ bs) in
+      pairs-refusal z =
+          let lm = manifold-ends-long bs in
+          let no = no-counts bs (sym (ap length d.counts) ∙ z) in
+          let lj = no.1 in
           rw (
             front,
             rest,
             d.types,
             d.enabled,
-            le-leb (length (types_in bs)) 4096 (omega (arith, types_long, s.bodies)),
+            no.0,
+            le-leb (length (types_in bs)) 4096 (omega (arith, types-long bs e, s.bodies)),
             le-leb (length (manifoldsIn bs) / 2) 4096 (omega (arith, lm, s.manifolds)),
-            le-leb (length (jointsIn bs) / 2) 4096 (omega (arith, lj, s.joints)),
+            le-leb (length (jointEndsIn bs) / 2) 4096 (omega (arith, lj, s.joints)),
             eq-eqb (length (manifoldsIn bs) % 2) 0 (omega (arith, lm)),
-            eq-eqb (length (jointsIn bs) % 2) 0 (omega (arith, lj)),
-            eq-eqb (length (enabledIn bs)) (length (jointsIn bs) / 2) (omega (arith, lj, enabled-long bs (jointsAt bs) (countJ bs))),
+            eq-eqb (length (jointEndsIn bs) % 2) 0 (omega (arith, lj)),
+            eq-eqb (length (liveIn bs)) (length (jointEndsIn bs) / 2) (omega (arith, lj, live-in-long bs)),
             file-known bs e,
-            le-leb (length (types_in bs)) (length t.parents) (omega (arith, types_long, room.islands.parents)),
-            le-leb (length (types_in bs)) (length t.sizes) (omega (arith, types_long, room.islands.sizes)),
-            le-leb (length (types_in bs)) (length t.body-islands) (omega (arith, types_long, room.islands.body-islands)),
+            le-leb (length (types_in bs)) (length t.parents) (omega (arith, types-long bs e, room.islands.parents)),
+            le-leb (length (types_in bs)) (length t.sizes) (omega (arith, types-long bs e, room.islands.sizes)),
+            le-leb (length (types_in bs)) (length t.body-islands) (omega (arith, types-long bs e, room.islands.body-islands)),
             le-leb (length (manifoldsIn bs) / 2) (length t.manifold-islands) (omega (arith, lm, room.islands.manifold-islands)),
-            le-leb (length (jointsIn bs) / 2) (length t.joint-islands) (omega (arith, lj, room.islands.joint-islands)),
+            le-leb (length (jointEndsIn bs) / 2) (length t.joint-islands) (omega (arith, lj, room.islands.joint-islands)),
           )
 
-      module _ (u : IslandTables) (k n : ℕ)
-          (h : Built (frame_of ts (take (2 * m) ps) (drop (2 * m) ps) es) (islandRefusal ts (take (2 * m) ps) (drop (2 * m) ps) es rooms) t u k n) where
+      counts-refusal : (length cs ≡ 0 → ⊥) → multiIslandRefusal ts (take (2 * m) ps) (drop (2 * m) ps) (drop m cs) es rooms ≡ soundRefusal bs
+      unfolding multiIslandRefusal soundRefusal fewEach decode
+      counts-refusal n =
+          let lm = manifold-ends-long bs in
+          let v = counted-second n in
+          let lc = counts-second-long bs v in
+          rw (
+            front,
+            rest,
+            joints-counted,
+            d.types,
+            d.enabled,
+            le-leb (length (types_in bs)) 4096 (omega (arith, types-long bs e, s.bodies)),
+            le-leb (length (manifoldsIn bs) / 2) 4096 (omega (arith, lm, s.manifolds)),
+            le-leb (length (countsIn bs)) 4096 (omega (arith, lc, s.joints)),
+            eq-eqb (length (manifoldsIn bs) % 2) 0 (omega (arith, lm)),
+            eq-eqb (endCount (countsIn bs)) (length (jointEndsIn bs)) (ends-second-long bs v),
+            eq-eqb (length (liveIn bs)) (length (countsIn bs)) (omega (arith, lc, live-in-long bs)),
+            file-known bs e,
+            file-counts bs e,
+            le-leb (length (types_in bs)) (length t.parents) (omega (arith, types-long bs e, room.islands.parents)),
+            le-leb (length (types_in bs)) (length t.sizes) (omega (arith, types-long bs e, room.islands.sizes)),
+            le-leb (length (types_in bs)) (length t.body-islands) (omega (arith, types-long bs e, room.islands.body-islands)),
+            le-leb (length (manifoldsIn bs) / 2) (length t.manifold-islands) (omega (arith, lm, room.islands.manifold-islands)),
+            le-leb (length (countsIn bs)) (length t.joint-islands) (omega (arith, lc, room.islands.joint-islands)),
+          )
+
+      refusal_is : standingRefusal ts ps m cs es rooms ≡ soundRefusal bs
+      refusal_is = by_cases (eqb (length cs) 0)
+          (λ z. rw z (pairs-refusal (eqb-true (length cs) 0 z)))
+          (λ z. rw z (counts-refusal (eqb-false (length cs) 0 z)))
+
+      module _ (u : IslandTables) (k n : ℕ) (h : Built (standing_frame ts ps m cs es) (standingRefusal ts ps m cs es rooms) t u k n) where
         pub built : Built f (soundRefusal bs) t u k n
         built = rw (frame_is, refusal_is) at h
 
@@ -130,15 +178,16 @@ module _ (bs : List ℕ) (e : asked (fileQuestions bs) ≡ 0) where
         unfolding soundRefusal
         refusal-sound z = by_cases (allSound f) (λ ok. ok) (λ ok. absurd (let y : 7 ≡ 0 = sym (rw ok at built.refusal) ∙ z in omega arith))
 
-        pub countable : (c : ℕ) → c ≡ k → Countable c ts ps m es cs
+        pub countable : (c : ℕ) → c ≡ k → Countable c ts ps m cs es ds
         countable c ec = record {
           pairs = pairs-inside;
-          counts = omega (arith, ap length d.types, types_long, room.counts);
+          joints = λ n. (counts-inside n, rw (joints-counted, rest) (ends-second-long bs (counted-second n)));
+          counts = omega (arith, ap length d.types, types-long bs e, room.on-bodies);
           sound = λ z. rw frame_is (refusal-sound (sym ec ∙ z));
           few = subst (λ (g : Frame). length (constraints g) ≤ 8192) (sym frame_is) few-constraints;
         }
 
-        pub degree-is : (c r : ℕ) → c ≡ k → r ≡ cond (eqb c 0) (degreeMax (frame_of ts (take (2 * m) ps) (drop (2 * m) ps) es)) 0 → r ≡ cond (allSound f) (degreeMax f) 0
+        pub degree-is : (c r : ℕ) → c ≡ k → r ≡ cond (eqb c 0) (degreeMax (standing_frame ts ps m cs es)) 0 → r ≡ cond (allSound f) (degreeMax f) 0
         unfolding soundRefusal
         degree-is c r ec er = er ∙ by_cases (allSound f)
             (λ ok. rw (frame_is, ec, rw ok at built.refusal, ok))
@@ -148,7 +197,7 @@ module _ (bs : List ℕ) (e : asked (fileQuestions bs) ≡ 0) where
 
         module _ (j c i : ℕ) (ej : j ≡ length es) (ec : c ≡ k) (ei : i ≡ n) where
           joints-are : j ≡ countJ bs
-          joints-are = ej ∙ ap length d.enabled ∙ enabled-long bs (jointsAt bs) (countJ bs)
+          joints-are = ej ∙ ap length d.enabled ∙ live-in-long bs
 
           fronts : take m u.manifold-islands ++ take j u.joint-islands ≡ labelsIn bs u.manifold-islands u.joint-islands
           fronts = rw (em, joints-are)
@@ -168,8 +217,8 @@ module _ (bs : List ℕ) (e : asked (fileQuestions bs) ≡ 0) where
             ),
           )
 
-          pub filled : (r : ℕ) (ns' : List ℕ) → r ≡ cond (eqb c 0) (degreeMax (frame_of ts (take (2 * m) ps) (drop (2 * m) ps) es)) 0 → ns' ≡ byIsland i (take m u.manifold-islands ++ take j u.joint-islands)
-              → Fills bs ts fs ps es t u ns' (record { refusal = c; islands = i; degree = r })
+          pub filled : (r : ℕ) (ns' : List ℕ) → r ≡ cond (eqb c 0) (degreeMax (standing_frame ts ps m cs es)) 0 → ns' ≡ byIsland i (take m u.manifold-islands ++ take j u.joint-islands)
+              → Fills bs ts fs ps cs es t u ns' (record { refusal = c; islands = i; degree = r })
           filled r ns' er en = record {
             decoded = d;
             islands = rw (ec, ei) built;

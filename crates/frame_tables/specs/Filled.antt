@@ -20,21 +20,21 @@ pub record IslandRoom (bs : List ℕ) (t : IslandTables) : Type 0 where
   pub joint-islands : countJ bs ≤ length t.joint-islands
 
 -- and in the other tables: numbers, and the workspace of a sort and of a count on each body
-pub record Roomy (bs : List ℕ) (t : IslandTables) (ns ks ss os cs : List ℕ) : Type 0 where
+pub record Roomy (bs : List ℕ) (t : IslandTables) (ns ks ss os ds : List ℕ) : Type 0 where
   pub islands : IslandRoom bs t
   pub numbers : length ns ≡ countM bs + countJ bs
   pub keys : countM bs + countJ bs ≤ length ks
   pub scratch : countM bs + countJ bs ≤ length ss
   pub offsets : countM bs + countJ bs + 1 ≤ length os
-  pub counts : countB bs ≤ length cs
+  pub on-bodies : countB bs ≤ length ds
 
 -- the labels of all constraints: manifolds, then joints
 abbrev pub labelsIn : List ℕ → List ℕ → List ℕ → List ℕ
 labelsIn bs mi ji = take (countM bs) mi ++ take (countJ bs) ji
 
 -- all tables filled: island tables at entry (t) and at exit (u), the sorted numbers, and the answer
-pub record Fills (bs ts fs ps es : List ℕ) (t u : IslandTables) (ns : List ℕ) (r : Filling) : Type 0 where
-  pub decoded : Decoded bs ts fs ps es
+pub record Fills (bs ts fs ps cs es : List ℕ) (t u : IslandTables) (ns : List ℕ) (r : Filling) : Type 0 where
+  pub decoded : Decoded bs ts fs ps cs es
   pub islands : Built (decode bs) (soundRefusal bs) t u r.refusal r.islands
   pub degree : r.degree ≡ cond (allSound (decode bs)) (degreeMax (decode bs)) 0
   pub numbers : ns ≡ byIsland r.islands (labelsIn bs u.manifold-islands u.joint-islands)

@@ -14,8 +14,8 @@ pub struct Filling {
     pub degree: usize,
 }
 
-// All tables of a frame that passed questions 1 to 6: `types`, `flags`, `pairs`, `enabled` and `numbers` have its sizes. After 7 there
-// are no islands, and D is 0. The last four tables are free.
+// All tables of a frame that passed questions 1 to 6: `types`, `flags`, `pairs`, `counts` (none on version 1), `enabled` and `numbers`
+// have its sizes. After 7 there are no islands, and D is 0. The last four tables are free.
 pub fn fill(
     frame: &[u8],
     manifolds: usize,
@@ -27,24 +27,26 @@ pub fn fill(
     types: &mut [u8],
     flags: &mut [u8],
     pairs: &mut [u16],
+    counts: &mut [u8],
     enabled: &mut [u8],
     numbers: &mut [u16],
     keys: &mut [u16],
     scratch_offsets: &mut [u16],
     offsets: &mut [u16],
-    counts: &mut [u16],
+    on_bodies: &mut [u16],
 ) -> Filling
-    requires decodable { Decodable frame.now manifolds types.old flags.old pairs.old enabled.old }
-    requires roomy { Roomy frame.now (islandTablesOf parents.old sizes.old body_islands.old manifold_islands.old joint_islands.old) numbers.old keys.old scratch_offsets.old offsets.old counts.old }
-    ensures { Fills frame.now types.new flags.new pairs.new enabled.new
+    requires decodable { Decodable frame.now manifolds types.old flags.old pairs.old counts.old enabled.old }
+    requires roomy { Roomy frame.now (islandTablesOf parents.old sizes.old body_islands.old manifold_islands.old joint_islands.old) numbers.old keys.old scratch_offsets.old offsets.old on_bodies.old }
+    ensures { Fills frame.now types.new flags.new pairs.new counts.new enabled.new
         (islandTablesOf parents.old sizes.old body_islands.old manifold_islands.old joint_islands.old)
         (islandTablesOf parents.new sizes.new body_islands.new manifold_islands.new joint_islands.new) numbers.new result }
 {
-    frame::decode(frame, manifolds, types, flags, pairs, enabled);
+    frame::decode(frame, manifolds, types, flags, pairs, counts, enabled);
     let answer = frame_parts::build(
         types,
         pairs,
         manifolds,
+        counts,
         enabled,
         parents,
         sizes,
@@ -54,7 +56,9 @@ pub fn fill(
     );
     let refusal = island::refusal_of(answer);
     let islands = island::islands_of(answer);
-    let degree = frame_parts::degree_of(refusal, types, pairs, manifolds, enabled, counts);
+    let degree = frame_parts::degree_of(
+        refusal, types, pairs, manifolds, counts, enabled, on_bodies,
+    );
     frame_parts::sort(
         manifold_islands,
         joint_islands,

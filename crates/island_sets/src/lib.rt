@@ -125,7 +125,8 @@ fn join_roots(parents: &mut [u16], sizes: &mut [u16], left: u16, right: u16)
 }
 
 // The sets of `left` and `right` become one: the smaller hangs under the larger, and on equal sizes the lower root stays. A set joined
-// with itself stays as it is.
+// with itself stays as it is. Its code stands where it is called, so that no pair of bodies costs a call.
+#[inline(always)]
 pub fn union(parents: &mut [u16], sizes: &mut [u16], left: u16, right: u16)
     requires { Sets parents.old sizes.old × (left < length parents.old) × (right < length parents.old) }
     ensures { Sets parents.new sizes.new

@@ -3,7 +3,7 @@
 #![tactic(auto)]
 
 ghost use Rattle.std.specs.Prelude.{◌+◌, ◌*◌, ◌≤◌, ◌≡◌, ◌&&◌, cond, leb, eqb};
-ghost use Rattle.run_answer.specs.Answers.{runNumber, runReport, Asks, AnswerOf};
+ghost use Rattle.run_answer.specs.Answers.{runNumber, runReport, Asks, AnswerOf, entriesFor, countsRoom};
 
 use frame::Frame;
 use frame_tables::Filling;
@@ -50,11 +50,36 @@ pub fn report_of(answer: Answer) -> Report
     }
 }
 
-// Question 6 for a frame of `b` bodies, `m` manifolds and `j` joints in tables of these lengths, where `plan` answers it for the plan's.
+// How many endpoint entries question 6 asks for: four a joint where the constraints have counts, else two.
+fn entries_for(counted: bool, m: usize, j: usize) -> usize
+    requires { (m ≤ 4096) × (j ≤ 4096) }
+    ensures { result ≡ entriesFor counted m j }
+{
+    if counted {
+        return 2 * m + 4 * j;
+    }
+    2 * (m + j)
+}
+
+// And how many counts: none where they are pairs.
+fn counts_room(counted: bool, m: usize, j: usize) -> usize
+    requires { (m ≤ 4096) × (j ≤ 4096) }
+    ensures { result ≡ countsRoom counted m j }
+{
+    if counted {
+        return m + j;
+    }
+    0
+}
+
+// Question 6 for a frame of `b` bodies, `m` manifolds and `j` joints with so many endpoint entries and counts in tables of these lengths, where
+// `plan` answers it for the plan's.
 fn roomy_for(
     b: usize,
     m: usize,
     j: usize,
+    entries: usize,
+    room: usize,
     parents: usize,
     sizes: usize,
     body_islands: usize,
@@ -65,6 +90,9 @@ fn roomy_for(
     flags: usize,
     pairs: usize,
     island_pairs: usize,
+    counts: usize,
+    island_counts: usize,
+    plan_counts: usize,
     enabled: usize,
     numbers: usize,
     plan: bool,
@@ -72,7 +100,8 @@ fn roomy_for(
     requires { (m ≤ 4096) × (j ≤ 4096) }
     ensures { result ≡ (leb b parents && leb b sizes && leb b body_islands && leb m manifold_islands && leb j joint_islands
         && leb (3 * (m + j)) turns && leb b types && leb b flags
-        && leb (2 * (m + j)) pairs && leb (2 * (m + j)) island_pairs && leb j enabled && leb (m + j) numbers && plan) }
+        && leb entries pairs && leb entries island_pairs && leb room counts && leb room island_counts && leb room plan_counts
+        && leb j enabled && leb (m + j) numbers && plan) }
 {
     (b <= parents)
         & (b <= sizes)
@@ -82,8 +111,11 @@ fn roomy_for(
         & (3 * (m + j) <= turns)
         & (b <= types)
         & (b <= flags)
-        & (2 * (m + j) <= pairs)
-        & (2 * (m + j) <= island_pairs)
+        & (entries <= pairs)
+        & (entries <= island_pairs)
+        & (room <= counts)
+        & (room <= island_counts)
+        & (room <= plan_counts)
         & (j <= enabled)
         & (m + j <= numbers)
         & plan
@@ -102,13 +134,15 @@ fn first_refusal(read: u8, room: bool) -> u8
     0
 }
 
-// What questions 1 to 6 answer: the refusal or 0, and the sizes of a file that was read.
+// What questions 1 to 6 answer: the refusal or 0, and of a file that was read whether its constraints have counts, and its sizes.
 #[derive(Clone, Copy)]
 pub struct Asked {
     pub refusal: u8,
+    pub counted: bool,
     pub bodies: usize,
     pub manifolds: usize,
     pub joints: usize,
+    pub joint_ends: usize,
 }
 
 // Questions 1 to 6 of a file, on tables of these lengths.
@@ -124,10 +158,13 @@ pub fn ask(
     flags: usize,
     pairs: usize,
     island_pairs: usize,
+    counts: usize,
+    island_counts: usize,
     enabled: usize,
     numbers: usize,
     dynamic_bodies: usize,
     endpoints: usize,
+    plan_counts: usize,
     body_offsets: usize,
     body_constraints: usize,
     scratch_offsets: usize,
@@ -140,23 +177,28 @@ pub fn ask(
     color_bodies: usize,
     constraint_body_positions: usize,
 ) -> Asked
-    ensures { Asks frame.now (λ b m j. leb b parents && leb b sizes && leb b body_islands && leb m manifold_islands && leb j joint_islands
+    ensures { Asks frame.now (λ v b m j. leb b parents && leb b sizes && leb b body_islands && leb m manifold_islands && leb j joint_islands
         && leb (3 * (m + j)) turns && leb b types && leb b flags
-        && leb (2 * (m + j)) pairs && leb (2 * (m + j)) island_pairs && leb j enabled && leb (m + j) numbers
-        && (leb b dynamic_bodies && leb (2 * (m + j)) endpoints && leb (b + 1) body_offsets
-        && leb (2 * (m + j)) body_constraints && leb b scratch_offsets && leb (m + j) scratch_offsets
+        && leb (entriesFor v m j) pairs && leb (entriesFor v m j) island_pairs
+        && leb (countsRoom v m j) counts && leb (countsRoom v m j) island_counts && leb (countsRoom v m j) plan_counts
+        && leb j enabled && leb (m + j) numbers
+        && (leb b dynamic_bodies && leb (entriesFor v m j) endpoints && leb (b + 1) body_offsets
+        && leb (entriesFor v m j) body_constraints && leb b scratch_offsets && leb (m + j) scratch_offsets
         && leb (m + j) constraint_colors && leb (m + j) color_stamps && leb b body_stamps
         && leb (m + j + 1) color_offsets && leb (m + j) colored_constraints && leb (m + j + 1) color_body_offsets
-        && leb (2 * (m + j)) color_bodies && leb (2 * (m + j)) constraint_body_positions)) result }
+        && leb (entriesFor v m j) color_bodies && leb (entriesFor v m j) constraint_body_positions)) result }
 {
     let reading = Frame::read(frame);
-    let counts = frame::sizes_of(reading);
-    let bodies = counts.bodies;
-    let manifolds = counts.manifolds;
-    let joints = counts.joints;
-    let plan = plan_questions::roomy(
+    let sizes_read = frame::sizes_of(reading);
+    let bodies = sizes_read.bodies;
+    let manifolds = sizes_read.manifolds;
+    let joints = sizes_read.joints;
+    let counted = sizes_read.version == 2;
+    let entries = entries_for(counted, manifolds, joints);
+    let plan = plan_questions::roomy_with(
         bodies,
         manifolds + joints,
+        entries,
         dynamic_bodies,
         endpoints,
         body_offsets,
@@ -175,6 +217,8 @@ pub fn ask(
         bodies,
         manifolds,
         joints,
+        entries,
+        counts_room(counted, manifolds, joints),
         parents,
         sizes,
         body_islands,
@@ -185,15 +229,20 @@ pub fn ask(
         flags,
         pairs,
         island_pairs,
+        counts,
+        island_counts,
+        plan_counts,
         enabled,
         numbers,
         plan,
     );
     Asked {
         refusal: first_refusal(frame::refusal_of(reading), room),
+        counted: counted,
         bodies: bodies,
         manifolds: manifolds,
         joints: joints,
+        joint_ends: sizes_read.joint_ends,
     }
 }
 

@@ -7,17 +7,17 @@ pub degree_of-degree-requires : goal.degree_of-degree-requires
 degree_of-degree-requires c =
     let r = c.requires in
     let d = c.decode in
-    countable c.args.frame.now r.decodable.file c.args.manifolds d.new.types d.new.flags d.new.pairs d.new.enabled r.decodable.manifolds d.ensures _ _ _ _ _ _ r.roomy _ _ _ c.build-answer.ensures _ c.refusal_of-refusal.ensures
+    countable c.args.frame.now r.decodable.file c.args.manifolds d.new.types d.new.flags d.new.pairs d.new.counts d.new.enabled r.decodable.manifolds d.ensures _ _ _ _ _ _ r.roomy _ _ _ c.build-answer.ensures _ c.refusal_of-refusal.ensures
 
 pub sort-requires-clause-labels : goal.sort-requires-clause-labels
 sort-requires-clause-labels c =
     let r = c.requires in
     let d = c.decode in
     let b = c.build-answer in
-    (sort-ready c.args.frame.now r.decodable.file c.args.manifolds d.new.types d.new.flags d.new.pairs d.new.enabled r.decodable.manifolds d.ensures _ _ _ _ _ _ r.roomy _ _ _ b.ensures _ _ _ refl c.refusal_of-refusal.ensures c.islands_of-islands.ensures b.auto.manifold_islands b.auto.joint_islands).1.0
+    (sort-ready c.args.frame.now r.decodable.file c.args.manifolds d.new.types d.new.flags d.new.pairs d.new.counts d.new.enabled r.decodable.manifolds d.ensures _ _ _ _ _ _ r.roomy _ _ _ b.ensures _ _ _ refl c.refusal_of-refusal.ensures c.islands_of-islands.ensures b.auto.manifold_islands b.auto.joint_islands).1.0
 
 pub returns : goal.returns
 returns c =
     let r = c.requires in
     let d = c.decode in
-    filled c.args.frame.now r.decodable.file c.args.manifolds d.new.types d.new.flags d.new.pairs d.new.enabled r.decodable.manifolds d.ensures _ _ _ _ _ _ r.roomy _ _ _ c.build-answer.ensures _ _ _ refl c.refusal_of-refusal.ensures c.islands_of-islands.ensures _ _ c.degree_of-degree.ensures c.sort.ensures
+    filled c.args.frame.now r.decodable.file c.args.manifolds d.new.types d.new.flags d.new.pairs d.new.counts d.new.enabled r.decodable.manifolds d.ensures _ _ _ _ _ _ r.roomy _ _ _ c.build-answer.ensures _ _ _ refl c.refusal_of-refusal.ensures c.islands_of-islands.ensures _ _ c.degree_of-degree.ensures c.sort.ensures

@@ -2,5 +2,11 @@
 use Rattle.run_answer.proofs.Sizes.{few-constraints}
 use Rattle.run_answer.proofs.ask.Goals as goal
 
+pub entries_for-entries-requires : goal.entries_for-entries-requires
+entries_for-entries-requires c = few-constraints _ _ c.read-reading.ensures _ c.sizes_of-sizes_read.ensures
+
+pub counts_room-requires : goal.counts_room-requires
+counts_room-requires c = few-constraints _ _ c.read-reading.ensures _ c.sizes_of-sizes_read.ensures
+
 pub roomy_for-room-requires : goal.roomy_for-room-requires
-roomy_for-room-requires c = few-constraints _ _ c.read-reading.ensures _ c.sizes_of-counts.ensures
+roomy_for-room-requires c = few-constraints _ _ c.read-reading.ensures _ c.sizes_of-sizes_read.ensures
