@@ -1,100 +1,163 @@
 -- What a take adds can be seen from its answer on the marks alone: the plan's other tables and the binding's bodies make no difference.
-use Prim.Native.Nat.{ℕ, ◌+◌, ◌-◌, ◌≤◌, ◌<◌}
+use Prim.Native.Nat.{ℕ, zero, suc, ◌+◌, ◌-◌, ◌≤◌, ◌<◌}
 use mathlib.Core.Path.{◌≡◌, refl, sym, ap, ◌∙◌}
-use mathlib.Core.Bool.{not, cond}
+use mathlib.Core.Bool.{Bool, cond}
 use mathlib.Core.List.{List, [], ◌∷◌, ◌++◌, map}
 use native.Mathlib.Omega.{arith}
 use native.Mathlib.Numerals.{add-one}
-use lib.Dec.{eqb}
-use lib.ListN.{length, length-map, get_or, drop, drop_of_length-le}
-use lib.Seq.{drop-cons}
-use borrow.Author.Tests.{eqb-false, ne_eqb}
-use Rattle.lists.specs.Basics.{one, count, sum_of, joinMap, rangeFrom}
+use lib.Dec.{ltb, eqb}
+use lib.ListN.{length, get_or, drop, replicate, drop_of_length-le}
+use lib.Seq.{drop-cons, take_all}
+use borrow.Author.Tests.{eqb-false, ne_eqb, le-leb, lt-ltb, le-ltb}
+use Rattle.lists.specs.Basics.{one, count, sum_of, four, joinMap, rangeFrom}
 use Rattle.lists.proofs.Laws.{by_cases}
 use Rattle.lists.proofs.Fills.{whole}
-use Rattle.lists.proofs.Sums.{sum-map}
+use Rattle.lists.proofs.Sums.{sum-append, sum-map}
+use Rattle.frame.specs.Frames.{endCount}
 use Rattle.groups.specs.Groups.{pair_at, Plan}
+use Rattle.parts.specs.Parts.{part_at, Present}
+use Rattle.parts.proofs.Bounds.{part-counted, counted-bounded}
 use Rattle.constraint_coloring.specs.declared.ConstraintColoring.{ConstraintColoring}
 use Rattle.constraint_coloring.specs.declared.Positions.{Positions}
 use Rattle.constraint_coloring.specs.declared.Positions.TheVariants as positions
 use Rattle.plan_questions.specs.Plans.{groupPart, positionsRefusal}
 use Rattle.constraint_coloring.specs.Calls.{positionsNumber, positionsValues, Located}
+use Rattle.multi_coloring.specs.Counts.{count_read, counts_read, multiPositionsRefusal}
 use Rattle.colored_bodies.specs.declared.BodyBinding.{BodyBinding}
 use Rattle.colored_bodies.specs.declared.Marked.{Marked}
-use Rattle.colored_bodies.specs.declared.Marked.TheVariants as marked
-use Rattle.colored_bodies.specs.Bindings.{Handed, bindOf, take_of, takeRefusal, takeMarks}
-use Rattle.colored_bodies.specs.Answers.{markedNumber, markedDynamic, Marks}
-use Rattle.schedules.specs.Runs.{Call, membersIn, bodiesIn, takeRank, callsFrom, turnsOf, takesOf}
+use Rattle.colored_bodies.specs.declared.multi.MarkedAt.{MarkedAt}
+use Rattle.colored_bodies.specs.Bindings.{Handed, bindOf, handedAt, take_of, takeRefusal, takeMarks}
+use Rattle.colored_bodies.specs.Answers.{markedDynamic, Marks, flags_of, MarksAt}
+use Rattle.schedules.specs.Runs.{Call, membersIn, bodiesIn, lookupRefusal, lookupOf, takeRank, callsFrom, turnsOf, takesOf}
 use Rattle.schedules.proofs.Condition3.{same-calls}
+use Rattle.schedules.proofs.Places.{read-known}
+use Rattle.turn_table.specs.declared.Taken.{Taken}
 use Rattle.turn_table.specs.declared.Tally.{Tally}
 use Rattle.turn_table.specs.Turns.{Added, addedByTake, Room, Appended}
-use Rattle.group_run.specs.Appends.{seen, callsIn, planCalls, addedBy, marksOnly, RankTaken, MemberTaken}
+use Rattle.group_run.specs.Appends.{seen, callsIn, planCalls, addedBy, marksOnly, Countable, pairTaken, countedTaken, RankTaken, MemberTaken}
 use Rattle.group_run.proofs.Appends.{parts_next}
 
 -- ---- a take of a rank, from the answers of the lookup and of the take of marks
-
 module _ (p : Plan) (marks : List ℕ) (n r : ℕ) where
   abbrev b : BodyBinding
   b = marksOnly marks n
 
-  abbrev refusal : ℕ
-  refusal = positionsRefusal p.constraints p.positions r
-
-  pub rank-taken : (q : Positions) (x y : ℕ) (m : Marked) (left : List ℕ) → q ≡ positions.At x y → Located p.constraints p.positions r q → Marks b (x ∷ y ∷ []) m left → RankTaken p marks n r m left
+  rank-taken : (ps : List ℕ) (t : Taken) (left : List ℕ) → lookupRefusal p r ≡ 0 → lookupOf p r ≡ ps → t.refusal ≡ (take_of b ps).refusal → t.dynamic ≡ count (λ h. h.dynamic) (take_of b ps).handed → left ≡ (take_of b ps).after.marks → RankTaken p marks n r t left
   unfolding takeRank take_of
-  rank-taken q x y m left e l h =
-      let z : refusal ≡ 0 = sym l.refusal ∙ ap positionsNumber e in
-      let ps : x ∷ y ∷ [] ≡ pair_at p.positions r = sym (ap positionsValues e) ∙ l.values ∙ ap (λ (k : ℕ). cond (eqb k 0) (pair_at p.positions r) []) z in
-      record {
-        refusal = rw z (h.refusal ∙ ap (λ (xs : List ℕ). (take_of b xs).refusal) ps);
-        refused = rw z (h.refused ∙ ap (λ (xs : List ℕ). not (eqb (take_of b xs).refusal 0)) ps);
-        dynamic = rw z (h.dynamic ∙ ap (λ (xs : List ℕ). map (λ h. h.dynamic) (take_of b xs).handed) ps);
-        after = rw z (ap (λ (ms : List ℕ). marksOnly ms n) (h.marks ∙ ap (takeMarks b) ps));
-      }
+  rank-taken ps t left z e q d m = record {
+    refusal = rw (z, e) q;
+    dynamic = rw (z, e) d;
+    after = rw (z, e) (ap (λ (ms : List ℕ). marksOnly ms n) m);
+  }
 
-  pub rank-refused : (q : Positions) (k : ℕ) → q ≡ positions.Refused k → Located p.constraints p.positions r q → RankTaken p marks n r (marked.Refused k) marks
+  rank-refused : (k : ℕ) → lookupRefusal p r ≡ k → (k ≡ 0 → ⊥) → RankTaken p marks n r (record { refusal = k; dynamic = 0 }) marks
   unfolding takeRank
-  rank-refused q k e l =
-      let z : k ≡ refusal = sym (ap positionsNumber e) ∙ l.refusal in
-      let no : [] ≡ cond (eqb refusal 0) (pair_at p.positions r) [] = sym (ap positionsValues e) ∙ l.values in
-      by_cases (eqb refusal 0)
-      (λ t. absurd (let y : 0 ≡ 2 = ap length (rw t at no) in omega arith))
-      (λ t. record { refusal = rw t z; refused = rw t (ap not (sym t)); dynamic = rw t; after = rw t })
+  rank-refused k e ne = record { refusal = rw (e, ne_eqb k 0 ne); dynamic = rw (e, ne_eqb k 0 ne); after = rw (e, ne_eqb k 0 ne) }
+
+-- ---- of a pair
+pub dynamic-two : (hs : List Handed) (m : Marked) → markedDynamic m ≡ map (λ h. h.dynamic) hs → (pairTaken m).dynamic ≡ count (λ h. h.dynamic) hs
+dynamic-two hs m e = ap (count (λ (d : Bool). d)) e ∙ sum-map one (λ (h : Handed). h.dynamic) hs
+
+module _ (plan : ConstraintColoring) (pos marks : List ℕ) (n r : ℕ) (q : Positions) (l : Located plan.constraint_count pos r q) where
+  abbrev paired : Plan
+  paired = seen plan [] [] [] [] [] pos
+
+  abbrev two : BodyBinding
+  two = marksOnly marks n
+
+  pub pair-is-taken : (x y : ℕ) (m : Marked) (t : Taken) (left : List ℕ) → q ≡ positions.At x y → Marks two (x ∷ y ∷ []) m left → t ≡ pairTaken m → RankTaken paired marks n r t left
+  unfolding lookupRefusal lookupOf
+  pair-is-taken x y m t left e h k =
+      let z : positionsRefusal plan.constraint_count pos r ≡ 0 = sym l.refusal ∙ ap positionsNumber e in
+      let ps : x ∷ y ∷ [] ≡ pair_at pos r = sym (ap positionsValues e) ∙ l.values ∙ ap (λ (j : ℕ). cond (eqb j 0) (pair_at pos r) []) z in
+      rank-taken paired marks n r (x ∷ y ∷ []) t left z (sym ps)
+      (ap (λ (u : Taken). u.refusal) k ∙ h.refusal)
+      (ap (λ (u : Taken). u.dynamic) k ∙ dynamic-two (take_of two (x ∷ y ∷ [])).handed m h.dynamic)
+      h.marks
+
+  pub pair-refused : (k : ℕ) → q ≡ positions.Refused k → RankTaken paired marks n r (record { refusal = k; dynamic = 0 }) marks
+  unfolding lookupRefusal
+  pair-refused k e =
+      let z : positionsRefusal plan.constraint_count pos r ≡ k = sym l.refusal ∙ ap positionsNumber e in
+      let no : [] ≡ cond (eqb k 0) (pair_at pos r) [] = sym (ap positionsValues e) ∙ l.values ∙ ap (λ (j : ℕ). cond (eqb j 0) (pair_at pos r) []) z in
+      rank-refused paired marks n r k z (λ t. absurd (let y : 0 ≡ 2 = ap length (rw t at no) in omega arith))
+
+-- ---- of a constraint that has a count
+four-flags : (xs : List ℕ) → sum_of (λ f. f) (four xs) ≡ sum_of (λ f. f) xs
+unfolding four
+four-flags xs = omega (arith, sum-append (λ (f : ℕ). f) xs (replicate (4 - length xs) 0), sum-none (4 - length xs))
+  where
+    sum-none : (n : ℕ) → sum_of (λ f. f) (replicate n 0) ≡ 0
+    sum-none zero = refl
+    sum-none (suc n) = omega (arith, sum-none n)
+
+pub dynamic-several : (hs : List Handed) (m : MarkedAt) → m.dynamic ≡ flags_of hs → (countedTaken m).dynamic ≡ count (λ h. h.dynamic) hs
+dynamic-several hs m e = ap (sum_of (λ (f : ℕ). f)) e ∙ four-flags (map (λ h. one h.dynamic) hs) ∙ sum-map (λ (f : ℕ). f) (λ (h : Handed). one h.dynamic) hs
+
+module _ {plan : ConstraintColoring} {counts bounds pos : List ℕ} (c : Countable plan counts bounds pos) (some : length counts ≡ 0 → ⊥) where
+  abbrev several : Plan
+  several = seen plan counts [] [] [] [] pos
+
+  counts-are : counts_read plan.constraint_count counts ≡ counts
+  counts-are = ap (map count_read) (take_all plan.constraint_count counts (omega (arith, c.constraints some))) ∙ read-known counts c.known
+
+  located-from : (r : ℕ) → lookupRefusal several r ≡ cond (ltb r (length counts)) 0 12
+  unfolding lookupRefusal multiPositionsRefusal
+  located-from r =
+      rw (
+        ne_eqb (length counts) 0 some,
+        counts-are,
+        c.constraints some,
+        le-leb (length counts) 8192 c.few,
+        le-leb (length counts) (length counts) (omega arith),
+        le-leb (endCount counts) (length pos) c.inside,
+      )
+
+  pub part-present : (r : ℕ) → r < length counts → Present pos bounds r
+  part-present r h = counted-bounded c.bounds-of c.long pos c.inside r h
+
+  located-at : (r : ℕ) → r < length counts → lookupOf several r ≡ part_at bounds pos r
+  unfolding lookupOf
+  located-at r h = rw (ne_eqb (length counts) 0 some, counts-are) (sym (part-counted c.bounds-of c.long pos r h))
+
+  module _ (marks : List ℕ) (n r : ℕ) where
+    pub counted-is-taken : (ps : List ℕ) (m : MarkedAt) (t : Taken) (left : List ℕ) → r < length counts → ps ≡ part_at bounds pos r → MarksAt (marksOnly marks n) ps m left → t ≡ countedTaken m → RankTaken several marks n r t left
+    counted-is-taken ps m t left h e k g =
+        rank-taken several marks n r ps t left (located-from r ∙ rw (lt-ltb r (length counts) h)) (located-at r h ∙ sym e)
+        (ap (λ (u : Taken). u.refusal) g ∙ k.refusal)
+        (ap (λ (u : Taken). u.dynamic) g ∙ dynamic-several (take_of (marksOnly marks n) ps).handed m k.dynamic)
+        k.marks
+
+    pub counted-past : length counts ≤ r → RankTaken several marks n r (record { refusal = 12; dynamic = 0 }) marks
+    counted-past h = rank-refused several marks n r 12 (located-from r ∙ rw (le-ltb r (length counts) h)) (λ z. omega arith)
 
 -- ---- what it adds
 
--- a take that is not refused hands two bodies
-two-handed : (p : Plan) (b : BodyBinding) (r : ℕ) → (takeRank p b r).refusal ≡ 0 → length (takeRank p b r).handed ≡ 2
-unfolding takeRank take_of
-two-handed p b r e = by_cases (eqb (positionsRefusal p.constraints p.positions r) 0)
-    (λ t. rw t (rw (rw t at e)))
-    (λ t. absurd (eqb-false _ 0 t (rw t at e)))
+-- a take that is refused hands no body
+pub none-taken : (b : BodyBinding) (ps : List ℕ) → ((take_of b ps).refusal ≡ 0 → ⊥) → (take_of b ps).handed ≡ []
+unfolding take_of
+none-taken b ps ne = rw (ne_eqb (takeRefusal b ps) 0 ne)
 
-count_map : (hs : List Handed) → count (λ h. h.dynamic) hs ≡ sum_of one (map (λ h. h.dynamic) hs)
-count_map hs = sym (sum-map one (λ h. h.dynamic) hs)
+none-handed : (p : Plan) (b : BodyBinding) (r : ℕ) → ((takeRank p b r).refusal ≡ 0 → ⊥) → (takeRank p b r).handed ≡ []
+unfolding takeRank
+none-handed p b r ne = by_cases (eqb (lookupRefusal p r) 0) (λ e. rw e (none-taken b (lookupOf p r) (rw e at ne))) (λ e. rw e)
 
 -- the same as its answer on the marks
-pub call-added : (c : Call) (m : Marked) → markedNumber m ≡ c.refusal → markedDynamic m ≡ map (λ h. h.dynamic) c.handed → (c.refusal ≡ 0 → length c.handed ≡ 2)
-    → addedBy (c ∷ []) ≡ addedByTake c.island c.group c.constraint m
+pub call-added : (c : Call) (t : Taken) → t.refusal ≡ c.refusal → t.dynamic ≡ count (λ h. h.dynamic) c.handed → ((c.refusal ≡ 0 → ⊥) → c.handed ≡ [])
+    → addedBy (c ∷ []) ≡ addedByTake c.island c.group c.constraint t
 unfolding turnsOf takesOf
-call-added c (marked.Taken x y) e d two =
-    let k : count (λ h. h.dynamic) c.handed ≡ one x + (one y + 0) = count_map c.handed ∙ ap (sum_of one) (sym d) in
-    let z : count (λ h. h.dynamic) c.handed + 0 ≡ one x + one y = omega arith in
-    rw (← e, z)
-call-added c (marked.Refused n) e d two =
-    let none : length c.handed ≡ 0 = sym (length-map c.handed (λ h. h.dynamic)) ∙ ap length (sym d) in
-    let k : count (λ h. h.dynamic) c.handed ≡ 0 = count_map c.handed ∙ ap (sum_of one) (sym d) in
-    let z : count (λ h. h.dynamic) c.handed + 0 ≡ 0 = omega arith in
-    rw (ne_eqb c.refusal 0 (λ t. omega (arith, two t)), z)
+call-added c t e d none = by_cases (eqb c.refusal 0)
+    (λ z. let k : count (λ h. h.dynamic) c.handed + 0 ≡ t.dynamic = omega (arith, d) in rw (e, z, k))
+    (λ z. rw (e, z, none (eqb-false c.refusal 0 z)))
 
-pub rank-added : (p : Plan) (ns : List ℕ) (i k : ℕ) (marks left : List ℕ) (n r : ℕ) (m : Marked) → RankTaken p marks n r m left
-    → addedBy (callsFrom p ns i k (marksOnly marks n) (r ∷ [])) ≡ addedByTake i k (get_or ns r 0) m
+pub rank-added : (p : Plan) (ns : List ℕ) (i k : ℕ) (marks left : List ℕ) (n r : ℕ) (t : Taken) → RankTaken p marks n r t left
+    → addedBy (callsFrom p ns i k (marksOnly marks n) (r ∷ [])) ≡ addedByTake i k (get_or ns r 0) t
 unfolding callsFrom
-rank-added p ns i k marks left n r m h = call-added _ m h.refusal h.dynamic (two-handed p (marksOnly marks n) r)
+rank-added p ns i k marks left n r t h = call-added _ t h.refusal h.dynamic (none-handed p (marksOnly marks n) r)
 
 -- ---- a member, and the members one after another
 
-module _ (p : Plan) (ns : List ℕ) (i k : ℕ) (marks left : List ℕ) (n r : ℕ) (m : Marked) (x : ℕ) (t : List ℕ) (s : Tally) (taken : RankTaken p marks n r m left) (number : x ≡ get_or ns r 0) where
+module _ (p : Plan) (ns : List ℕ) (i k : ℕ) (marks left : List ℕ) (n r : ℕ) (m : Taken) (x : ℕ) (t : List ℕ) (s : Tally) (taken : RankTaken p marks n r m left) (number : x ≡ get_or ns r 0) where
   adds : addedBy (callsFrom p ns i k (marksOnly marks n) (r ∷ [])) ≡ addedByTake i k x m
   adds = rank-added p ns i k marks left n r m taken ∙ ap (λ (y : ℕ). addedByTake i k y m) (sym number)
 
@@ -125,16 +188,21 @@ module _ (p : Plan) (b : BodyBinding) (r : ℕ) where
   bare c = marksOnly c.marks c.count
 
   abbrev asked : ℕ
-  asked = positionsRefusal p.constraints p.positions r
+  asked = lookupRefusal p r
 
   bare-refusal : (takeRank p b r).refusal ≡ (takeRank p (bare b) r).refusal
   unfolding takeRank take_of takeRefusal
   bare-refusal = by_cases (eqb asked 0) (λ e. rw e) (λ e. rw e)
 
+  -- how many are dynamic depends on the marks alone
+  same-dynamic : (ps : List ℕ) → count (λ h. h.dynamic) (map (handedAt b) ps) ≡ count (λ h. h.dynamic) (map (handedAt (bare b)) ps)
+  same-dynamic [] = refl
+  same-dynamic (x ∷ ps) = omega (arith, same-dynamic ps)
+
   bare-dynamic : count (λ h. h.dynamic) (takeRank p b r).handed ≡ count (λ h. h.dynamic) (takeRank p (bare b) r).handed
   unfolding takeRank take_of takeRefusal
   bare-dynamic = by_cases (eqb asked 0)
-      (λ e. rw e (by_cases (eqb (takeRefusal b (pair_at p.positions r)) 0) (λ f. rw f) (λ f. rw f)))
+      (λ e. rw e (by_cases (eqb (takeRefusal b (lookupOf p r)) 0) (λ f. rw f (same-dynamic (lookupOf p r))) (λ f. rw f)))
       (λ e. rw e)
 
   bare-after : bare (takeRank p b r).after ≡ (takeRank p (bare b) r).after
@@ -173,16 +241,16 @@ unfolding planCalls
 groups-first p types ns i = rw (whole p.groups)
 
 -- the calls of a group, by the parts of the tables that the lookups hand back
-module _ (plan : ConstraintColoring) (co cc bo cb pos types ns bodies members : List ℕ) (i k : ℕ) where
+module _ (plan : ConstraintColoring) (counts co cc bo cb pos types ns bodies members : List ℕ) (i k : ℕ) where
   pub calls-in : members ≡ groupPart plan.color_count co cc k → bodies ≡ groupPart plan.color_count bo cb k
-      → callsIn (seen plan co cc bo cb pos) types ns i k ≡ callsFrom (seen plan [] [] [] [] pos) ns i k (bindOf types bodies) members
-  unfolding callsIn bodiesIn membersIn takeRank
-  calls-in e f = rw (sym e, sym f) (same-calls (seen plan co cc bo cb pos) (seen plan [] [] [] [] pos) ns i k (λ b r. refl) (bindOf types bodies) members)
+      → callsIn (seen plan counts co cc bo cb pos) types ns i k ≡ callsFrom (seen plan counts [] [] [] [] pos) ns i k (bindOf types bodies) members
+  unfolding callsIn bodiesIn membersIn takeRank lookupRefusal lookupOf
+  calls-in e f = rw (sym e, sym f) (same-calls (seen plan counts co cc bo cb pos) (seen plan counts [] [] [] [] pos) ns i k (λ b r. refl) (bindOf types bodies) members)
 
   -- of the groups from k on: this one, and those after it
   pub group-next : k < plan.color_count → members ≡ groupPart plan.color_count co cc k → bodies ≡ groupPart plan.color_count bo cb k
-      → joinMap (callsIn (seen plan co cc bo cb pos) types ns i) (rangeFrom k (plan.color_count - k))
-      ≡ callsFrom (seen plan [] [] [] [] pos) ns i k (bindOf types bodies) members ++ joinMap (callsIn (seen plan co cc bo cb pos) types ns i) (rangeFrom (k + 1) (plan.color_count - (k + 1)))
+      → joinMap (callsIn (seen plan counts co cc bo cb pos) types ns i) (rangeFrom k (plan.color_count - k))
+      ≡ callsFrom (seen plan counts [] [] [] [] pos) ns i k (bindOf types bodies) members ++ joinMap (callsIn (seen plan counts co cc bo cb pos) types ns i) (rangeFrom (k + 1) (plan.color_count - (k + 1)))
   group-next h e f =
-      parts_next (callsIn (seen plan co cc bo cb pos) types ns i) k plan.color_count h
-      ∙ ap (λ (cs : List Call). cs ++ joinMap (callsIn (seen plan co cc bo cb pos) types ns i) (rangeFrom (k + 1) (plan.color_count - (k + 1)))) (calls-in e f)
+      parts_next (callsIn (seen plan counts co cc bo cb pos) types ns i) k plan.color_count h
+      ∙ ap (λ (cs : List Call). cs ++ joinMap (callsIn (seen plan counts co cc bo cb pos) types ns i) (rangeFrom (k + 1) (plan.color_count - (k + 1)))) (calls-in e f)

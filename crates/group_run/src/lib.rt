@@ -2,31 +2,110 @@
 // each take that is not refused appends a turn: island, group, constraint number.
 #![tactic(auto)]
 
-ghost use Rattle.std.specs.Prelude.{◌≡◌, [], ◌∷◌, ◌≤◌, get_or};
+ghost use Rattle.std.specs.Prelude.{◌≡◌, [], ◌∷◌, ◌≤◌, length, get_or};
 ghost use Rattle.colored_bodies.specs.Bindings.{bindOf, Known};
 ghost use Rattle.schedules.specs.Runs.{callsFrom};
 ghost use Rattle.turn_table.specs.Turns.{Room, Appended};
-ghost use Rattle.group_run.specs.Appends.{seen, planCalls, addedBy, marksOnly, RankTaken, MemberTaken};
+ghost use Rattle.group_run.specs.Appends.{seen, planCalls, addedBy, marksOnly, Countable, pairTaken, countedTaken, RankTaken, MemberTaken};
 
 use colored_bodies::Marked;
+use colored_bodies::multi::MarkedAt;
 use constraint_coloring::{ConstraintColoring, Positions};
 use frame::Frame;
-use turn_table::Tally;
+use turn_table::{Taken, Tally};
 
-// A take asks for its constraint's positions, by its rank in the island, and takes them.
-fn take_rank(
+// What a take of two marks says to the turn table.
+fn pair_taken(marked: Marked) -> Taken
+    ensures { result ≡ pairTaken marked }
+{
+    match marked {
+        Marked::Taken {
+            first_dynamic,
+            second_dynamic,
+        } => Taken {
+            refusal: 0,
+            dynamic: first_dynamic as usize + second_dynamic as usize,
+        },
+        Marked::Refused(n) => Taken {
+            refusal: n,
+            dynamic: 0,
+        },
+    }
+}
+
+// And what a take of two to four says: each of its flags is 1 or 0.
+fn counted_taken(marked: MarkedAt) -> Taken
+    ensures { result ≡ countedTaken marked }
+{
+    let flags = marked.dynamic;
+    Taken {
+        refusal: marked.refusal,
+        dynamic: flags[0] as usize + flags[1] as usize + flags[2] as usize + flags[3] as usize,
+    }
+}
+
+// A take of a pair: its plan's lookup is asked for its two positions.
+fn take_pair(
     plan: ConstraintColoring,
     positions: &[u16],
     rank: usize,
     marks: &mut [u8; Frame::MAX_BODIES],
     count: usize,
-) -> Marked
-    ensures { RankTaken (seen plan [] [] [] [] positions.now) marks.old count rank result marks.new }
+) -> Taken
+    ensures { RankTaken (seen plan [] [] [] [] [] positions.now) marks.old count rank result marks.new }
 {
     match plan.body_positions_for_constraint(positions, rank) {
-        Positions::At(a, b) => { colored_bodies::take_marks(marks, count, a as usize, b as usize) }
-        Positions::Refused(n) => Marked::Refused(n),
+        Positions::At(a, b) => {
+            pair_taken(colored_bodies::take_marks(marks, count, a as usize, b as usize))
+        }
+        Positions::Refused(n) => Taken {
+            refusal: n,
+            dynamic: 0,
+        },
     }
+}
+
+// A take of a constraint that has a count: its positions stand between its bounds.
+fn take_counted(
+    plan: ConstraintColoring,
+    counts: &[u8],
+    bounds: &[u16],
+    positions: &[u16],
+    rank: usize,
+    marks: &mut [u8; Frame::MAX_BODIES],
+    count: usize,
+) -> Taken
+    requires countable { Countable plan counts.now bounds.now positions.now }
+    requires some { length counts.now ≡ 0 → ⊥ }
+    ensures { RankTaken (seen plan counts.now [] [] [] [] positions.now) marks.old count rank result marks.new }
+{
+    if counts.len() <= rank {
+        return Taken {
+            refusal: 12,
+            dynamic: 0,
+        };
+    }
+    let places = parts::part(positions, bounds, rank);
+    counted_taken(colored_bodies::multi::take_marks_at(marks, count, places))
+}
+
+// A take asks for its constraint's positions, by its rank in the island, and takes them.
+fn take_rank(
+    plan: ConstraintColoring,
+    counts: &[u8],
+    bounds: &[u16],
+    positions: &[u16],
+    rank: usize,
+    marks: &mut [u8; Frame::MAX_BODIES],
+    count: usize,
+) -> Taken
+    requires { Countable plan counts.now bounds.now positions.now }
+    ensures { RankTaken (seen plan counts.now [] [] [] [] positions.now) marks.old count rank result marks.new }
+{
+    if counts.len() == 0 {
+        return take_pair(plan, positions, rank, marks, count);
+    }
+    take_counted(plan, counts, bounds, positions, rank, marks, count)
 }
 
 fn number_at(numbers: &[u16], rank: usize) -> u16
@@ -45,6 +124,8 @@ fn take_member(
     group: u16,
     numbers: &[u16],
     plan: ConstraintColoring,
+    counts: &[u8],
+    bounds: &[u16],
     positions: &[u16],
     rank: usize,
     marks: &mut [u8; Frame::MAX_BODIES],
@@ -52,18 +133,12 @@ fn take_member(
     turns: &mut [u16],
     tally: Tally,
 ) -> Tally
-    requires { Room (addedBy (callsFrom (seen plan [] [] [] [] positions.now) numbers.now island group (marksOnly marks.old count) (rank ∷ []))) turns.old tally }
-    ensures { MemberTaken (seen plan [] [] [] [] positions.now) numbers.now island group marks.old count rank turns.old tally marks.new turns.new result }
+    requires countable { Countable plan counts.now bounds.now positions.now }
+    requires room { Room (addedBy (callsFrom (seen plan counts.now [] [] [] [] positions.now) numbers.now island group (marksOnly marks.old count) (rank ∷ []))) turns.old tally }
+    ensures { MemberTaken (seen plan counts.now [] [] [] [] positions.now) numbers.now island group marks.old count rank turns.old tally marks.new turns.new result }
 {
-    let marked = take_rank(plan, positions, rank, marks, count);
-    turn_table::append(
-        marked,
-        island,
-        group,
-        number_at(numbers, rank),
-        turns,
-        tally,
-    )
+    let taken = take_rank(plan, counts, bounds, positions, rank, marks, count);
+    turn_table::append(taken, island, group, number_at(numbers, rank), turns, tally)
 }
 
 // The members of a group, in order.
@@ -72,6 +147,8 @@ fn take_members(
     group: u16,
     numbers: &[u16],
     plan: ConstraintColoring,
+    counts: &[u8],
+    bounds: &[u16],
     positions: &[u16],
     members: &[u16],
     marks: &mut [u8; Frame::MAX_BODIES],
@@ -79,8 +156,9 @@ fn take_members(
     turns: &mut [u16],
     tally: Tally,
 ) -> Tally
-    requires { Room (addedBy (callsFrom (seen plan [] [] [] [] positions.now) numbers.now island group (marksOnly marks.old count) members.now)) turns.old tally }
-    ensures { Appended (addedBy (callsFrom (seen plan [] [] [] [] positions.now) numbers.now island group (marksOnly marks.old count) members.now)) turns.old tally turns.new result }
+    requires countable { Countable plan counts.now bounds.now positions.now }
+    requires room { Room (addedBy (callsFrom (seen plan counts.now [] [] [] [] positions.now) numbers.now island group (marksOnly marks.old count) members.now)) turns.old tally }
+    ensures { Appended (addedBy (callsFrom (seen plan counts.now [] [] [] [] positions.now) numbers.now island group (marksOnly marks.old count) members.now)) turns.old tally turns.new result }
 {
     let mut sum = tally;
     let mut m = 0;
@@ -88,7 +166,7 @@ fn take_members(
     while m < members.len() {
         let rank = members[m] as usize;
         sum = take_member(
-            island, group, numbers, plan, positions, rank, marks, count, turns, sum,
+            island, group, numbers, plan, counts, bounds, positions, rank, marks, count, turns, sum,
         );
         m += 1;
     }
@@ -101,6 +179,8 @@ fn run_group(
     group: u16,
     numbers: &[u16],
     plan: ConstraintColoring,
+    counts: &[u8],
+    bounds: &[u16],
     positions: &[u16],
     types: &[u8],
     bodies: &[u16],
@@ -109,13 +189,15 @@ fn run_group(
     turns: &mut [u16],
     tally: Tally,
 ) -> Tally
-    requires room { Room (addedBy (callsFrom (seen plan [] [] [] [] positions.now) numbers.now island group (bindOf types.now bodies.now) members.now)) turns.old tally }
+    requires countable { Countable plan counts.now bounds.now positions.now }
+    requires room { Room (addedBy (callsFrom (seen plan counts.now [] [] [] [] positions.now) numbers.now island group (bindOf types.now bodies.now) members.now)) turns.old tally }
     requires known { Known types.now }
-    ensures { Appended (addedBy (callsFrom (seen plan [] [] [] [] positions.now) numbers.now island group (bindOf types.now bodies.now) members.now)) turns.old tally turns.new result }
+    ensures { Appended (addedBy (callsFrom (seen plan counts.now [] [] [] [] positions.now) numbers.now island group (bindOf types.now bodies.now) members.now)) turns.old tally turns.new result }
 {
     let count = colored_bodies::bind_marks(types, bodies, marks);
     take_members(
-        island, group, numbers, plan, positions, members, marks, count, turns, tally,
+        island, group, numbers, plan, counts, bounds, positions, members, marks, count, turns,
+        tally,
     )
 }
 
@@ -125,6 +207,8 @@ pub fn run_groups(
     numbers: &[u16],
     types: &[u8],
     plan: ConstraintColoring,
+    counts: &[u8],
+    bounds: &[u16],
     color_offsets: &[u16],
     colored_constraints: &[u16],
     color_body_offsets: &[u16],
@@ -133,10 +217,11 @@ pub fn run_groups(
     turns: &mut [u16],
     tally: Tally,
 ) -> Tally
+    requires countable { Countable plan counts.now bounds.now positions.now }
     requires color_count_bound { plan.color_count ≤ 8192 }
-    requires room { Room (addedBy (planCalls (seen plan color_offsets.now colored_constraints.now color_body_offsets.now color_bodies.now positions.now) types.now numbers.now island)) turns.old tally }
+    requires room { Room (addedBy (planCalls (seen plan counts.now color_offsets.now colored_constraints.now color_body_offsets.now color_bodies.now positions.now) types.now numbers.now island)) turns.old tally }
     requires known { Known types.now }
-    ensures { Appended (addedBy (planCalls (seen plan color_offsets.now colored_constraints.now color_body_offsets.now color_bodies.now positions.now) types.now numbers.now island)) turns.old tally turns.new result }
+    ensures { Appended (addedBy (planCalls (seen plan counts.now color_offsets.now colored_constraints.now color_body_offsets.now color_bodies.now positions.now) types.now numbers.now island)) turns.old tally turns.new result }
 {
     let mut marks = [0u8; Frame::MAX_BODIES];
     let mut sum = tally;
@@ -150,6 +235,8 @@ pub fn run_groups(
             group as u16,
             numbers,
             plan,
+            counts,
+            bounds,
             positions,
             types,
             bodies,

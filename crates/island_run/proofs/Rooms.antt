@@ -1,11 +1,11 @@
--- Question 6 asks for the tables' lengths alone, and fewer constraints need less.
+-- Question 6 asks for the tables' lengths alone, and fewer constraints and endpoints need less.
 use Prim.Native.Nat.{ℕ, ◌≤◌}
 use mathlib.Core.Path.{◌≡◌}
 use mathlib.Core.Bool.{true}
 use native.Mathlib.Omega.{arith}
 use lib.ListN.{length}
-use Rattle.plan_questions.specs.Plans.{Tables, roomy}
-use Rattle.plan_questions.proofs.Rooms.{fitted-roomy, roomy-fitted}
+use Rattle.plan_questions.specs.Plans.{Tables, roomy_with}
+use Rattle.plan_questions.proofs.Rooms.{fitted-with, with-fitted}
 
 -- the tables of a plan keep their lengths
 pub record SameLengths (t u : Tables) : Type 0 where
@@ -23,10 +23,10 @@ pub record SameLengths (t u : Tables) : Type 0 where
   pub color-bodies : length u.color-bodies ≡ length t.color-bodies
   pub constraint-body-positions : length u.constraint-body-positions ≡ length t.constraint-body-positions
 
-pub room-kept : (b c d : ℕ) (t u : Tables) → d ≤ c → SameLengths t u → roomy b c t ≡ true → roomy b d u ≡ true
-room-kept b c d t u l s h =
-    let w = fitted-roomy b c t h in
-    roomy-fitted b d u (
+pub room-kept : (b c d e f : ℕ) (t u : Tables) → d ≤ c → f ≤ e → SameLengths t u → roomy_with b c e t ≡ true → roomy_with b d f u ≡ true
+room-kept b c d e f t u l m s h =
+    let w = fitted-with b c e t h in
+    with-fitted b d f u (
       omega (arith, w.0, s.dynamic-bodies),
       (
         omega (arith, w.1.0, s.endpoints),

@@ -1,21 +1,28 @@
 -- The takes of all islands, as they are made from a frame's tables.
-use Rattle.std.specs.Prelude.{ℕ, ◌*◌, ◌≤◌, ◌<◌, ◌≡◌, true, List, length}
+use Rattle.std.specs.Prelude.{ℕ, ◌≤◌, ◌<◌, ◌≡◌, true, List, length}
 use Rattle.lists.specs.Basics.{joinMap, range}
 use Rattle.groups.specs.Groups.{members}
-use Rattle.plan_questions.specs.Plans.{Tables, roomy, updateRefusal}
+use Rattle.plan_questions.specs.Plans.{Tables, roomy_with}
 use Rattle.schedules.specs.Runs.{Call}
-use Rattle.island_numbers.specs.Numbers.{Labels, byIsland, pairsAmong}
-use Rattle.one_island.specs.Island.{islandCalls}
+use Rattle.island_numbers.specs.Numbers.{Labels, byIsland, endsAmong, countsAmong, Collectable}
+use Rattle.one_island.specs.Island.{islandCalls, freshRefusal, ranks}
 
--- the islands in number order, each with the constraints that have its label
-unfoldable pub calls_of : List ℕ → List ℕ → List ℕ → List ℕ → ℕ → List Call
-calls_of types flags pairs labels islands = joinMap (λ i. islandCalls types flags pairs i (members labels i)) (range islands)
+-- island i, whose constraints are those of its label, by the endpoints and counts of all constraints
+unfoldable pub calls_at : List ℕ → List ℕ → List ℕ → List ℕ → List ℕ → ℕ → List Call
+calls_at types flags counts ends labels i =
+    let ns = members labels i in
+    islandCalls types flags (countsAmong counts ns) (endsAmong counts ends ns) i ns
 
--- all islands can be run: their numbers are sorted, and so is each island
-pub record Prepared (islands : ℕ) (flags pairs ls ns island-pairs : List ℕ) (t : Tables) : Type 0 where
-  pub labels : Labels islands ls
-  pub numbers : ns ≡ byIsland islands ls
-  pub paired : 2 * length ls ≤ length pairs
-  pub accepted : (i : ℕ) → i < islands → updateRefusal flags (pairsAmong pairs (members ls i)) true ≡ 0
-  pub room : 2 * length ls ≤ length island-pairs
-  pub tables : roomy (length flags) (length ls) t ≡ true
+-- the islands in number order
+unfoldable pub calls_of : List ℕ → List ℕ → List ℕ → List ℕ → List ℕ → ℕ → List Call
+calls_of types flags counts ends labels islands = joinMap (calls_at types flags counts ends labels) (range islands)
+
+-- all islands can be run: the numbers are sorted, endpoints and counts can be collected in their order, and each island's update will be accepted
+pub record Prepared (islands : ℕ) (flags counts ends labels numbers island-ends island-counts : List ℕ) (t : Tables) (plan-counts : List ℕ) : Type 0 where
+  pub labels-are : Labels islands labels
+  pub numbers-are : numbers ≡ byIsland islands labels
+  pub collectable : Collectable counts ends numbers t.body-constraints island-ends island-counts
+  pub accepted : (i : ℕ) → i < islands → freshRefusal flags (countsAmong counts (members labels i)) (endsAmong counts ends (members labels i)) ≡ 0
+  pub ranked : (i : ℕ) → i < islands → length (members labels i) ≡ ranks (countsAmong counts (members labels i)) (endsAmong counts ends (members labels i))
+  pub tables : roomy_with (length flags) (length labels) (length island-ends) t ≡ true
+  pub counts-room : length island-counts ≤ length plan-counts

@@ -1,32 +1,41 @@
--- The plan as it stands after the update of an island hands back what the definition's plan does, so its groups make the same takes.
-use Prim.Native.Nat.{ℕ, ◌/◌, ◌≤◌, ◌<◌}
-use mathlib.Core.Path.{◌≡◌, sym, ap, ◌∙◌}
+-- The plan as it stands after the update of an island hands back what the definition's plan does, so its groups make the same takes. The
+-- update is accepted, since its questions are and there is room.
+use Prim.Native.Nat.{ℕ, ◌*◌, ◌/◌, ◌%◌, ◌≤◌, ◌<◌}
+use mathlib.Core.Path.{◌≡◌, refl, sym, ap, ◌∙◌, subst}
 use mathlib.Core.Bool.{true}
-use mathlib.Core.List.{List}
+use mathlib.Core.List.{List, []}
 use native.Mathlib.Omega.{arith}
+use lib.Dec.{eqb}
 use lib.ListN.{length}
+use borrow.Author.Tests.{eqb-true, eqb-false, ne_eqb, le-leb}
 use Rattle.lists.specs.Basics.{joinMap, range}
-use Rattle.lists.proofs.Laws.{range-high, pigeonhole}
+use Rattle.lists.proofs.Laws.{by_cases, range-high, pigeonhole, no_length}
 use Rattle.lists.proofs.Ranges.{joinMap-ext-in}
-use Rattle.groups.specs.Groups.{Plan, pairsOf, colorsOf, groupCount, plan_of}
+use Rattle.frame.specs.Frames.{countsKnown, endCount}
+use Rattle.frame.specs.Questions.{even}
+use Rattle.frame.proofs.Questions.{passed}
+use Rattle.groups.specs.Groups.{Plan, pairsOf, counted_parts, colorsOf, groupCount}
 use Rattle.groups.proofs.Colors.{colors-length, group-not-empty}
 use Rattle.constraint_coloring.specs.declared.ConstraintColoring.{ConstraintColoring}
 use Rattle.constraint_coloring.specs.declared.Update.{Update}
-use Rattle.plan_questions.specs.Plans.{Tables}
-use Rattle.plan_history.specs.Memory.{fresh, planFor}
+use Rattle.plan_questions.specs.Plans.{Tables, roomy_with, updateRefusal}
+use Rattle.plan_questions.proofs.Questions.{few}
 use Rattle.constraint_coloring.specs.Calls.{freshPlan, planAfter, refusalWith, Updated}
-use Rattle.plan_history.proofs.Memory.{remembers}
-use Rattle.schedules.specs.Runs.{membersIn, bodiesIn, takeRank}
-use Rattle.schedules.proofs.Standing.{Lookups, plan-lookups, updated-lookups, few-pairs}
+use Rattle.multi_coloring.specs.declared.MultiColoring.{MultiColoring}
+use Rattle.multi_coloring.specs.declared.MultiUpdate.{MultiUpdate}
+use Rattle.multi_coloring.specs.Counts.{multiUpdateRefusal}
+use Rattle.multi_coloring.specs.Calls.{freshMulti, multiPlanAfter, multiRefusalWith, numbersOf, MultiUpdated}
+use Rattle.multi_coloring.proofs.Accepted.{Accepted, accepted, few-ends, two-each}
+use Rattle.schedules.specs.Runs.{freshly, membersIn, bodiesIn, lookupRefusal, lookupOf, takeRank}
+use Rattle.schedules.proofs.Standing.{Lookups, fresh-pairs, updated-pairs, few-pairs, fresh-counts, updated-lent, constraints-lent, few-counts}
 use Rattle.schedules.proofs.Condition3.{same-calls}
-use Rattle.island_numbers.specs.Numbers.{pairsAmong}
 use Rattle.group_run.specs.Appends.{seen, callsIn, planCalls}
-use Rattle.one_island.specs.Island.{islandCalls, Ready}
+use Rattle.one_island.specs.Island.{islandCalls, ranks, Ready, Colored}
 
 -- two plans whose lookups hand back the same make the same takes
-same-plan-calls : (flags pairs : List ℕ) (p q : Plan) → Lookups flags pairs p → Lookups flags pairs q → (types ns : List ℕ) (i : ℕ) → planCalls p types ns i ≡ planCalls q types ns i
+same-plan-calls : (flags : List ℕ) (cs : List (List ℕ)) (p q : Plan) → Lookups flags cs p → Lookups flags cs q → (types ns : List ℕ) (i : ℕ) → planCalls p types ns i ≡ planCalls q types ns i
 unfolding planCalls callsIn
-same-plan-calls flags pairs p q lp lq types ns i =
+same-plan-calls flags cs p q lp lq types ns i =
     let g : p.groups ≡ q.groups = lp.groups ∙ sym lq.groups in
     ap (λ (n : ℕ). joinMap (callsIn p types ns i) (range n)) g
     ∙ joinMap-ext-in _ _ (range q.groups)
@@ -36,37 +45,95 @@ same-plan-calls flags pairs p q lp lq types ns i =
     rw (lp.bodies k h', lp.members k h', lq.bodies k h, lq.members k h)
     (same-calls p q ns i k (λ b r. lp.takes b r ∙ sym (lq.takes b r)) _ _))
 
-module _ (types flags pairs ns old : List ℕ) (i : ℕ) (t u : Tables) (plan new : ConstraintColoring) (r : Update) (island-pairs : List ℕ)
-    (ready : Ready flags pairs ns old t) (collected : island-pairs ≡ pairsAmong pairs ns) (long : length island-pairs ≡ length old)
-    (is-new : new ≡ freshPlan) (updated : Updated new flags island-pairs t u r) (is-plan : plan ≡ planAfter new r) where
-  accepted : refusalWith t flags island-pairs ≡ 0
-  unfolding refusalWith
-  accepted =
-      let half : length island-pairs / 2 ≡ length ns = omega (arith, long, ready.room) in
-      rw (half, ready.tables, collected) ready.accepted
-
-  fresh-updated : Updated freshPlan flags island-pairs t u r
-  fresh-updated = rw is-new at updated
-
+-- a plan whose lookups are those of these few constraints makes the definition's takes
+module _ (flags counts ends : List ℕ) (cs : List (List ℕ)) (few : length cs ≤ 8192) (u : Tables) (p : ConstraintColoring) where
   abbrev after : Plan
-  after = seen plan u.color-offsets u.colored-constraints u.color-body-offsets u.color-bodies u.constraint-body-positions
+  after = seen p counts u.color-offsets u.colored-constraints u.color-body-offsets u.color-bodies u.constraint-body-positions
 
-  lookups : Lookups flags island-pairs after
-  unfolding membersIn bodiesIn takeRank
-  lookups =
-      let l = updated-lookups flags island-pairs t u r accepted fresh-updated in
-      rw (is-plan, is-new) (record { groups = l.groups; members = l.members; bodies = l.bodies; takes = l.takes })
-
-  few : length (pairsOf island-pairs) ≤ 8192
-  few = few-pairs flags island-pairs t u r accepted fresh-updated
-
-  pub groups-few : plan.color_count ≤ 8192
-  groups-few =
-      let colors = colorsOf flags (pairsOf island-pairs) in
-      omega (arith, few, lookups.groups, pigeonhole (groupCount colors) colors (group-not-empty flags (pairsOf island-pairs)), colors-length flags (pairsOf island-pairs))
-
-  pub island-is : planCalls after types ns i ≡ islandCalls types flags pairs i ns
+  colored : ((length counts ≡ 0 → ⊥) → p.constraint_count ≡ length counts) → Lookups flags cs after → Lookups flags cs (freshly flags counts ends) → Colored flags counts ends p u
   unfolding islandCalls
-  island-is =
-      same-plan-calls flags island-pairs after (plan_of flags island-pairs) lookups (plan-lookups flags island-pairs few) types ns i
-      ∙ rw collected (ap (λ (p : Plan). planCalls p types ns i) (sym (ap planFor (remembers fresh flags (pairsAmong pairs ns) true ready.accepted))))
+  colored c l d = record {
+    groups =
+        let colors = colorsOf flags cs in
+        omega (arith, few, l.groups, pigeonhole (groupCount colors) colors (group-not-empty flags cs), colors-length flags cs);
+    constraints = c;
+    takes = λ types ns i. same-plan-calls flags cs after (freshly flags counts ends) l d types ns i;
+  }
+
+-- ---- the plan of an update that is accepted
+module _ {flags counts ends old : List ℕ} {n : ℕ} {t : Tables} (ready : Ready flags counts ends n t old) where
+  module _ (some : length counts ≡ 0 → ⊥) where
+    asks-counts : multiUpdateRefusal flags ends counts true ≡ 0
+    asks-counts = rw (ne_eqb (length counts) 0 some) at ready.accepted
+
+    asks-multi : multiRefusalWith t old flags ends counts ≡ 0
+    unfolding multiRefusalWith
+    asks-multi =
+        let m : n ≡ length counts = ready.ranked ∙ rw (ne_eqb (length counts) 0 some) in
+        let room : roomy_with (length flags) (length counts) (length ends) t ≡ true = rw m at ready.tables in
+        rw (le-leb (length counts) (length old) ready.counts-room, room) asks-counts
+
+    passed-counts : Accepted flags ends counts t old
+    passed-counts = accepted flags ends counts t old asks-multi
+
+-- of pairs
+module _ (flags ends : List ℕ) (t u : Tables) (ready : Ready flags [] ends (ranks [] ends) t []) where
+  two-each-pair : length ends ≡ 2 * (length ends / 2)
+  unfolding updateRefusal
+  two-each-pair =
+      let q3 = passed (few flags ends) _ 2 ready.accepted in
+      let q4 = passed (even ends) _ 3 q3.1 in
+      omega (arith, eqb-true (length ends % 2) 0 q4.0)
+
+  with-tables : refusalWith t flags ends ≡ 0
+  unfolding refusalWith
+  with-tables =
+      let room : roomy_with (length flags) (length ends / 2) (2 * (length ends / 2)) t ≡ true = subst (λ (e : ℕ). roomy_with (length flags) (length ends / 2) e t ≡ true) two-each-pair ready.tables in
+      rw room ready.accepted
+
+  pub pairs-colored : (new plan : ConstraintColoring) (r : Update) → new ≡ freshPlan → Updated new flags ends t u r → plan ≡ planAfter new r → Colored flags [] ends plan u
+  unfolding membersIn bodiesIn takeRank lookupRefusal lookupOf
+  pairs-colored new plan r e up f =
+      let l = updated-pairs flags ends t u r with-tables (rw e at up) in
+      rw (f, e) (colored flags [] ends (pairsOf ends) (few-pairs flags ends true ready.accepted) u (planAfter freshPlan r)
+      (λ s. absurd (s refl))
+      (record { groups = l.groups; members = l.members; bodies = l.bodies; takes = l.takes })
+      (fresh-pairs flags ends ready.accepted))
+
+-- of constraints that have a count each
+module _ (flags counts ends old left : List ℕ) (t u : Tables) (ready : Ready flags counts ends (ranks counts ends) t old) (some : length counts ≡ 0 → ⊥) where
+  pub counts-colored : (new after : MultiColoring) (plan : ConstraintColoring) (r : MultiUpdate) → new ≡ freshMulti → MultiUpdated new flags ends counts t old u left r → after ≡ multiPlanAfter new r → plan ≡ numbersOf after → Colored flags counts ends plan u
+  unfolding membersIn bodiesIn takeRank lookupRefusal lookupOf
+  counts-colored new after plan r e up f g =
+      let ok = asks-multi ready some in
+      let up' : MultiUpdated freshMulti flags ends counts t old u left r = rw e at up in
+      let l = updated-lent flags ends counts t u old left r ok up' in
+      let asked = asks-counts ready some in
+      rw (g, f, e) (colored flags counts ends (counted_parts counts ends) (few-counts flags ends counts true asked) u (numbersOf (multiPlanAfter freshMulti r))
+      (λ s. constraints-lent flags ends counts t u old left r ok up')
+      (record { groups = l.groups; members = l.members; bodies = l.bodies; takes = l.takes })
+      (fresh-counts flags ends counts asked))
+
+-- ---- the bounds of the constraints, and their positions
+
+-- what the counts of an island are known to be; without counts there is nothing to know
+pub record Counted (counts : List ℕ) (t : Tables) : Type 0 where
+  pub few : length counts ≤ 8192
+  pub known : countsKnown counts ≡ true
+  pub sum : endCount counts ≤ 32768
+  pub bounds : 2 * length counts ≤ length t.body-constraints
+  pub positions : endCount counts ≤ length t.constraint-body-positions
+
+module _ {flags counts ends old : List ℕ} {n : ℕ} {t : Tables} (ready : Ready flags counts ends n t old) where
+  pub ready-counted : Counted counts t
+  ready-counted = by_cases (eqb (length counts) 0)
+      (λ e. rw (no_length counts (eqb-true (length counts) 0 e)) (record { few = omega arith; known = refl; sum = omega arith; bounds = omega arith; positions = omega arith }))
+      (λ e.
+      let a = passed-counts ready (eqb-false (length counts) 0 e) in
+      record {
+        few = a.few;
+        known = a.known;
+        sum = few-ends a;
+        bounds = omega (arith, two-each a, a.tables.1.1.1.0);
+        positions = omega (arith, a.whole, a.tables.1.1.1.1.1.1.1.1.1.1.1.1.1.0);
+      })

@@ -1,19 +1,32 @@
--- The takes of one island, as they are made from a frame's tables.
-use Rattle.std.specs.Prelude.{ℕ, ◌+◌, ◌*◌, ◌≡◌, true, List, ltb, length}
-use Rattle.lists.specs.Basics.{all}
-use Rattle.plan_questions.specs.Plans.{Tables, roomy, updateRefusal}
-use Rattle.plan_history.specs.Memory.{fresh, remembered, planFor}
-use Rattle.schedules.specs.Runs.{Call}
-use Rattle.island_numbers.specs.Numbers.{pairsAmong}
-use Rattle.group_run.specs.Appends.{planCalls}
+-- The takes of one island, as they are made from its endpoints and counts.
+use Rattle.std.specs.Prelude.{ℕ, ◌/◌, ◌≤◌, ◌≡◌, true, cond, List, eqb, length}
+use Rattle.constraint_coloring.specs.declared.ConstraintColoring.{ConstraintColoring}
+use Rattle.plan_questions.specs.Plans.{Tables, roomy_with, updateRefusal}
+use Rattle.multi_coloring.specs.Counts.{multiUpdateRefusal}
+use Rattle.schedules.specs.Runs.{Call, freshly}
+use Rattle.group_run.specs.Appends.{seen, planCalls}
 
--- the constraints `ns` of island i are colored on a fresh plan with these flags, and its groups taken in order
-unfoldable pub islandCalls : List ℕ → List ℕ → List ℕ → ℕ → List ℕ → List Call
-islandCalls types flags pairs i ns = planCalls (planFor (remembered fresh flags (pairsAmong pairs ns) true)) types ns i
+-- the constraints `ns` of island i are colored on a fresh plan with these flags, and its groups taken in order; without counts they are pairs
+unfoldable pub islandCalls : List ℕ → List ℕ → List ℕ → List ℕ → ℕ → List ℕ → List Call
+islandCalls types flags counts ends i ns = planCalls (freshly flags counts ends) types ns i
 
--- one island can be run: its constraints have pairs, its update will be accepted, and the workspace has room
-pub record Ready (flags pairs ns island-pairs : List ℕ) (t : Tables) : Type 0 where
-  pub inside : all (λ n. ltb (2 * n + 1) (length pairs)) ns ≡ true
-  pub accepted : updateRefusal flags (pairsAmong pairs ns) true ≡ 0
-  pub room : length island-pairs ≡ 2 * length ns
-  pub tables : roomy (length flags) (length ns) t ≡ true
+-- the questions of its update, where there is room
+abbrev pub freshRefusal : List ℕ → List ℕ → List ℕ → ℕ
+freshRefusal flags counts ends = cond (eqb (length counts) 0) (updateRefusal flags ends true) (multiUpdateRefusal flags ends counts true)
+
+-- how many constraints there are
+abbrev pub ranks : List ℕ → List ℕ → ℕ
+ranks counts ends = cond (eqb (length counts) 0) (length ends / 2) (length counts)
+
+-- one island of n constraints can be run: its update will be accepted, and the tables and the table of counts have room
+pub record Ready (flags counts ends : List ℕ) (n : ℕ) (t : Tables) (plan-counts : List ℕ) : Type 0 where
+  pub accepted : freshRefusal flags counts ends ≡ 0
+  pub ranked : n ≡ ranks counts ends
+  pub tables : roomy_with (length flags) n (length ends) t ≡ true
+  pub counts-room : length counts ≤ length plan-counts
+
+-- a plan as it stands in the tables u after its update: it has these counts, if any, and makes the takes of the definition's plan
+pub record Colored (flags counts ends : List ℕ) (p : ConstraintColoring) (u : Tables) : Type 0 where
+  pub groups : p.color_count ≤ 8192
+  pub constraints : (length counts ≡ 0 → ⊥) → p.constraint_count ≡ length counts
+  pub takes : (types ns : List ℕ) (i : ℕ) → planCalls (seen p counts u.color-offsets u.colored-constraints u.color-body-offsets u.color-bodies u.constraint-body-positions) types ns i ≡ islandCalls types flags counts ends i ns

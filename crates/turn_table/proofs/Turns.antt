@@ -1,4 +1,4 @@
--- A turn is three stores, and a take of marks adds it or nothing, by its answer.
+-- A turn is three stores, and a take adds it or nothing, by its refusal.
 use Prim.Native.Nat.{ℕ, ◌+◌, ◌≤◌}
 use mathlib.Core.Path.{◌≡◌, sym, ap, ◌∙◌}
 use mathlib.Core.List.{List, [], ◌∷◌}
@@ -6,10 +6,8 @@ use native.Mathlib.Omega.{arith}
 use lib.ListN.{length, set}
 use Rattle.lists.specs.Basics.{put}
 use Rattle.lists.proofs.Puts.{put-none, length-put, put-put, set-put}
-use Rattle.colored_bodies.specs.declared.Marked.{Marked}
-use Rattle.colored_bodies.specs.declared.Marked.TheVariants as marked
 use Rattle.turn_table.specs.declared.Tally.{Tally}
-use Rattle.turn_table.specs.Turns.{addedByTake, Appended}
+use Rattle.turn_table.specs.Turns.{Appended}
 
 -- a turn: three stores
 pub set-turn : (n x y z : ℕ) (old : List ℕ) → n + 3 ≤ length old → set (set (set old n x) (n + 1) y) (n + 2) z ≡ put n (x ∷ y ∷ z ∷ []) old
@@ -24,7 +22,3 @@ set-turn n x y z old h =
 -- nothing is added
 pub appended-none : (t : List ℕ) (s : Tally) → Appended (record { turns = []; takes = 0 }) t s t s
 appended-none t s = record { table = sym (put-none s.place t); place = omega arith; takes = omega arith }
-
--- and so after a take of marks that is refused
-pub refused-added : (i k n r : ℕ) (m : Marked) (t : List ℕ) (s : Tally) → m ≡ marked.Refused r → Appended (addedByTake i k n m) t s t s
-refused-added i k n r m t s e = rw e (appended-none t s)

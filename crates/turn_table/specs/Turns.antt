@@ -1,8 +1,7 @@
 -- What is added to the turn table and to the takes of dynamic bodies.
-use Rattle.std.specs.Prelude.{ℕ, ◌+◌, ◌*◌, ◌≤◌, ◌≡◌, List, [], ◌∷◌, length}
-use Rattle.lists.specs.Basics.{one, put}
-use Rattle.colored_bodies.specs.declared.Marked.{Marked}
-use Rattle.colored_bodies.specs.declared.Marked.TheVariants as marked
+use Rattle.std.specs.Prelude.{ℕ, ◌+◌, ◌*◌, ◌≤◌, ◌≡◌, cond, List, [], ◌∷◌, eqb, length}
+use Rattle.lists.specs.Basics.{put}
+use Rattle.turn_table.specs.declared.Taken.{Taken}
 use Rattle.turn_table.specs.declared.Tally.{Tally}
 
 -- entries of the turn table, and takes of dynamic bodies
@@ -10,10 +9,9 @@ pub record Added : Type 0 where
   pub turns : List ℕ
   pub takes : ℕ
 
--- what one take of marks adds: a turn, unless it is refused
-abbrev pub addedByTake : ℕ → ℕ → ℕ → Marked → Added
-addedByTake i k n (marked.Taken p q) = record { turns = i ∷ k ∷ n ∷ []; takes = one p + one q }
-addedByTake i k n (marked.Refused r) = record { turns = []; takes = 0 }
+-- what one take adds: a turn and the bodies handed as dynamic, unless it is refused
+abbrev pub addedByTake : ℕ → ℕ → ℕ → Taken → Added
+addedByTake i k n t = cond (eqb t.refusal 0) (record { turns = i ∷ k ∷ n ∷ []; takes = t.dynamic }) (record { turns = []; takes = 0 })
 
 -- there is room for it: places of the turn table, and takes of 4,096 bodies by 8,192 constraints at most
 pub record Room (a : Added) (t : List ℕ) (s : Tally) : Type 0 where

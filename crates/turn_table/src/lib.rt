@@ -5,7 +5,12 @@ ghost use Rattle.std.specs.Prelude.{◌≡◌, [], ◌∷◌, ◌+◌, ◌≤◌
 ghost use Rattle.lists.specs.Basics.{put};
 ghost use Rattle.turn_table.specs.Turns.{addedByTake, Room, Appended, none};
 
-use colored_bodies::Marked;
+// A take that was made: its refusal or 0, and how many bodies it handed as dynamic.
+#[derive(Clone, Copy)]
+pub struct Taken {
+    pub refusal: u8,
+    pub dynamic: usize,
+}
 
 // The next place of the turn table, and how many dynamic bodies were taken.
 #[derive(Clone, Copy)]
@@ -32,28 +37,22 @@ fn put_turn(turns: &mut [u16], place: usize, island: u16, group: u16, number: u1
 
 // A take that is not refused makes one turn.
 pub fn append(
-    marked: Marked,
+    taken: Taken,
     island: u16,
     group: u16,
     number: u16,
     turns: &mut [u16],
     tally: Tally,
 ) -> Tally
-    requires { Room (addedByTake island group number marked) turns.old tally }
-    ensures { Appended (addedByTake island group number marked) turns.old tally turns.new result }
+    requires { Room (addedByTake island group number taken) turns.old tally }
+    ensures { Appended (addedByTake island group number taken) turns.old tally turns.new result }
 {
-    match marked {
-        Marked::Taken {
-            first_dynamic,
-            second_dynamic,
-        } => {
-            put_turn(turns, tally.place, island, group, number);
-            let dynamic = first_dynamic as usize + second_dynamic as usize;
-            Tally {
-                place: tally.place + 3,
-                takes: tally.takes + dynamic,
-            }
-        }
-        Marked::Refused(_) => tally,
+    if taken.refusal != 0 {
+        return tally;
+    }
+    put_turn(turns, tally.place, island, group, number);
+    Tally {
+        place: tally.place + 3,
+        takes: tally.takes + taken.dynamic,
     }
 }

@@ -4,8 +4,8 @@ use Rattle.group_run.proofs.Appends.{room_by, appended-by}
 use Rattle.group_run.proofs.Takes.{bound-added}
 use Rattle.group_run.proofs.run_group.Goals as goal
 
-pub take_members-requires : goal.take_members-requires
-take_members-requires c =
+pub take_members-requires-clause-room : goal.take_members-requires-clause-room
+take_members-requires-clause-room c =
     let bound = c.bind_marks-count.ensures in
     room_by (bound-added _ _ _ _ _ _ _ _ _ bound.0 bound.1) c.requires.room
 

@@ -9,12 +9,12 @@ loop-group-init c = (omega arith, going-first (groups-first _ _ _ _))
 pub run_group-sum-requires-clause-room : goal.run_group-sum-requires-clause-room
 run_group-sum-requires-clause-room c =
     going-room c.requires.room c.loop-group.invariant.1 _ _
-    (group-next _ _ _ _ _ _ _ _ _ _ _ _ c.loop-group-test.true c.constraints_in_schedule_group-members.ensures c.bodies_in_schedule_group-bodies.ensures)
+    (group-next _ _ _ _ _ _ _ _ _ _ _ _ _ c.loop-group-test.true c.constraints_in_schedule_group-members.ensures c.bodies_in_schedule_group-bodies.ensures)
 
 pub loop-group-preserved : goal.loop-group-preserved
 loop-group-preserved c = (
   omega arith,
   going_more c.requires.room c.loop-group.invariant.1 _ _ _ _
-      (group-next _ _ _ _ _ _ _ _ _ _ _ _ c.loop-group-test.true c.constraints_in_schedule_group-members.ensures c.bodies_in_schedule_group-bodies.ensures)
+      (group-next _ _ _ _ _ _ _ _ _ _ _ _ _ c.loop-group-test.true c.constraints_in_schedule_group-members.ensures c.bodies_in_schedule_group-bodies.ensures)
       c.run_group-sum.ensures,
 )

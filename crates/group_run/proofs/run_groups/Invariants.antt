@@ -7,8 +7,8 @@ use Rattle.group_run.proofs.run_groups.Given as goal
 
 abbrev pub invariant-loop-group : goal.invariant-loop-group
 invariant-loop-group l = (l.group ≤ l.plan.color_count)
-    × Going (planCalls (seen l.plan l.color_offsets l.colored_constraints l.color_body_offsets l.color_bodies l.positions) l.types l.numbers l.island)
-    (joinMap (callsIn (seen l.plan l.color_offsets l.colored_constraints l.color_body_offsets l.color_bodies l.positions) l.types l.numbers l.island) (rangeFrom l.group (l.plan.color_count - l.group))) l.initial.turns l.initial.sum l.turns l.sum
+    × Going (planCalls (seen l.plan l.counts l.color_offsets l.colored_constraints l.color_body_offsets l.color_bodies l.positions) l.types l.numbers l.island)
+    (joinMap (callsIn (seen l.plan l.counts l.color_offsets l.colored_constraints l.color_body_offsets l.color_bodies l.positions) l.types l.numbers l.island) (rangeFrom l.group (l.plan.color_count - l.group))) l.initial.turns l.initial.sum l.turns l.sum
 
 abbrev pub decreases-loop-group : goal.decreases-loop-group
 decreases-loop-group l = l.plan.color_count - l.group

@@ -3,7 +3,7 @@ use Rattle.group_run.proofs.Takes.{member-room, member-taken}
 use Rattle.group_run.proofs.take_member.Goals as goal
 
 pub append-requires : goal.append-requires
-append-requires c = member-room _ _ _ _ _ _ _ _ _ _ _ _ c.take_rank-marked.ensures c.number_at.ensures c.requires
+append-requires c = member-room _ _ _ _ _ _ _ _ _ _ _ _ c.take_rank-taken.ensures c.number_at.ensures c.requires.room
 
 pub returns : goal.returns
-returns c = member-taken _ _ _ _ _ _ _ _ _ _ _ _ c.take_rank-marked.ensures c.number_at.ensures _ _ c.append.ensures
+returns c = member-taken _ _ _ _ _ _ _ _ _ _ _ _ c.take_rank-taken.ensures c.number_at.ensures _ _ c.append.ensures

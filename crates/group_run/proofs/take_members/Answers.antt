@@ -7,14 +7,14 @@ use Rattle.group_run.proofs.take_members.Goals as goal
 pub loop-m-init : goal.loop-m-init
 loop-m-init c = (omega arith, going-first refl)
 
-pub take_member-sum-requires : goal.take_member-sum-requires
-take_member-sum-requires c = going-room c.requires c.loop-m.invariant.1 _ _ (calls-next _ _ _ _ _ _ _ c.loop-m-test.true)
+pub take_member-sum-requires-clause-room : goal.take_member-sum-requires-clause-room
+take_member-sum-requires-clause-room c = going-room c.requires.room c.loop-m.invariant.1 _ _ (calls-next _ _ _ _ _ _ _ c.loop-m-test.true)
 
 pub loop-m-preserved : goal.loop-m-preserved
 loop-m-preserved c = (
   omega arith,
-  going_more c.requires c.loop-m.invariant.1 _ _ _ _ (calls-after _ _ _ _ _ _ _ _ c.loop-m-test.true c.take_member-sum.ensures.after) c.take_member-sum.ensures.added,
+  going_more c.requires.room c.loop-m.invariant.1 _ _ _ _ (calls-after _ _ _ _ _ _ _ _ c.loop-m-test.true c.take_member-sum.ensures.after) c.take_member-sum.ensures.added,
 )
 
 pub returns : goal.returns
-returns c = going-last c.requires c.loop-m.invariant.1 (calls-end _ _ _ _ _ _ _ c.loop-m-test.false)
+returns c = going-last c.requires.room c.loop-m.invariant.1 (calls-end _ _ _ _ _ _ _ c.loop-m-test.false)

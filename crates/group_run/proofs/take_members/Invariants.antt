@@ -9,8 +9,8 @@ use Rattle.group_run.proofs.take_members.Given as goal
 
 abbrev pub invariant-loop-m : goal.invariant-loop-m
 invariant-loop-m l = (l.m ≤ length l.members)
-    × Going (callsFrom (seen l.plan [] [] [] [] l.positions) l.numbers l.island l.group (marksOnly l.initial.marks l.count) l.members)
-    (callsFrom (seen l.plan [] [] [] [] l.positions) l.numbers l.island l.group (marksOnly l.marks l.count) (drop l.m l.members)) l.initial.turns l.initial.sum l.turns l.sum
+    × Going (callsFrom (seen l.plan l.counts [] [] [] [] l.positions) l.numbers l.island l.group (marksOnly l.initial.marks l.count) l.members)
+    (callsFrom (seen l.plan l.counts [] [] [] [] l.positions) l.numbers l.island l.group (marksOnly l.marks l.count) (drop l.m l.members)) l.initial.turns l.initial.sum l.turns l.sum
 
 abbrev pub decreases-loop-m : goal.decreases-loop-m
 decreases-loop-m l = length l.members - l.m

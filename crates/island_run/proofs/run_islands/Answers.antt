@@ -1,50 +1,67 @@
-use Prim.Native.Nat.{◌*◌, ◌-◌, ◌≤◌}
-use mathlib.Core.Path.{sym, ap}
+use Prim.Native.Nat.{◌+◌, ◌-◌, ◌≤◌}
+use mathlib.Core.Path.{◌≡◌, sym, ap, ◌∙◌}
 use native.Mathlib.Omega.{arith}
-use lib.ListN.{length}
-use lib.Seq.{length-take-le}
+use lib.ListN.{length, take, drop}
 use Rattle.groups.proofs.Tables.{flatten-zero}
 use Rattle.group_run.proofs.Appends.{going-first, going-room, going_more}
-use Rattle.island_run.proofs.Loop.{islands-first, part_count, next_start, part-inside, pairs-room, ready, island-next}
+use Rattle.island_numbers.specs.Numbers.{countsAmong}
+use Rattle.island_run.proofs.Loop.{islands-first, first-ends, part_count, next_start, part-inside, part-few, counts-there, counts-taken, counts-few, ends_next, ends-there, ready, island-next}
 use Rattle.island_run.proofs.run_islands.Goals as goal
-use Rattle.island_run.proofs.run_islands.Goals.{After-part_end-end}
+use Rattle.island_run.proofs.run_islands.Goals.{After-part_end-end, After-count_ends}
 
--- what is known where the end of the island's part is
+-- what is known of the island's part: it lies inside the numbers, its counts are those between, its endpoints lie inside the endpoints
 below : (c : After-part_end-end) → c.loop-island.start ≤ c.part_end-end.result
-below c = omega (arith, part_count _ c.args.types.now _ _ _ _ _ _ c.requires.prepared _ _ _ c.loop-island-test.true c.loop-island.invariant.1 c.part_end-end.ensures)
+below c = omega (arith, part_count c.requires.prepared c.loop-island-test.true c.loop-island.invariant.1 c.part_end-end.ensures)
 
 inside : (c : After-part_end-end) → c.part_end-end.result ≤ length c.args.numbers.now
-inside c = part-inside _ c.args.types.now _ _ _ _ _ _ c.requires.prepared _ _ _ c.loop-island-test.true c.loop-island.invariant.1 c.part_end-end.ensures
+inside c = part-inside c.requires.prepared c.loop-island-test.true c.loop-island.invariant.1 c.part_end-end.ensures
 
-roomy : (c : After-part_end-end) → 2 * (c.part_end-end.result - c.loop-island.start) ≤ length c.loop-island.island_pairs
-roomy c = omega (arith, pairs-room _ c.args.types.now _ _ _ _ _ _ c.requires.prepared _ _ _ c.loop-island-test.true c.loop-island.invariant.1 c.part_end-end.ensures, c.loop-island.auto.island_pairs)
+counts : (c : After-count_ends) → c.counts_between-part_counts.result.now ≡ countsAmong c.args.counts.now (take (c.part_end-end.result - c.loop-island.start) (drop c.loop-island.start c.args.numbers.now))
+counts c = c.counts_between-part_counts.ensures ∙ counts-taken c.requires.prepared c.loop-island-test.true c.loop-island.invariant.1 c.part_end-end.ensures c.collect.ensures.1
+
+there : (c : After-count_ends) → c.loop-island.ends_start + c.count_ends.result ≤ length c.collect.new.island_ends
+there c =
+    ends-there c.requires.prepared c.loop-island-test.true c.loop-island.invariant.1 c.part_end-end.ensures
+    (counts c) c.collect.ensures.0 c.loop-island.invariant.2 c.count_ends.ensures
 
 pub loop-island-init : goal.loop-island-init
-loop-island-init c = (omega arith, sym (ap length (flatten-zero _)), rw c.no_turns-tally.ensures (going-first (islands-first _ _ _ _ _)))
+loop-island-init c = (omega arith, sym (ap length (flatten-zero _)), first-ends _ _, rw c.no_turns-tally.ensures (going-first (islands-first _ _ _ _ _ _)))
+
+pub counts_between-part_counts-requires : goal.counts_between-part_counts-requires
+counts_between-part_counts-requires c = counts-there c.requires.prepared c.loop-island-test.true c.loop-island.invariant.1 c.part_end-end.ensures c.collect.ensures.1
+
+pub count_ends-requires : goal.count_ends-requires
+count_ends-requires c = (
+  part-few c.requires.prepared c.loop-island-test.true c.loop-island.invariant.1 c.part_end-end.ensures,
+  omega (arith, ap length c.counts_between-part_counts.ensures, counts-few c.requires.prepared c.loop-island-test.true c.loop-island.invariant.1 c.part_end-end.ensures c.collect.ensures.1),
+)
+
+pub overflow_add-ends_end : goal.overflow_add-ends_end
+overflow_add-ends_end c = omega (arith, there (goal.at.overflow_add-ends_end c).After-count_ends)
+
+pub offset_bounds-island_ends-ends_start : goal.offset_bounds-island_ends-ends_start
+offset_bounds-island_ends-ends_start c = omega (arith, there (goal.at.offset_bounds-island_ends-ends_start c).After-count_ends)
+
+pub slice_bounds-run_island-end : goal.slice_bounds-run_island-end
+slice_bounds-run_island-end c = there (goal.at.slice_bounds-run_island-end c).After-count_ends
 
 pub offset_bounds-numbers-start : goal.offset_bounds-numbers-start
 offset_bounds-numbers-start c =
     let e = (goal.at.offset_bounds-numbers-start c).After-part_end-end in
     omega (arith, below e, inside e)
 
-pub slice_bounds-run_island-end : goal.slice_bounds-run_island-end
-slice_bounds-run_island-end c = inside (goal.at.slice_bounds-run_island-end c).After-part_end-end
-
 pub slice_bounds-run_island-end-in-loop-island : goal.slice_bounds-run_island-end-in-loop-island
-slice_bounds-run_island-end-in-loop-island c = roomy (goal.at.slice_bounds-run_island-end-in-loop-island c).After-part_end-end
-
-pub slice_bounds-run_island-end-in-loop-island-2 : goal.slice_bounds-run_island-end-in-loop-island-2
-slice_bounds-run_island-end-in-loop-island-2 c = sym (length-take-le _ _ (roomy (goal.at.slice_bounds-run_island-end-in-loop-island-2 c).After-part_end-end))
+slice_bounds-run_island-end-in-loop-island c = inside (goal.at.slice_bounds-run_island-end-in-loop-island c).After-part_end-end
 
 pub run_island-tally-requires-clause-ready : goal.run_island-tally-requires-clause-ready
 run_island-tally-requires-clause-ready c =
-    ready _ c.args.types.now _ _ _ _ _ _ c.requires.prepared _ _ _ c.loop-island-test.true c.loop-island.invariant.1 c.part_end-end.ensures _ _
-    (length-take-le _ _ (roomy (goal.at.run_island-tally-requires-clause-ready c).After-part_end-end))
+    ready c.requires.prepared c.loop-island-test.true c.loop-island.invariant.1 c.part_end-end.ensures
+    (counts (goal.at.run_island-tally-requires-clause-ready c).After-count_ends) c.collect.ensures.0 c.loop-island.invariant.2 c.count_ends.ensures _ _
     (record {
       dynamic-bodies = c.loop-island.auto.dynamic_bodies;
       endpoints = c.loop-island.auto.endpoints;
       body-offsets = c.loop-island.auto.body_offsets;
-      body-constraints = c.loop-island.auto.body_constraints;
+      body-constraints = c.loop-island.auto.body_constraints ∙ c.collect.auto.bounds;
       scratch-offsets = c.loop-island.auto.scratch_offsets;
       constraint-colors = c.loop-island.auto.constraint_colors;
       color-stamps = c.loop-island.auto.color_stamps;
@@ -55,17 +72,21 @@ run_island-tally-requires-clause-ready c =
       color-bodies = c.loop-island.auto.color_bodies;
       constraint-body-positions = c.loop-island.auto.constraint_body_positions;
     })
+    c.loop-island.auto.plan_counts
 
 pub run_island-tally-requires-clause-room : goal.run_island-tally-requires-clause-room
 run_island-tally-requires-clause-room c =
-    going-room c.requires.room c.loop-island.invariant.2 _ _
-    (island-next _ _ _ _ _ _ _ _ c.requires.prepared _ _ _ c.loop-island-test.true c.loop-island.invariant.1 c.part_end-end.ensures)
+    going-room c.requires.room c.loop-island.invariant.3 _ _
+    (island-next c.requires.prepared c.loop-island-test.true c.loop-island.invariant.1 c.part_end-end.ensures
+    (counts (goal.at.run_island-tally-requires-clause-room c).After-count_ends) c.collect.ensures.0 c.loop-island.invariant.2 c.count_ends.ensures _)
 
 pub loop-island-preserved : goal.loop-island-preserved
-loop-island-preserved c = (
-  omega arith,
-  next_start _ c.args.types.now _ _ _ _ _ _ c.requires.prepared _ _ _ c.loop-island-test.true c.loop-island.invariant.1 c.part_end-end.ensures,
-  going_more c.requires.room c.loop-island.invariant.2 _ _ _ _
-      (island-next _ _ _ _ _ _ _ _ c.requires.prepared _ _ _ c.loop-island-test.true c.loop-island.invariant.1 c.part_end-end.ensures)
-      c.run_island-tally.ensures,
-)
+loop-island-preserved c =
+    let pc = counts (goal.at.loop-island-preserved c).After-count_ends in (
+      omega arith,
+      next_start c.requires.prepared c.loop-island-test.true c.loop-island.invariant.1 c.part_end-end.ensures,
+      ends_next c.requires.prepared c.loop-island-test.true c.loop-island.invariant.1 c.part_end-end.ensures pc c.collect.ensures.0 c.loop-island.invariant.2 c.count_ends.ensures,
+      going_more c.requires.room c.loop-island.invariant.3 _ _ _ _
+          (island-next c.requires.prepared c.loop-island-test.true c.loop-island.invariant.1 c.part_end-end.ensures pc c.collect.ensures.0 c.loop-island.invariant.2 c.count_ends.ensures _)
+          c.run_island-tally.ensures,
+    )

@@ -1,23 +1,34 @@
--- `run_island`: the update is accepted, so the plan as it stands makes the definition's takes, and these are appended group by group.
-use mathlib.Core.Path.{sym, ap}
-use Rattle.group_run.specs.Appends.{addedBy}
-use Rattle.group_run.proofs.Appends.{room_by, appended-by}
-use Rattle.one_island.proofs.Plans.{groups-few, island-is}
+-- `run_island`: the plan as it stands makes the definition's takes, and these are appended group by group. There is room for the bounds of
+-- the counts, and positions for all of them.
+use Prim.Native.Nat.{◌*◌, ◌≤◌}
+use mathlib.Core.Path.{sym}
+use native.Mathlib.Omega.{arith}
+use lib.ListN.{length}
+use lib.Seq.{length-take-le}
+use Rattle.one_island.proofs.Plans.{ready-counted}
 use Rattle.one_island.proofs.run_island.Goals as goal
+use Rattle.one_island.proofs.run_island.Goals.{After-color_island-plan}
 
-pub run_groups-requires-clause-color_count_bound : goal.run_groups-requires-clause-color_count_bound
-run_groups-requires-clause-color_count_bound c =
-    groups-few c.args.types.now _ _ _ _ c.args.island _ _ _ _ _ _
-    c.requires.ready c.collect_pairs.ensures c.collect_pairs.auto.island_pairs c.new-fresh.ensures c.update-answer.ensures c.plan_after-plan.ensures
+roomy : (c : After-color_island-plan) → 2 * length c.args.counts.now ≤ length c.color_island-plan.new.body_constraints
+roomy c = let k = ready-counted c.requires.ready in omega (arith, k.bounds, c.color_island-plan.auto.body_constraints)
 
-pub run_groups-requires-clause-room : goal.run_groups-requires-clause-room
-run_groups-requires-clause-room c =
-    room_by (ap addedBy (sym (island-is c.args.types.now _ _ _ _ c.args.island _ _ _ _ _ _
-    c.requires.ready c.collect_pairs.ensures c.collect_pairs.auto.island_pairs c.new-fresh.ensures c.update-answer.ensures c.plan_after-plan.ensures)))
-    c.requires.room
+pub slice_bounds-bounds-end : goal.slice_bounds-bounds-end
+slice_bounds-bounds-end c = roomy (goal.at.slice_bounds-bounds-end c).After-color_island-plan
 
-pub returns : goal.returns
-returns c =
-    appended-by (ap addedBy (island-is c.args.types.now _ _ _ _ c.args.island _ _ _ _ _ _
-    c.requires.ready c.collect_pairs.ensures c.collect_pairs.auto.island_pairs c.new-fresh.ensures c.update-answer.ensures c.plan_after-plan.ensures))
-    c.run_groups.ensures
+pub slice_bounds-bounds-end-2 : goal.slice_bounds-bounds-end-2
+slice_bounds-bounds-end-2 c = sym (length-take-le _ _ (roomy (goal.at.slice_bounds-bounds-end-2 c).After-color_island-plan))
+
+pub bound_counts-requires : goal.bound_counts-requires
+bound_counts-requires c = let k = ready-counted c.requires.ready in (length-take-le _ _ (roomy (goal.at.bound_counts-requires c).After-color_island-plan), k.few, k.sum)
+
+pub run_groups-requires-clause-countable : goal.run_groups-requires-clause-countable
+run_groups-requires-clause-countable c =
+    let k = ready-counted c.requires.ready in
+    record {
+      constraints = c.color_island-plan.ensures.constraints;
+      few = k.few;
+      known = k.known;
+      bounds-of = c.bound_counts.ensures;
+      long = omega (arith, c.bound_counts.auto.bounds, length-take-le _ _ (roomy (goal.at.run_groups-requires-clause-countable c).After-color_island-plan));
+      inside = omega (arith, k.positions, c.color_island-plan.auto.constraint_body_positions);
+    }

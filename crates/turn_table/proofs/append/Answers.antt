@@ -1,6 +1,7 @@
--- `append`: by the answer: a take makes one turn and counts its dynamic bodies, a refusal adds nothing.
-use Rattle.turn_table.proofs.Turns.{refused-added}
+-- `append`: a take that is refused adds nothing.
+use borrow.Author.Tests.{ne_eqb}
+use Rattle.turn_table.proofs.Turns.{appended-none}
 use Rattle.turn_table.proofs.append.Goals as goal
 
-pub returns-in-Refused : goal.returns-in-Refused
-returns-in-Refused c = refused-added _ _ _ _ _ _ _ c.in-Refused.is
+pub returns-then-taken-ne0 : goal.returns-then-taken-ne0
+returns-then-taken-ne0 c = rw (ne_eqb _ _ c.if-taken-ne0.true) (appended-none _ _)
