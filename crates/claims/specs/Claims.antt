@@ -32,7 +32,8 @@ use Rattle.multi_history.specs.History.{MultiHistory, multiMemoryAfter, MultiSta
 use Rattle.multi_history.proofs.History.{multi-memory}
 use Rattle.colored_bodies.specs.declared.BodyBinding.{BodyBinding}
 use Rattle.colored_bodies.specs.declared.Marked.{Marked}
-use Rattle.colored_bodies.specs.Answers.{Marks}
+use Rattle.colored_bodies.specs.declared.multi.MarkedAt.{MarkedAt}
+use Rattle.colored_bodies.specs.Answers.{Marks, MarksAt}
 use Rattle.schedules.specs.Runs.{Call, Plans, Orders, callsFrom, schedule, rising, runCalls}
 use Rattle.schedules.specs.Condition.{Schedule, Condition3, Permuted, Roomy, Scheduled}
 use Rattle.schedules.specs.Lanes.{holdsBody, Turns, NoneOnBoth, Apart, twoOnLogged, ApartIn}
@@ -45,8 +46,8 @@ use Rattle.schedules.proofs.Condition3.{condition3, has-island}
 use Rattle.schedules.proofs.Existence.{schedules-exist, room-exists, rising-exists, rising-runs}
 use Rattle.schedules.proofs.Samples.{samples-hold, logged-shared}
 use Rattle.group_run.specs.Appends.{addedBy, marksOnly}
-use Rattle.group_run.specs.ByValue.{ByValue}
-use Rattle.group_run.proofs.ByValue.{marks-are-takes, groups-by-marks}
+use Rattle.group_run.specs.ByValue.{ByValue, ByValueAt}
+use Rattle.group_run.proofs.ByValue.{marks-are-takes, counted-marks-are-takes, groups-by-marks}
 use Rattle.run_answer.specs.declared.Answer.{Answer}
 use Rattle.run_answer.specs.Answers.{runReport}
 use Rattle.frame_run.specs.Calls.{Lent, refusalIn, Ran}
@@ -203,6 +204,10 @@ rising-is-run = rising-runs
 -- The run takes by marks alone; each such take is the take by value, and adds the same turn and takes.
 pub take-by-marks : (b : BodyBinding) (x y : ℕ) (r : Marked) (left : List ℕ) → Marks b (x ∷ y ∷ []) r left → ByValue b x y r left
 take-by-marks = marks-are-takes
+
+-- The same of two to four positions.
+pub counted-take-by-marks : (b : BodyBinding) (ps : List ℕ) (r : MarkedAt) (left : List ℕ) → MarksAt b ps r left → ByValueAt b ps r left
+counted-take-by-marks = counted-marks-are-takes
 
 -- So a group's takes add the same from a binding and from its marks and count alone.
 pub group-by-marks : (p : Plan) (ns : List ℕ) (i k : ℕ) (b : BodyBinding) (rs : List ℕ) → addedBy (callsFrom p ns i k b rs) ≡ addedBy (callsFrom p ns i k (marksOnly b.marks b.count) rs)
