@@ -18,12 +18,13 @@ fn write_first(text: &[u8], size: usize)
 // Prints an input.
 pub fn print_frame(frame: &[u8]) {
     let mut turns = [0u16; print_pieces::TURNS];
+    let mut places = [0u16; print_pieces::PLACES];
     let mut out = [0u8; print_pieces::OUTPUT];
-    let mut piece = print_pieces::first_piece(frame, &mut turns, &mut out);
+    let mut piece = print_pieces::first_piece(frame, &mut turns, &mut places, &mut out);
     // All pieces before this one are written.
     while 0 < piece.size {
         write_first(&out, piece.size);
-        piece = print_pieces::next_piece(frame, &turns, &mut out, piece);
+        piece = print_pieces::next_piece(frame, &turns, &places, &mut out, piece);
     }
 }
 

@@ -6,7 +6,7 @@ use mathlib.Core.List.{List}
 use native.Mathlib.Omega.{arith}
 use Rattle.lists.specs.Basics.{over, joinMap}
 use Rattle.frame.specs.Frames.{turnCount}
-use Rattle.frame.specs.Files.{decode}
+use Rattle.frame.specs.Files.{second, decode}
 use Rattle.schedules.specs.Runs.{turn_of, runCalls}
 use Rattle.schedules.specs.Lanes.{ApartIn}
 use Rattle.schedules.proofs.Condition3.{run-report}
@@ -21,6 +21,6 @@ run-apart bs l m r a b e h less short =
     let f = decode bs in
     let roomy = room bs l e in
     let ok = accepted bs l e in
-    let table : m.turns ≡ over (joinMap turn_of (runCalls f)) l.turns = h.turns ∙ rw (roomy, run-report bs ok) in
+    let table : m.turns ≡ over (joinMap turn_of (runCalls (second bs) f)) l.turns = h.turns ∙ rw (roomy, run-report bs ok) in
     let count : (runReport r).turns ≡ turnCount f = ap (λ (x : Report). x.turns) h.report ∙ rw (roomy, run-report bs ok) in
     subst (λ (t : List ℕ). ApartIn f t a b) (sym table) (table-apart bs _ a b ok less (omega arith))

@@ -1,7 +1,7 @@
 -- Condition 3 of the code: what an accepted call of `run` leaves and answers, beside every schedule of its frame.
 use Rattle.std.specs.Prelude.{ℕ, ◌≡◌, List}
 use Rattle.lists.specs.Basics.{over, joinMap}
-use Rattle.frame.specs.Files.{decode}
+use Rattle.frame.specs.Files.{second, decode}
 use Rattle.schedules.specs.Runs.{Plans, Orders, schedule, reportOf, rising, turn_of}
 use Rattle.schedules.specs.Condition.{Schedule, Condition3}
 use Rattle.run_answer.specs.declared.Answer.{Answer}
@@ -16,4 +16,4 @@ pub record Conditioned (bs : List ℕ) (l m : Lent) (r : Answer) (p : Plans) (o 
 
 -- of every call that the contract of `run` allows and that is accepted, and every schedule of its frame
 abbrev pub Claim : Type 0
-Claim = (bs : List ℕ) (l m : Lent) (r : Answer) (p : Plans) (o : Orders) → refusalIn bs l ≡ 0 → Ran bs l m r → Schedule (decode bs) p o → Conditioned bs l m r p o
+Claim = (bs : List ℕ) (l m : Lent) (r : Answer) (p : Plans) (o : Orders) → refusalIn bs l ≡ 0 → Ran bs l m r → Schedule (second bs) (decode bs) p o → Conditioned bs l m r p o

@@ -11,8 +11,8 @@ ghost use Rattle.frame_run.specs.Sized.{RoomySized, RanSized};
 
 use run_answer::{Answer, Asked};
 
-// The run of a file that passed questions 1 to 6, where `types`, `flags`, `pairs`, `enabled` and `numbers` have its sizes. After 7 there
-// are no islands, so that nothing is taken.
+// The run of a file that passed questions 1 to 6, where `types`, `flags`, `pairs`, `counts`, `enabled` and `numbers` have its sizes,
+// and so have `island_pairs` and `island_counts`. After 7 there are no islands, so that nothing is taken.
 fn run_sized(
     frame: &[u8],
     manifolds: usize,
@@ -26,10 +26,13 @@ fn run_sized(
     flags: &mut [u8],
     pairs: &mut [u16],
     island_pairs: &mut [u16],
+    counts: &mut [u8],
+    island_counts: &mut [u8],
     enabled: &mut [u8],
     numbers: &mut [u16],
     dynamic_bodies: &mut [u8],
     endpoints: &mut [u16],
+    plan_counts: &mut [u8],
     body_offsets: &mut [u16],
     body_constraints: &mut [u16],
     scratch_offsets: &mut [u16],
@@ -42,13 +45,13 @@ fn run_sized(
     color_bodies: &mut [u16],
     constraint_body_positions: &mut [u16],
 ) -> Answer
-    requires decodable { Decodable frame.now manifolds types.old flags.old pairs.old enabled.old }
+    requires decodable { Decodable frame.now manifolds types.old flags.old pairs.old counts.old enabled.old }
     requires roomy_sized { RoomySized frame.now (islandTablesOf parents.old sizes.old body_islands.old manifold_islands.old joint_islands.old)
-        turns.old island_pairs.old numbers.old
+        turns.old island_pairs.old island_counts.old numbers.old
         (tables_of dynamic_bodies.old endpoints.old body_offsets.old
         body_constraints.old scratch_offsets.old constraint_colors.old
         color_stamps.old body_stamps.old color_offsets.old
-        colored_constraints.old color_body_offsets.old color_bodies.old constraint_body_positions.old) }
+        colored_constraints.old color_body_offsets.old color_bodies.old constraint_body_positions.old) plan_counts.old }
     ensures { RanSized frame.now
         (islandTablesOf parents.old sizes.old body_islands.old manifold_islands.old joint_islands.old) turns.old
         (islandTablesOf parents.new sizes.new body_islands.new manifold_islands.new joint_islands.new) turns.new result }
@@ -64,6 +67,7 @@ fn run_sized(
         types,
         flags,
         pairs,
+        counts,
         enabled,
         numbers,
         constraint_colors,
@@ -76,12 +80,15 @@ fn run_sized(
         types,
         flags,
         pairs,
+        counts,
         &manifold_islands[..manifolds],
         &joint_islands[..enabled.len()],
         numbers,
         island_pairs,
+        island_counts,
         dynamic_bodies,
         endpoints,
+        plan_counts,
         body_offsets,
         body_constraints,
         scratch_offsets,
@@ -98,7 +105,8 @@ fn run_sized(
     run_answer::answer_of(filling, tally)
 }
 
-// The run of a file, once questions 1 to 6 are asked: a refusal changes nothing, and else the workspace is cut to the frame's sizes.
+// The run of a file, once questions 1 to 6 are asked: a refusal changes nothing, and else the workspace is cut to the frame's sizes. Where
+// the constraints have no counts, the tables of counts are cut to nothing, and so stay as they were.
 fn run_asked(
     asked: Asked,
     frame: &[u8],
@@ -112,10 +120,13 @@ fn run_asked(
     flags: &mut [u8],
     pairs: &mut [u16],
     island_pairs: &mut [u16],
+    counts: &mut [u8],
+    island_counts: &mut [u8],
     enabled: &mut [u8],
     numbers: &mut [u16],
     dynamic_bodies: &mut [u8],
     endpoints: &mut [u16],
+    plan_counts: &mut [u8],
     body_offsets: &mut [u16],
     body_constraints: &mut [u16],
     scratch_offsets: &mut [u16],
@@ -128,29 +139,29 @@ fn run_asked(
     color_bodies: &mut [u16],
     constraint_body_positions: &mut [u16],
 ) -> Answer
-    requires { Asks frame.now (λ b m j. roomyFor b m j
+    requires { Asks frame.now (λ v b m j. roomyFor v b m j
         (lent_of (islandTablesOf parents.old sizes.old body_islands.old manifold_islands.old joint_islands.old)
         turns.old types.old flags.old pairs.old
-        island_pairs.old enabled.old numbers.old
+        island_pairs.old counts.old island_counts.old enabled.old numbers.old
         (tables_of dynamic_bodies.old endpoints.old body_offsets.old
         body_constraints.old scratch_offsets.old constraint_colors.old
         color_stamps.old body_stamps.old color_offsets.old
-        colored_constraints.old color_body_offsets.old color_bodies.old constraint_body_positions.old))) asked }
+        colored_constraints.old color_body_offsets.old color_bodies.old constraint_body_positions.old) plan_counts.old)) asked }
     ensures { Ran frame.now
         (lent_of (islandTablesOf parents.old sizes.old body_islands.old manifold_islands.old joint_islands.old)
         turns.old types.old flags.old pairs.old
-        island_pairs.old enabled.old numbers.old
+        island_pairs.old counts.old island_counts.old enabled.old numbers.old
         (tables_of dynamic_bodies.old endpoints.old body_offsets.old
         body_constraints.old scratch_offsets.old constraint_colors.old
         color_stamps.old body_stamps.old color_offsets.old
-        colored_constraints.old color_body_offsets.old color_bodies.old constraint_body_positions.old))
+        colored_constraints.old color_body_offsets.old color_bodies.old constraint_body_positions.old) plan_counts.old)
         (lent_of (islandTablesOf parents.new sizes.new body_islands.new manifold_islands.new joint_islands.new)
         turns.new types.new flags.new pairs.new
-        island_pairs.new enabled.new numbers.new
+        island_pairs.new counts.new island_counts.new enabled.new numbers.new
         (tables_of dynamic_bodies.new endpoints.new body_offsets.new
         body_constraints.new scratch_offsets.new constraint_colors.new
         color_stamps.new body_stamps.new color_offsets.new
-        colored_constraints.new color_body_offsets.new color_bodies.new constraint_body_positions.new)) result }
+        colored_constraints.new color_body_offsets.new color_bodies.new constraint_body_positions.new) plan_counts.new) result }
 {
     if asked.refusal != 0 {
         return Answer::Refused(asked.refusal);
@@ -159,6 +170,8 @@ fn run_asked(
     let manifolds = asked.manifolds;
     let joints = asked.joints;
     let constraints = manifolds + joints;
+    let entries = 2 * manifolds + asked.joint_ends;
+    let counted = run_answer::counts_room(asked.counted, manifolds, joints);
     run_sized(
         frame,
         manifolds,
@@ -170,12 +183,15 @@ fn run_asked(
         turns,
         &mut types[..bodies],
         &mut flags[..bodies],
-        &mut pairs[..2 * constraints],
-        island_pairs,
+        &mut pairs[..entries],
+        &mut island_pairs[..entries],
+        &mut counts[..counted],
+        &mut island_counts[..counted],
         &mut enabled[..joints],
         &mut numbers[..constraints],
         dynamic_bodies,
         endpoints,
+        &mut plan_counts[..counted],
         body_offsets,
         body_constraints,
         scratch_offsets,
@@ -204,10 +220,13 @@ pub fn run(
     flags: &mut [u8],
     pairs: &mut [u16],
     island_pairs: &mut [u16],
+    counts: &mut [u8],
+    island_counts: &mut [u8],
     enabled: &mut [u8],
     numbers: &mut [u16],
     dynamic_bodies: &mut [u8],
     endpoints: &mut [u16],
+    plan_counts: &mut [u8],
     body_offsets: &mut [u16],
     body_constraints: &mut [u16],
     scratch_offsets: &mut [u16],
@@ -223,18 +242,18 @@ pub fn run(
     ensures { Ran frame.now
         (lent_of (islandTablesOf parents.old sizes.old body_islands.old manifold_islands.old joint_islands.old)
         turns.old types.old flags.old pairs.old
-        island_pairs.old enabled.old numbers.old
+        island_pairs.old counts.old island_counts.old enabled.old numbers.old
         (tables_of dynamic_bodies.old endpoints.old body_offsets.old
         body_constraints.old scratch_offsets.old constraint_colors.old
         color_stamps.old body_stamps.old color_offsets.old
-        colored_constraints.old color_body_offsets.old color_bodies.old constraint_body_positions.old))
+        colored_constraints.old color_body_offsets.old color_bodies.old constraint_body_positions.old) plan_counts.old)
         (lent_of (islandTablesOf parents.new sizes.new body_islands.new manifold_islands.new joint_islands.new)
         turns.new types.new flags.new pairs.new
-        island_pairs.new enabled.new numbers.new
+        island_pairs.new counts.new island_counts.new enabled.new numbers.new
         (tables_of dynamic_bodies.new endpoints.new body_offsets.new
         body_constraints.new scratch_offsets.new constraint_colors.new
         color_stamps.new body_stamps.new color_offsets.new
-        colored_constraints.new color_body_offsets.new color_bodies.new constraint_body_positions.new)) result }
+        colored_constraints.new color_body_offsets.new color_bodies.new constraint_body_positions.new) plan_counts.new) result }
 {
     let asked = run_answer::ask(
         frame,
@@ -248,10 +267,13 @@ pub fn run(
         flags.len(),
         pairs.len(),
         island_pairs.len(),
+        counts.len(),
+        island_counts.len(),
         enabled.len(),
         numbers.len(),
         dynamic_bodies.len(),
         endpoints.len(),
+        plan_counts.len(),
         body_offsets.len(),
         body_constraints.len(),
         scratch_offsets.len(),
@@ -277,10 +299,13 @@ pub fn run(
         flags,
         pairs,
         island_pairs,
+        counts,
+        island_counts,
         enabled,
         numbers,
         dynamic_bodies,
         endpoints,
+        plan_counts,
         body_offsets,
         body_constraints,
         scratch_offsets,

@@ -8,9 +8,10 @@ pub record Put (text old : List ℕ) (at : ℕ) (new : List ℕ) (r : ℕ) : Typ
   pub next : r ≡ at + length text
   pub within : at ≤ length old → r ≤ length old
 
--- no line is longer: a head has 31 bytes of words, spaces and newline, and four numbers of at most 20 digits
+-- no line is longer: a turn of four endpoints has seven numbers of at most 20 digits, each with a space or the newline behind it; a head has 31
+-- bytes of words, spaces and newline, and four such numbers
 abbrev pub longest : ℕ
-longest = 111
+longest = 147
 
 -- the text, if `longest` bytes are left from place `at` on in a buffer of this size; else nothing
 unfoldable pub ifRoom : ℕ → ℕ → List ℕ → List ℕ

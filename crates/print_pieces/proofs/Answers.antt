@@ -11,7 +11,7 @@ use borrow.Author.Tests.{le-leb, lt-ltb, le-ltb, eqb-true, eq-eqb}
 use Rattle.lists.specs.Basics.{over}
 use Rattle.lists.proofs.Laws.{by_cases, clashes}
 use Rattle.frame.specs.Questions.{asked}
-use Rattle.frame.specs.Files.{countM, countJ, decode, fileQuestions}
+use Rattle.frame.specs.Files.{second, countM, countJ, decode, fileQuestions}
 use Rattle.schedules.specs.Runs as runs
 use Rattle.schedules.specs.Runs.{turnsOf, runCalls, refused, runRefusal, run_of}
 use Rattle.schedules.specs.Print.{head_of, refusalLine, firstLine, answerTo}
@@ -21,6 +21,7 @@ use Rattle.run_answer.specs.declared.Answer.TheVariants as answer
 use Rattle.run_answer.specs.Answers.{runNumber, runRefused, runReport, reported}
 use Rattle.frame_run.proofs.Runs.{all_asked}
 use Rattle.frame_run.proofs.Frames.{turns-long}
+use Rattle.frame.proofs.Questions.{zero-cond}
 use Rattle.frame.proofs.Files.{file-sized}
 use Rattle.standalone_run.specs.Runs.{roomyTurns, RanAlone}
 use Rattle.print_pieces.specs.Pieces.{answerLine, InputAnswered}
@@ -55,15 +56,15 @@ run-line bs room (answer.Refused k) n c e =
     (λ t. rw (run-refusal bs room, t) (ap refusalLine n))
 
 -- what is printed of: the run within the limit, refusal 3 above it
-run-answer : (bs : List ℕ) → length bs ≤ 40971 → answerTo bs ≡ run_of bs true
+run-answer : (bs : List ℕ) → length bs ≤ 61451 → answerTo bs ≡ run_of bs true
 unfolding answerTo
-run-answer bs few = rw (le-ltb 40971 (length bs) few)
+run-answer bs few = rw (le-ltb 61451 (length bs) few)
 
-long-answer : (bs : List ℕ) → 40971 < length bs → answerTo bs ≡ refused 3
+long-answer : (bs : List ℕ) → 61451 < length bs → answerTo bs ≡ refused 3
 unfolding answerTo
-long-answer bs many = rw (lt-ltb 40971 (length bs) many)
+long-answer bs many = rw (lt-ltb 61451 (length bs) many)
 
-pub run-answered : (bs ts ts' : List ℕ) (r : Answer) → 24576 ≤ length ts → length bs ≤ 40971 → RanAlone bs ts ts' r → InputAnswered bs ts ts' r
+pub run-answered : (bs ts ts' : List ℕ) (r : Answer) → 24576 ≤ length ts → length bs ≤ 61451 → RanAlone bs ts ts' r → InputAnswered bs ts ts' r
 run-answered bs ts ts' r room few a =
     let e : run_of bs (roomyTurns bs ts) ≡ answerTo bs = same-run bs ts room ∙ sym (run-answer bs few) in
     record {
@@ -72,7 +73,7 @@ run-answered bs ts ts' r room few a =
       table = a.turns ∙ ap (λ (s : runs.Report). over s.table ts) e;
     }
 
-pub long-answered : (bs ts : List ℕ) → 40971 < length bs → InputAnswered bs ts ts (answer.Refused 3)
+pub long-answered : (bs ts : List ℕ) → 61451 < length bs → InputAnswered bs ts ts (answer.Refused 3)
 unfolding firstLine
 long-answered bs ts many =
     let e : refused 3 ≡ answerTo bs = sym (long-answer bs many) in
@@ -86,6 +87,19 @@ long-answered bs ts many =
 pub table-long : (bs : List ℕ) → length (answerTo bs).table ≡ 3 * (answerTo bs).turns
 unfolding answerTo run_of
 table-long bs =
-    by_cases (ltb 40971 (length bs))
+    by_cases (ltb 61451 (length bs))
     (λ e. rw e)
-    (λ e. rw e (by_cases (eqb (runRefusal bs true) 0) (λ t. rw t (turns-long (turnsOf (runCalls (decode bs))))) (λ t. rw t)))
+    (λ e. rw e (by_cases (eqb (runRefusal bs true) 0) (λ t. rw t (turns-long (turnsOf (runCalls (second bs) (decode bs))))) (λ t. rw t)))
+
+-- ---- a run that has turns is that of an accepted file
+pub turns-asked : (bs : List ℕ) → 0 < (answerTo bs).turns → asked (fileQuestions bs) ≡ 0
+unfolding answerTo run_of
+turns-asked bs h =
+    by_cases (ltb 61451 (length bs))
+    (λ e. absurd (omega (arith, rw e at h)))
+    (λ e. by_cases (eqb (runRefusal bs true) 0)
+    (λ t. run-asked (eqb-true (runRefusal bs true) 0 t))
+    (λ t. absurd (omega (arith, rw (e, t) at h))))
+  where
+    run-asked : runRefusal bs true ≡ 0 → asked (fileQuestions bs) ≡ 0
+    run-asked z = (zero-cond (asked (fileQuestions bs)) _ (sym (all_asked bs true) ∙ z)).0

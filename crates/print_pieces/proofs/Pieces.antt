@@ -1,6 +1,7 @@
 -- A piece stands in the buffer where its opening was put and the lines behind it.
-use Prim.Native.Nat.{ℕ, ◌+◌, ◌-◌, ◌*◌, ◌≤◌, ◌<◌}
+use Prim.Native.Nat.{ℕ, zero, suc, ◌+◌, ◌-◌, ◌*◌, ◌≤◌, ◌<◌}
 use mathlib.Core.Path.{◌≡◌, refl, sym, ap, ap₂, ◌∙◌}
+use mathlib.Core.Bool.{true}
 use mathlib.Core.List.{List, [], ◌++◌}
 use native.Mathlib.Omega.{arith}
 use lib.Dec.{ltb, eqb}
@@ -12,9 +13,10 @@ use Rattle.lists.proofs.Laws.{by_cases}
 use Rattle.lists.proofs.Puts.{put-put, put_first}
 use Rattle.run_answer.specs.declared.Answer.{Answer}
 use Rattle.run_answer.specs.Answers.{runReport}
+use Rattle.frame.specs.Files.{second}
 use Rattle.schedules.specs.Print.{turn_lines, answerTo}
 use Rattle.print_fields.specs.Puts.{Put, longest, ifRoom}
-use Rattle.printing.specs.Turns.{gathered, turnsFrom, lines_of, Lines}
+use Rattle.printing.specs.Turns.{Standing, Placed, gathered, turnsFrom, lines_of, Lines}
 use Rattle.print_fields.proofs.Puts.{put-nothing}
 use Rattle.printing.proofs.Turns.{gathered-few}
 use Rattle.print_pieces.specs.declared.Piece.{Piece}
@@ -25,6 +27,11 @@ use Rattle.print_pieces.proofs.Answers.{table-long}
 pub put-line : (line text old new : List ℕ) (r : ℕ) → text ≡ line → longest ≤ length old → Put (ifRoom (length old) 0 text) old 0 new r → Put line old 0 new r
 unfolding ifRoom
 put-line line text old new r e room p = rw (← e) (rw (le-leb (0 + longest) (length old) (omega arith)) at p)
+
+-- there are turns in the used part of a turn table only where the run has turns
+pub turns_placed : (bs table ps : List ℕ) (count : ℕ) → (0 < count → second bs ≡ true → Standing bs ps) → Placed bs (take (3 * count) table) ps
+turns_placed bs table ps zero h some = absurd (omega arith)
+turns_placed bs table ps (suc n) h some = h (omega arith)
 
 module _ (bs opening turns : List ℕ) (first : ℕ) (old mid new : List ℕ) (at : ℕ) (p : Piece) (long : length old ≡ bufferSize) (kept : length mid ≡ length old) where
   -- the opening, then the lines

@@ -13,7 +13,7 @@ use borrow.Author.Tests.{lt-ltb, le-leb, eq-eqb, eqb-true}
 use Rattle.lists.specs.Basics.{one, joinMap}
 use Rattle.lists.proofs.Laws.{by_cases, clashes, and_left, and_right, and_both}
 use Rattle.frame.specs.Frames.{Frame, constraints, constraintAt, touches}
-use Rattle.frame.specs.Files.{countM, countJ, decode, frameRefusal}
+use Rattle.frame.specs.Files.{second, countM, countJ, decode, frameRefusal}
 use Rattle.frame.proofs.Files.{constraint-count}
 use Rattle.frame.proofs.Pairs.{live-number}
 use Rattle.schedules.specs.Runs.{Call, Report, turn_of, runCalls, runRefusal, run_of}
@@ -81,7 +81,7 @@ unfolding touches
 touches-live f n t = live-number f n (and_left (constraintAt f n).live _ t)
 
 -- a constraint that is taken is one of the file
-taken-known : (bs : List ℕ) → frameRefusal bs ≡ 0 → (n : ℕ) → 1 ≤ takesOn n (runCalls (decode bs)) → n < countM bs + countJ bs
+taken-known : (bs : List ℕ) → frameRefusal bs ≡ 0 → (n : ℕ) → 1 ≤ takesOn n (runCalls (second bs) (decode bs)) → n < countM bs + countJ bs
 taken-known bs e n h =
     let f = decode bs in
     let once = run-once f (accepted bs e) n in
@@ -93,7 +93,7 @@ known-run : (bs : List ℕ) → frameRefusal bs ≡ 0 → known bs (run_of bs tr
 known-run bs e =
     let f = decode bs in
     ap (λ (r : Report). known bs r.table) (run-report bs e)
-    ∙ known-calls bs (runCalls f) (taken-known bs e)
+    ∙ known-calls bs (runCalls (second bs) f) (taken-known bs e)
 
 -- ---- the whole print
 
@@ -104,7 +104,7 @@ accepted-run bs e = e
 known-answer : (bs : List ℕ) → known bs (answerTo bs).table ≡ true
 unfolding answerTo run_of known
 known-answer bs =
-    by_cases (ltb 40971 (length bs))
+    by_cases (ltb 61451 (length bs))
     (λ e. rw e)
     (λ e. rw e (by_cases (eqb (runRefusal bs true) 0) (λ t. known-run bs (accepted-run bs (eqb-true (runRefusal bs true) 0 t))) (λ t. rw t)))
 

@@ -1,11 +1,12 @@
 -- The pieces in which a print is made, each in a buffer of 65,536 bytes, and what a program writes that asks for them one after another.
-use Rattle.std.specs.Prelude.{ℕ, ◌+◌, ◌*◌, ◌≡◌, List, [], ◌++◌, length, take}
+use Rattle.std.specs.Prelude.{ℕ, ◌+◌, ◌*◌, ◌<◌, ◌≡◌, true, List, [], ◌++◌, length, take}
 use Rattle.lists.specs.Basics.{over}
+use Rattle.frame.specs.Files.{second}
 use Rattle.schedules.specs.Print.{head_of, refusalLine, firstLine, answerTo, printOf}
 use Rattle.run_answer.specs.declared.Answer.{Answer}
 use Rattle.run_answer.specs.declared.Answer.TheVariants as answer
 use Rattle.run_answer.specs.Answers.{runReport}
-use Rattle.printing.specs.Turns.{gathered, turnsFrom, lines_of}
+use Rattle.printing.specs.Turns.{Standing, gathered, turnsFrom, lines_of}
 use Rattle.print_pieces.specs.declared.Piece.{Piece}
 
 -- which line comes first for an answer
@@ -38,6 +39,10 @@ pub record PieceStands (bs opening turns : List ℕ) (first : ℕ) (old new : Li
 -- the turns that are left after a piece: of the run's turns those from `next` on
 abbrev pub turnsLeft : List ℕ → Piece → List ℕ
 turnsLeft table p = turnsFrom (take (3 * p.turns) table) p.next
+
+-- where a piece's run has turns and the file is of version 2, the places of its joints are at hand
+abbrev pub PiecePlaced : List ℕ → Piece → List ℕ → Type 0
+PiecePlaced bs p ps = 0 < p.turns → second bs ≡ true → Standing bs ps
 
 -- the first piece opens with the first line, and the turn table holds the run's turns
 pub record FirstPiece (bs ts old ts' new : List ℕ) (p : Piece) : Type 0 where

@@ -4,17 +4,22 @@
 #![tactic(auto)]
 
 ghost use Rattle.std.specs.Prelude.{◌*◌, ◌≤◌, ◌≡◌, true, length, take};
+ghost use Rattle.frame.specs.Questions.{asked};
+ghost use Rattle.frame.specs.Files.{second, fileQuestions};
 ghost use Rattle.print_fields.specs.Puts.{Put, longest};
-ghost use Rattle.printing.specs.Turns.{Lines};
-ghost use Rattle.print_pieces.specs.Pieces.{answerLine, InputAnswered, FirstPiece, NextPiece};
+ghost use Rattle.printing.specs.Turns.{Standing, Placed, Lines};
+ghost use Rattle.print_pieces.specs.Pieces.{answerLine, InputAnswered, PiecePlaced, FirstPiece, NextPiece};
 
 use frame::Frame;
 use run_answer::Answer;
 
-// The program's buffers: the input, with one byte more than a frame can have; the turn table of the largest frame; the output.
+// The program's buffers: the input, with one byte more than a frame can have; the turn table of the largest frame; the places of its
+// joints; the output.
 pub const INPUT: usize = Frame::MAX_BYTES + 1;
 
 pub const TURNS: usize = 3 * Frame::MAX_PAIRS;
+
+pub const PLACES: usize = Frame::MAX_JOINTS;
 
 pub const OUTPUT: usize = 65536;
 
@@ -26,6 +31,8 @@ pub fn buffers_fit() -> bool
         & (INPUT <= 65536)
         & (3 * Frame::MAX_PAIRS <= TURNS)
         & (2 * TURNS <= 65536)
+        & (Frame::MAX_JOINTS <= PLACES)
+        & (2 * PLACES <= 65536)
         & (OUTPUT <= 65536)
 }
 
@@ -46,6 +53,17 @@ fn answer_to(frame: &[u8], turns: &mut [u16]) -> Answer
         return Answer::Refused(3);
     }
     standalone_run::run_file(frame, turns)
+}
+
+// The places of an accepted file's joints, from the table's first entry on; version 1 needs none.
+fn place_joints(frame: &[u8], places: &mut [u16])
+    requires { (asked (fileQuestions frame.now) ≡ 0) × (4096 ≤ length places.old) }
+    ensures { second frame.now ≡ true → Standing frame.now places.new }
+{
+    if frame::is_second(frame) {
+        let joints = frame::half_or_zero(frame, 9);
+        frame::entries::entry_places(frame, &mut places[..joints]);
+    }
 }
 
 // The line that comes first for an answer.
@@ -82,14 +100,16 @@ fn used(turns: &[u16], count: usize) -> &[u16]
 fn put_lines(
     frame: &[u8],
     turns: &[u16],
+    places: &[u16],
     count: usize,
     first: usize,
     out: &mut [u8],
     at: usize,
 ) -> Piece
+    requires { Placed frame.now (take (3 * count) turns.now) places.now }
     ensures { (result.turns ≡ count) × Lines frame.now (take (3 * count) turns.now) first out.old at out.new (record { at = result.size; turn = result.next }) }
 {
-    let done = printing::put_turns(out, at, used(turns, count), first, frame);
+    let done = printing::put_turns(out, at, used(turns, count), first, frame, places);
     Piece {
         size: done.at,
         turns: count,
@@ -97,19 +117,35 @@ fn put_lines(
     }
 }
 
-// The first piece of an input's print.
-pub fn first_piece(frame: &[u8], turns: &mut [u16; TURNS], out: &mut [u8; OUTPUT]) -> Piece
-    ensures { FirstPiece frame.now turns.old out.old turns.new out.new result }
+// The first piece of an input's print. Where there are turns of a version 2 file, its joints' places are left in the table.
+pub fn first_piece(
+    frame: &[u8],
+    turns: &mut [u16; TURNS],
+    places: &mut [u16; PLACES],
+    out: &mut [u8; OUTPUT],
+) -> Piece
+    ensures piece { FirstPiece frame.now turns.old out.old turns.new out.new result }
+    ensures placed { PiecePlaced frame.now result places.new }
 {
     let answer = answer_to(frame, turns);
     let count = run_answer::report_of(answer).turns;
+    if 0 < count {
+        place_joints(frame, places);
+    }
     let line = put_first_line(out, answer);
-    put_lines(frame, turns, count, 0, out, line)
+    put_lines(frame, turns, places, count, 0, out, line)
 }
 
 // The piece after another one of the same print.
-pub fn next_piece(frame: &[u8], turns: &[u16; TURNS], out: &mut [u8; OUTPUT], piece: Piece) -> Piece
+pub fn next_piece(
+    frame: &[u8],
+    turns: &[u16; TURNS],
+    places: &[u16; PLACES],
+    out: &mut [u8; OUTPUT],
+    piece: Piece,
+) -> Piece
+    requires { PiecePlaced frame.now piece places.now }
     ensures { NextPiece frame.now turns.now out.old piece out.new result }
 {
-    put_lines(frame, turns, piece.turns, piece.next, out, 0)
+    put_lines(frame, turns, places, piece.turns, piece.next, out, 0)
 }

@@ -1,29 +1,119 @@
 -- The lines as their fields one behind the other, each with its end; and the test for room.
-use Prim.Native.Nat.{ℕ, ◌+◌, ◌≤◌}
-use mathlib.Core.Path.{◌≡◌, subst}
+use Prim.Native.Nat.{ℕ, suc, ◌+◌, ◌-◌, ◌*◌, ◌≤◌, ◌<◌}
+use mathlib.Core.Path.{◌≡◌, refl, sym, ap, subst, ◌∙◌}
 use mathlib.Core.Bool.{true, false}
-use mathlib.Core.List.{List, [], ◌∷◌, ◌++◌, append_assoc}
+use mathlib.Core.List.{List, [], ◌∷◌, ◌++◌, map, append_assoc}
 use native.Mathlib.Omega.{arith}
 use lib.Dec.{leb}
 use lib.ListN.{length, length-append}
-use Rattle.schedules.specs.Print.{spaced, head_of, turnLine, refusalLine, islandsWord, turnsWord, takesWord, degreeWord, refusedWord}
+use Rattle.frame.specs.Files.{half, halvesFrom}
+use Rattle.frame.proofs.Walks.{halves-next, halves-long}
+use Rattle.schedules.specs.Print.{decimal, spaced, line, head_of, turnLine, refusalLine, islandsWord, turnsWord, takesWord, degreeWord, refusedWord}
 use Rattle.print_fields.specs.Puts.{Put, longest, ifRoom}
-use Rattle.print_fields.proofs.Puts.{put-nothing}
-use Rattle.print_fields.proofs.Digits.{decimal-few}
-use Rattle.print_fields.proofs.Fields.{number, field}
+use Rattle.print_fields.proofs.Puts.{put-nothing, Wrote, wrote_none, wrote_then}
+use Rattle.print_fields.proofs.Fields.{number, field, number_short}
 
 pub head-fields : (i t k d : ℕ) → field islandsWord i 32 ++ field turnsWord t 32 ++ field takesWord k 32 ++ field degreeWord d 10 ≡ head_of i t k d
 unfolding head_of spaced
 head-fields i t k d = simp append_assoc
 
-pub turn-fields : (i k n a b : ℕ) → number i 32 ++ number k 32 ++ number n 32 ++ number a 32 ++ number b 10 ≡ turnLine i k n (a ∷ b ∷ [])
-unfolding turnLine spaced
-turn-fields i k n a b = simp append_assoc
+-- ---- the numbers of a turn: each with a space, the last one with the newline
 
-pub turn-short : (i k n a b : ℕ) → length (turnLine i k n (a ∷ b ∷ [])) ≤ longest
-turn-short i k n a b =
-    subst (λ (l : List ℕ). length l ≤ longest) (turn-fields i k n a b)
-    (simp length-append (omega (arith, decimal-few i, decimal-few k, decimal-few n, decimal-few a, decimal-few b)))
+pub ends_first : (e d : ℕ) (es : List ℕ) → number e 32 ++ line (map decimal (d ∷ es)) ≡ line (map decimal (e ∷ d ∷ es))
+unfolding spaced
+ends_first e d es = simp append_assoc
+
+ends-few : (e : ℕ) (es : List ℕ) → length (line (map decimal (e ∷ es))) ≤ 21 * suc (length es)
+unfolding spaced
+ends-few e [] = number_short e 10
+ends-few e (d ∷ es) = subst (λ (l : List ℕ). length l ≤ 21 * suc (suc (length es))) (ends_first e d es) (omega (arith, length-append (number e 32) (line (map decimal (d ∷ es))), number_short e 32, ends-few d es))
+
+turn-numbers : (i k n e : ℕ) (es : List ℕ) → number i 32 ++ number k 32 ++ number n 32 ++ line (map decimal (e ∷ es)) ≡ turnLine i k n (e ∷ es)
+unfolding turnLine spaced
+turn-numbers i k n e es = simp append_assoc
+
+-- of endpoints in a file: c of them from place s on
+abbrev pub ends_line : List ℕ → ℕ → ℕ → List ℕ
+ends_line bs s c = line (map decimal (halvesFrom bs s c))
+
+module _ (bs : List ℕ) (s c : ℕ) where
+  pub ends_last : c ≡ 1 → number (half bs s) 10 ≡ ends_line bs s c
+  unfolding halvesFrom spaced
+  ends_last e = rw e
+
+  module _ (h : 0 < c) where
+    here : half bs s ∷ halvesFrom bs (s + 2) (c - 1) ≡ halvesFrom bs s c
+    here = sym (halves-next bs s c h)
+
+    pub ends_more : 1 < c → number (half bs s) 32 ++ ends_line bs (s + 2) (c - 1) ≡ ends_line bs s c
+    ends_more m =
+        let then = halves-next bs (s + 2) (c - 1) (omega arith) in
+        ap (λ (l : List ℕ). number (half bs s) 32 ++ line (map decimal l)) then
+        ∙ ends_first (half bs s) (half bs (s + 2)) (halvesFrom bs (s + 2 + 2) (c - 1 - 1))
+        ∙ ap (λ (l : List ℕ). line (map decimal (half bs s ∷ l))) (sym then)
+        ∙ ap (λ (l : List ℕ). line (map decimal l)) here
+
+    pub ends-short : length (ends_line bs s c) ≤ 21 * c
+    ends-short = subst (λ (l : List ℕ). length (line (map decimal l)) ≤ 21 * c) here (omega (arith, ends-few (half bs s) (halvesFrom bs (s + 2) (c - 1)), halves-long bs (s + 2) (c - 1)))
+
+    pub turn-fields : (i k n : ℕ) → number i 32 ++ number k 32 ++ number n 32 ++ ends_line bs s c ≡ turnLine i k n (halvesFrom bs s c)
+    turn-fields i k n =
+        ap (λ (l : List ℕ). number i 32 ++ number k 32 ++ number n 32 ++ line (map decimal l)) (sym here)
+        ∙ turn-numbers i k n (half bs s) (halvesFrom bs (s + 2) (c - 1))
+        ∙ ap (turnLine i k n) here
+
+    pub turn-short : (i k n : ℕ) → c ≤ 4 → length (turnLine i k n (halvesFrom bs s c)) ≤ longest
+    turn-short i k n m =
+        let ends = ends_line bs s c in
+        subst (λ (l : List ℕ). length l ≤ longest) (turn-fields i k n)
+        (omega (
+          arith,
+          ends-short,
+          number_short i 32,
+          number_short k 32,
+          number_short n 32,
+          length-append (number i 32 ++ number k 32 ++ number n 32) ends,
+          length-append (number i 32 ++ number k 32) (number n 32),
+          length-append (number i 32) (number k 32),
+        ))
+
+-- ---- the endpoints put one after another: those that are put, and those still to be put, are all
+
+pub record Ending (bs : List ℕ) (s c : ℕ) (old : List ℕ) (at : ℕ) (out : List ℕ) (m from left : ℕ) : Type 0 where
+  pub done : List ℕ
+  pub wrote : Wrote done old at out m (21 * left)
+  pub rest : done ++ ends_line bs from left ≡ ends_line bs s c
+  pub some : 1 ≤ left
+  pub near : from + 2 * left ≡ s + 2 * c
+
+module _ (bs : List ℕ) (s c : ℕ) (old : List ℕ) (at : ℕ) where
+  pub ends-begin : at + 21 * c ≤ length old → 1 ≤ c → Ending bs s c old at old at s c
+  ends-begin room h = record { done = []; wrote = wrote_none old at (21 * c) room; rest = refl; some = h; near = refl }
+
+  module _ (out : List ℕ) (m from left : ℕ) (w : Ending bs s c old at out m from left) (x : ℕ) (new : List ℕ) (next : ℕ) (e : x ≡ half bs from) where
+    pub ends-turn : 1 < left → Put (number x 32) out m new next → Ending bs s c old at new next (from + 2) (left - 1)
+    ends-turn h p =
+        let more : 21 * left ≡ 21 + 21 * (left - 1) = omega arith in
+        record {
+          done = w.done ++ number x 32;
+          wrote = wrote_then w.done (number x 32) old out new at m next 21 (21 * (left - 1)) (rw more at w.wrote) p (number_short x 32);
+          rest =
+              append_assoc w.done (number x 32) (ends_line bs (from + 2) (left - 1))
+              ∙ ap (λ (y : ℕ). w.done ++ (number y 32 ++ ends_line bs (from + 2) (left - 1))) e
+              ∙ ap (λ (l : List ℕ). w.done ++ l) (ends_more bs from left (omega arith) h)
+              ∙ w.rest;
+          some = omega arith;
+          near = omega (arith, w.near);
+        }
+
+    pub ends-end : left ≤ 1 → Put (number x 10) out m new next → Put (ends_line bs s c) old at new next
+    ends-end h p =
+        let one : left ≡ 1 = omega (arith, w.some) in
+        let more : 21 * left ≡ 21 + 0 = omega arith in
+        let whole = wrote_then w.done (number x 10) old out new at m next 21 0 (rw more at w.wrote) p (number_short x 10) in
+        subst (λ (l : List ℕ). Put l old at new next)
+        (ap (λ (y : ℕ). w.done ++ number y 10) e ∙ ap (λ (l : List ℕ). w.done ++ l) (ends_last bs from left one) ∙ w.rest)
+        whole.put
 
 pub refusal-field : (n : ℕ) → field refusedWord n 10 ≡ refusalLine n
 unfolding refusalLine spaced

@@ -6,82 +6,97 @@ use mathlib.Core.Bool.{true, false}
 use mathlib.Core.List.{List, [], ◌∷◌, ◌++◌, map, append_assoc, append-nil}
 use native.Mathlib.Omega.{arith}
 use lib.Dec.{leb, ltb}
-use lib.ListN.{length, get_or, take, drop, length-append, length-drop, get_or-append}
-use lib.Seq.{drop-cons, drop-drop, take-add, length-take-le, get_or-append-add}
-use native.Mathlib.Nat.{mul-suc}
+use lib.ListN.{length, get_or, take, drop, length-append, length-drop, length-take}
+use lib.Seq.{drop-cons, drop-drop, take-add, length-take-le, get_or-take}
 use borrow.Author.Tests.{lt-ltb, le-ltb, ltb-true, ltb-false, leb-true}
 use Rattle.lists.proofs.Laws.{by_cases, and_left, and_right}
 use Rattle.lists.proofs.Puts.{put-none}
-use Rattle.frame.specs.Frames.{Constraint, Frame, nothing, constraintsOf, constraintAt}
-use Rattle.frame.specs.Files.{half, countM, countJ, pairsAt, jointsAt, ends_at, pairsFrom, manifoldsIn, jointsIn, enabledIn, decode}
-use Rattle.frame.proofs.Files.{manifolds-count}
+use Rattle.frame.specs.Frames.{Frame, constraintAt}
+use Rattle.frame.specs.Questions.{asked}
+use Rattle.frame.specs.Files.{half, countM, countJ, pairsAt, jointsAt, ends_at, second, count_at, placesFrom, halvesFrom, decode, fileQuestions}
+use Rattle.frame.proofs.Walks.{Whole, places-long}
+use Rattle.frame.proofs.Files.{file-entry, ends-manifold, ends-first, ends-second}
 use Rattle.schedules.specs.Print.{decimal, spaced, turnLine, turn_lines}
 use Rattle.print_fields.specs.Puts.{Put, longest, ifRoom}
-use Rattle.printing.specs.Turns.{line_of, ready, ifReady, gathered, turnsFrom, lines_of, Lines}
+use Rattle.printing.specs.declared.Ends.{Ends}
+use Rattle.printing.specs.Turns.{Standing, EndsStand, line_of, ready, ifReady, gathered, turnsFrom, lines_of, Lines}
 use Rattle.print_fields.proofs.Puts.{put-nothing, wrote_then}
 use Rattle.printing.proofs.Lines.{turn-short}
 
 -- ---- one line
 
--- pair n of those that start at place s
-module _ (bs : List ℕ) (step : ℕ) where
-  next-pair : (s n : ℕ) → half bs (s + step + step * n) ∷ half bs (s + step + step * n + 2) ∷ [] ≡ half bs (s + step * suc n) ∷ half bs (s + step * suc n + 2) ∷ []
-  next-pair s n =
-      let e : s + step + step * n ≡ s + step * suc n = omega (arith, mul-suc step n) in
-      ap (λ (p : ℕ). half bs p ∷ half bs (p + 2) ∷ []) e
+-- where the endpoints of constraint n stand: a pair's, by arithmetic; a joint's of version 2, in its entry
+module _ (bs : List ℕ) (n : ℕ) where
+  pair-stands : (s : ℕ) → (constraintAt (decode bs) n).ends ≡ half bs s ∷ half bs (s + 2) ∷ [] → EndsStand bs n (record { at = s; count = 2 })
+  unfolding halvesFrom
+  pair-stands s e = record { ends = sym e; least = omega arith; most = omega arith }
 
-  first-pair : (s : ℕ) → half bs s ∷ half bs (s + 2) ∷ [] ≡ half bs (s + step * 0) ∷ half bs (s + step * 0 + 2) ∷ []
-  first-pair s =
-      let e : s ≡ s + step * 0 = omega arith in
-      ap (λ (p : ℕ). half bs p ∷ half bs (p + 2) ∷ []) e
+  pub first-stands : n < countM bs + countJ bs → second bs ≡ false → EndsStand bs n (record { at = ends_at bs n; count = 2 })
+  first-stands h v = pair-stands (ends_at bs n) (ends-first bs n v h)
 
-  pair-at : (s m : ℕ) (es : List ℕ) (n : ℕ) → n < m → (get_or (constraintsOf (pairsFrom bs s step m) es) n nothing).ends ≡ half bs (s + step * n) ∷ half bs (s + step * n + 2) ∷ []
-  unfolding pairsFrom
-  pair-at s zero es n h = absurd (omega arith)
-  pair-at s (suc m) [] zero h = first-pair s
-  pair-at s (suc m) (e ∷ es) zero h = first-pair s
-  pair-at s (suc m) [] (suc n) h = pair-at (s + step) m [] n (omega arith) ∙ next-pair s n
-  pair-at s (suc m) (e ∷ es) (suc n) h = pair-at (s + step) m es n (omega arith) ∙ next-pair s n
+  pub manifold-stands : n < countM bs → EndsStand bs n (record { at = ends_at bs n; count = 2 })
+  manifold-stands h = rw (lt-ltb n (countM bs) h) (pair-stands (pairsAt bs + 4 * n) (ends-manifold bs n h))
 
--- the endpoints of constraint n
-ends-at : (bs : List ℕ) (n : ℕ) → n < countM bs + countJ bs → (constraintAt (decode bs) n).ends ≡ half bs (ends_at bs n) ∷ half bs (ends_at bs n + 2) ∷ []
-unfolding constraintAt decode
-ends-at bs n h =
-    let ms = constraintsOf (manifoldsIn bs) [] in
-    let js = constraintsOf (jointsIn bs) (enabledIn bs) in
-    let l : length ms ≡ countM bs = manifolds-count bs in
-    by_cases (ltb n (countM bs))
-    (λ t.
-    let k : n < length ms = omega (arith, ltb-true n (countM bs) t) in
-    rw t (ap (λ (c : Constraint). c.ends) (get_or-append ms js nothing n k) ∙ pair-at bs 4 (pairsAt bs) (countM bs) [] n (omega arith)))
-    (λ t.
-    let d = n - countM bs in
-    let k : countM bs ≤ n = ltb-false n (countM bs) t in
-    let e : n ≡ length ms + d = omega arith in
-    rw t (ap (λ (m : ℕ). (get_or (ms ++ js) m nothing).ends) e ∙ ap (λ (c : Constraint). c.ends) (get_or-append-add ms js d nothing) ∙ pair-at bs 5 (jointsAt bs) (countJ bs) (enabledIn bs) d (omega arith)))
+  -- the place of the entry of a joint
+  abbrev pub entry_of : ℕ
+  entry_of = get_or (placesFrom bs (jointsAt bs) (countJ bs)) (n - countM bs) 0
 
-line_at : (bs : List ℕ) (i k n : ℕ) → n < countM bs + countJ bs → turnLine i k n (half bs (ends_at bs n) ∷ half bs (ends_at bs n + 2) ∷ []) ≡ line_of bs i k n
-unfolding line_of
-line_at bs i k n h = ap (turnLine i k n) (sym (ends-at bs n h))
+  module _ (h : n < countM bs + countJ bs) (v : second bs ≡ true) (f : asked (fileQuestions bs) ≡ 0) (m : countM bs ≤ n) where
+    pub entry-whole : Whole bs entry_of
+    entry-whole = file-entry bs f v (n - countM bs) (omega arith)
 
-line-short : (bs : List ℕ) (i k n : ℕ) → n < countM bs + countJ bs → length (line_of bs i k n) ≤ longest
-line-short bs i k n h =
-    subst (λ (l : List ℕ). length l ≤ longest) (line_at bs i k n h) (turn-short i k n (half bs (ends_at bs n)) (half bs (ends_at bs n + 2)))
+    pub joint-stands : EndsStand bs n (record { at = entry_of + 2; count = count_at bs entry_of })
+    joint-stands =
+        let w = entry-whole in
+        record { ends = sym (ends-second bs n v m h); least = w.least; most = w.most }
+
+  -- in a table that begins with the places
+  module _ (ps : List ℕ) (w : Standing bs ps) where
+    pub few_places : countJ bs ≤ length ps
+    few_places = omega (arith, length-take (countJ bs) ps, ap length w.places, places-long bs (jointsAt bs) (countJ bs))
+
+    module _ (h : n < countM bs + countJ bs) (v : second bs ≡ true) (m : countM bs ≤ n) where
+      place-is : get_or ps (n - countM bs) 0 ≡ entry_of
+      place-is = sym (get_or-take (countJ bs) ps (n - countM bs) 0 (omega arith)) ∙ ap (λ (l : List ℕ). get_or l (n - countM bs) 0) w.places
+
+      pub place-whole : Whole bs (get_or ps (n - countM bs) 0)
+      place-whole = rw place-is (entry-whole h v w.file m)
+
+      pub place-stands : EndsStand bs n (record { at = get_or ps (n - countM bs) 0 + 2; count = count_at bs (get_or ps (n - countM bs) 0) })
+      place-stands = rw place-is (joint-stands h v w.file m)
+
+-- the line, from where they stand
+module _ (bs : List ℕ) (i k n : ℕ) (e : Ends) (w : EndsStand bs n e) where
+  line_at : turnLine i k n (halvesFrom bs e.at e.count) ≡ line_of bs i k n
+  unfolding line_of
+  line_at = ap (turnLine i k n) w.ends
+
+  short-line : length (line_of bs i k n) ≤ longest
+  short-line = subst (λ (l : List ℕ). length l ≤ longest) line_at (turn-short bs e.at e.count (omega (arith, w.least)) i k n w.most)
+
+-- no line of an accepted file is too long
+line-short : (bs : List ℕ) (i k n : ℕ) → (second bs ≡ true → asked (fileQuestions bs) ≡ 0) → n < countM bs + countJ bs → length (line_of bs i k n) ≤ longest
+line-short bs i k n f h =
+    by_cases (second bs)
+    (λ v. by_cases (ltb n (countM bs))
+    (λ t. short-line bs i k n _ (manifold-stands bs n (ltb-true n (countM bs) t)))
+    (λ t. short-line bs i k n _ (joint-stands bs n h v (f v) (ltb-false n (countM bs) t))))
+    (λ v. short-line bs i k n _ (first-stands bs n h v))
 
 -- a line has its newline
 pub line-some : (bs : List ℕ) (i k n : ℕ) → 1 ≤ length (line_of bs i k n)
 unfolding line_of turnLine
 line-some bs i k n = omega (arith, length-append (spaced (map decimal (i ∷ k ∷ n ∷ (constraintAt (decode bs) n).ends))) (10 ∷ []))
 
--- a constraint with no pair
-pub no-pair : (bs old : List ℕ) (at i k n : ℕ) → countM bs + countJ bs ≤ n → Put (ifReady bs (length old) at i k n) old at old at
+-- no such constraint
+pub no-constraint : (bs old : List ℕ) (at i k n : ℕ) → countM bs + countJ bs ≤ n → Put (ifReady bs (length old) at i k n) old at old at
 unfolding ifReady ready
-no-pair bs old at i k n h = rw (le-ltb n (countM bs + countJ bs) h) (put-nothing old at)
+no-constraint bs old at i k n h = rw (le-ltb n (countM bs + countJ bs) h) (put-nothing old at)
 
-pub with_pair : (bs old : List ℕ) (at i k n a b : ℕ) (new : List ℕ) (r : ℕ) → n < countM bs + countJ bs → a ≡ half bs (ends_at bs n) → b ≡ half bs (ends_at bs n + 2)
-    → Put (ifRoom (length old) at (turnLine i k n (a ∷ b ∷ []))) old at new r → Put (ifReady bs (length old) at i k n) old at new r
+pub with_ends : (bs old : List ℕ) (at i k n : ℕ) (e : Ends) (new : List ℕ) (r : ℕ) → n < countM bs + countJ bs → EndsStand bs n e
+    → Put (ifRoom (length old) at (turnLine i k n (halvesFrom bs e.at e.count))) old at new r → Put (ifReady bs (length old) at i k n) old at new r
 unfolding ifReady ready ifRoom
-with_pair bs old at i k n a b new r h ea eb p = rw (lt-ltb n (countM bs + countJ bs) h) (rw (ea, eb, line_at bs i k n h) at p)
+with_ends bs old at i k n e new r h w p = rw (lt-ltb n (countM bs + countJ bs) h) (rw (line_at bs i k n e w) at p)
 
 -- a turn that is ready, and one that is not
 module _ (bs : List ℕ) (size at i k n : ℕ) where
@@ -215,8 +230,8 @@ module _ (bs turns : List ℕ) (first : ℕ) (old : List ℕ) (at : ℕ) (out : 
         (gather-end (ap (gathered bs (length old) m) here ∙ unready-count bs (length old) m i k n (turnsFrom turns (t + 1)) y)))
 
     -- it was ready
-    pub gather-turn : (next ≡ m → ⊥) → Gathering bs turns first old at new next (t + 1)
-    gather-turn e =
+    pub gather-turn : (second bs ≡ true → asked (fileQuestions bs) ≡ 0) → (next ≡ m → ⊥) → Gathering bs turns first old at new next (t + 1)
+    gather-turn file e =
         by_cases (ready bs (length old) m n)
         (λ y.
         let d = t - first in
@@ -228,7 +243,7 @@ module _ (bs turns : List ℕ) (first : ℕ) (old : List ℕ) (at : ℕ) (out : 
         lines_more bs rest d i k n (turnsFrom turns (t + 1)) (omega (arith, g.past, length-drop (3 * first) turns)) f in
         let w =
         wrote_then (lines_of bs rest d) (line_of bs i k n) old out new at m next longest 0
-        (record { put = g.put; kept = g.kept; left = ready-room bs (length old) m i k n y }) (was y) (line-short bs i k n (ready-pair bs (length old) m i k n y)) in
+        (record { put = g.put; kept = g.kept; left = ready-room bs (length old) m i k n y }) (was y) (line-short bs i k n file (ready-pair bs (length old) m i k n y)) in
         record {
           past = omega (arith, g.past);
           put = rw (q, l) w.put;

@@ -1,10 +1,31 @@
 -- The lines of a turn table, gathered in a lent buffer as far as there is room.
-use Rattle.std.specs.Prelude.{ℕ, suc, ◌+◌, ◌*◌, ◌≡◌, Bool, ◌&&◌, cond, List, [], ◌∷◌, leb, ltb, length, take, drop}
+use Rattle.std.specs.Prelude.{ℕ, suc, ◌+◌, ◌*◌, ◌≤◌, ◌<◌, ◌≡◌, Bool, true, ◌&&◌, cond, List, [], ◌∷◌, leb, ltb, length, take, drop}
 use Rattle.frame.specs.Frames.{constraintAt}
-use Rattle.frame.specs.Files.{countM, countJ, decode}
+use Rattle.frame.specs.Questions.{asked}
+use Rattle.frame.specs.Files.{countM, countJ, jointsAt, second, placesFrom, halvesFrom, decode, fileQuestions}
 use Rattle.schedules.specs.Print.{turnLine, turn_lines}
 use Rattle.print_fields.specs.Puts.{Put, longest}
+use Rattle.printing.specs.declared.Ends.{Ends}
 use Rattle.printing.specs.declared.Gathered.{Gathered}
+
+-- ---- where a constraint's endpoints stand
+
+-- an accepted file, and a table that begins with the places of its joints' entries
+pub record Standing (bs ps : List ℕ) : Type 0 where
+  pub file : asked (fileQuestions bs) ≡ 0
+  pub places : take (countJ bs) ps ≡ placesFrom bs (jointsAt bs) (countJ bs)
+
+-- such a table is at hand where there are turns of a version 2 file
+abbrev pub Placed : List ℕ → List ℕ → List ℕ → Type 0
+Placed bs turns ps = 0 < length turns → second bs ≡ true → Standing bs ps
+
+-- the endpoints of constraint n stand there, two to four of them
+pub record EndsStand (bs : List ℕ) (n : ℕ) (e : Ends) : Type 0 where
+  pub ends : halvesFrom bs e.at e.count ≡ (constraintAt (decode bs) n).ends
+  pub least : 2 ≤ e.count
+  pub most : e.count ≤ 4
+
+-- ---- the lines
 
 -- the line of a turn
 unfoldable pub line_of : List ℕ → ℕ → ℕ → ℕ → List ℕ

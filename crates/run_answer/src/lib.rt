@@ -61,8 +61,8 @@ fn entries_for(counted: bool, m: usize, j: usize) -> usize
     2 * (m + j)
 }
 
-// And how many counts: none where they are pairs.
-fn counts_room(counted: bool, m: usize, j: usize) -> usize
+// And how many counts, to which a run cuts its tables of counts too: none where the constraints are pairs.
+pub fn counts_room(counted: bool, m: usize, j: usize) -> usize
     requires { (m ≤ 4096) × (j ≤ 4096) }
     ensures { result ≡ countsRoom counted m j }
 {

@@ -7,15 +7,16 @@ use Rattle.frame_run.proofs.run_sized.Goals as goal
 
 pub fill-filling-requires-clause-roomy : goal.fill-filling-requires-clause-roomy
 fill-filling-requires-clause-roomy c =
-    roomy_of _ _ _ _ _
+    roomy_of _ _ _ _ _ _
     (tables_of c.args.dynamic_bodies.now c.args.endpoints.now c.args.body_offsets.now c.args.body_constraints.now c.args.scratch_offsets.now c.args.constraint_colors.now c.args.color_stamps.now c.args.body_stamps.now c.args.color_offsets.now c.args.colored_constraints.now c.args.color_body_offsets.now c.args.color_bodies.now c.args.constraint_body_positions.now)
-    c.requires.roomy_sized
+    _ c.requires.roomy_sized
 
 pub run_islands-tally-requires-clause-prepared : goal.run_islands-tally-requires-clause-prepared
 run_islands-tally-requires-clause-prepared c =
     let f = c.fill-filling in
     let r = c.requires.roomy_sized in
-    prepared-cut c.args.frame.now c.requires.decodable.file f.new.types f.new.flags f.new.pairs f.new.enabled _ _ f.new.numbers f.result f.ensures c.args.manifolds c.requires.decodable.manifolds _ _ _ (omega (arith, f.auto.manifold_islands, r.islands.manifold-islands)) (omega (arith, f.auto.joint_islands, r.islands.joint-islands)) r.island-pairs r.tables
+    prepared-cut c.args.frame.now c.requires.decodable.file f.new.types f.new.flags f.new.pairs f.new.counts f.new.enabled _ _ f.new.numbers f.result f.ensures
+    _ _ _ _ _ _ _ _ r
     (record {
       dynamic-bodies = refl;
       endpoints = refl;
@@ -24,25 +25,27 @@ run_islands-tally-requires-clause-prepared c =
       scratch-offsets = f.auto.scratch_offsets;
       constraint-colors = f.auto.keys;
       color-stamps = refl;
-      body-stamps = f.auto.counts;
+      body-stamps = f.auto.on_bodies;
       color-offsets = f.auto.offsets;
       colored-constraints = refl;
       color-body-offsets = refl;
       color-bodies = refl;
       constraint-body-positions = refl;
     })
+    (omega (arith, f.auto.manifold_islands, r.islands.manifold-islands)) (omega (arith, f.auto.joint_islands, r.islands.joint-islands))
+    c.args.manifolds c.requires.decodable.manifolds
 
 pub run_islands-tally-requires-clause-room : goal.run_islands-tally-requires-clause-room
 run_islands-tally-requires-clause-room c =
     let f = c.fill-filling in
-    room_cut c.args.frame.now c.requires.decodable.file f.new.types f.new.flags f.new.pairs f.new.enabled _ _ f.new.numbers f.result f.ensures c.args.manifolds c.requires.decodable.manifolds _ c.requires.roomy_sized.turns
+    room_cut c.args.frame.now c.requires.decodable.file f.new.types f.new.flags f.new.pairs f.new.counts f.new.enabled _ _ f.new.numbers f.result f.ensures c.args.manifolds c.requires.decodable.manifolds _ c.requires.roomy_sized.turns
 
 pub run_islands-tally-requires-clause-known : goal.run_islands-tally-requires-clause-known
 run_islands-tally-requires-clause-known c =
     let f = c.fill-filling in
-    types-known c.args.frame.now c.requires.decodable.file f.new.types f.new.flags f.new.pairs f.new.enabled _ _ f.new.numbers f.result f.ensures
+    types-known c.args.frame.now c.requires.decodable.file f.new.types f.new.flags f.new.pairs f.new.counts f.new.enabled _ _ f.new.numbers f.result f.ensures
 
 pub returns : goal.returns
 returns c =
     let f = c.fill-filling in
-    ran c.args.frame.now c.requires.decodable.file f.new.types f.new.flags f.new.pairs f.new.enabled _ _ f.new.numbers f.result f.ensures c.args.manifolds c.requires.decodable.manifolds _ _ _ _ c.run_islands-tally.ensures c.answer_of.ensures
+    ran c.args.frame.now c.requires.decodable.file f.new.types f.new.flags f.new.pairs f.new.counts f.new.enabled _ _ f.new.numbers f.result f.ensures c.args.manifolds c.requires.decodable.manifolds _ _ _ _ c.run_islands-tally.ensures c.answer_of.ensures

@@ -1,12 +1,28 @@
--- The first line stands at the buffer's start, and the lines behind it.
-use mathlib.Core.Path.{ap}
-use native.Mathlib.Omega.{arith}
+-- The first line stands at the buffer's start, and the lines behind it. Where there are turns the file was accepted, and its joints' places
+-- are in their table.
+use Rattle.std.proofs.Common.{ap, arith, ◌∙◌}
 use Rattle.run_answer.specs.declared.Report.{Report}
-use Rattle.print_pieces.proofs.Pieces.{first-stands}
+use Rattle.print_pieces.proofs.Answers.{turns-asked}
+use Rattle.print_pieces.proofs.Pieces.{first-stands, turns_placed}
+use Rattle.print_pieces.proofs.first_piece.Goals.{then-count-gt0, else-count-gt0}
 use Rattle.print_pieces.proofs.first_piece.Goals as goal
 
-pub returns : goal.returns
-returns c =
+pub place_joints-requires : goal.place_joints-requires
+place_joints-requires c =
+    let count = ap (λ (r : Report). r.turns) c.report_of-count.ensures ∙ c.answer_to-answer.ensures.turns in
+    (turns-asked c.args.frame.now (omega (arith, count, c.if-count-gt0.true)), omega arith)
+
+pub put_lines-requires : goal.put_lines-requires
+put_lines-requires c =
+    turns_placed c.args.frame.now c.answer_to-answer.new.turns c.if-count-gt0.places c.report_of-count.result.turns
+    (λ some v. elim c.if-count-gt0.branch [ then-count-gt0 w ↦ rw w.places-is (w.place_joints.ensures v) | else-count-gt0 w ↦ absurd (omega (arith, some, w.if-count-gt0.false)) ])
+
+pub returns-clause-placed : goal.returns-clause-placed
+returns-clause-placed c =
+    λ some v. elim c.if-count-gt0.branch [ then-count-gt0 w ↦ rw w.places-is (w.place_joints.ensures v) | else-count-gt0 w ↦ absurd (omega (arith, some, c.put_lines.ensures.0, w.if-count-gt0.false)) ]
+
+pub returns-clause-piece : goal.returns-clause-piece
+returns-clause-piece c =
     let a = c.answer_to-answer in
     let n = c.report_of-count in
     let f = c.put_first_line-line in

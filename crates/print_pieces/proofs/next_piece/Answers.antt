@@ -1,7 +1,10 @@
 -- The lines stand at the buffer's start.
 use native.Mathlib.Omega.{arith}
-use Rattle.print_pieces.proofs.Pieces.{next-stands}
+use Rattle.print_pieces.proofs.Pieces.{next-stands, turns_placed}
 use Rattle.print_pieces.proofs.next_piece.Goals as goal
+
+pub put_lines-requires : goal.put_lines-requires
+put_lines-requires c = turns_placed c.args.frame.now c.args.turns.now c.args.places.now c.args.piece.turns c.requires
 
 pub returns : goal.returns
 returns c =

@@ -54,7 +54,7 @@ returns c =
     let fd = field degreeWord a.degree 10 in
     let islands : Wrote fi a.out.now a.at p.new.out p.result 82 =
     wrote_then [] fi a.out.now a.out.now p.new.out a.at a.at p.result 29 82
-    (wrote_none a.out.now a.at 111 (leb-true (a.at + longest) (length a.out.now) (sym c.if-not-line_fits.ensures))) p.ensures (field-short islandsWord a.islands 32)
+    (wrote_none a.out.now a.at 111 (omega (arith, leb-true (a.at + longest) (length a.out.now) (sym c.if-not-line_fits.ensures)))) p.ensures (field-short islandsWord a.islands 32)
     in
     let turns : Wrote (fi ++ ft) a.out.now a.at q.new.out q.result 55 =
     wrote_then fi ft a.out.now p.new.out q.new.out a.at p.result q.result 27 55 islands q.ensures (field-short turnsWord a.turns 32)

@@ -14,7 +14,7 @@ loop-turn-preserved c =
     let l = c.loop-turn in
     let p = c.put_turn-next in
     gather-turn a.frame.now a.turns.now a.first a.out.now a.at l.out l.place l.turn l.invariant (omega (arith, c.loop-turn-test.true))
-    _ _ _ refl refl refl p.new.out p.result p.ensures c.if-next-place.false
+    _ _ _ refl refl refl p.new.out p.result p.ensures (λ v. (c.requires (omega (arith, c.loop-turn-test.true)) v).file) c.if-next-place.false
 
 pub returns-after-loop-turn : goal.returns-after-loop-turn
 returns-after-loop-turn c =

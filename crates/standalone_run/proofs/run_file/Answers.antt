@@ -19,15 +19,17 @@ own ts = record {
   turns = ts;
   types = zeros 4096;
   flags = zeros 4096;
-  pairs = zeros 16384;
-  island-pairs = zeros 16384;
+  pairs = zeros 24576;
+  island-pairs = zeros 24576;
+  counts = zeros 8192;
+  island-counts = zeros 8192;
   enabled = zeros 4096;
   numbers = zeros 8192;
   plan = record {
     dynamic-bodies = zeros 4096;
-    endpoints = zeros 16384;
+    endpoints = zeros 24576;
     body-offsets = zeros 4097;
-    body-constraints = zeros 16384;
+    body-constraints = zeros 24576;
     scratch-offsets = zeros 8192;
     constraint-colors = zeros 8192;
     color-stamps = zeros 8192;
@@ -35,9 +37,10 @@ own ts = record {
     color-offsets = zeros 8193;
     colored-constraints = zeros 8192;
     color-body-offsets = zeros 8193;
-    color-bodies = zeros 16384;
-    constraint-body-positions = zeros 16384;
+    color-bodies = zeros 24576;
+    constraint-body-positions = zeros 24576;
   };
+  plan-counts = zeros 8192;
 }
 
 long : (n : ℕ) → n ≤ length (zeros n)
@@ -52,14 +55,16 @@ ample ts = record {
   joint-islands = long 4096;
   types = long 4096;
   flags = long 4096;
-  pairs = long 16384;
-  island-pairs = long 16384;
+  pairs = long 24576;
+  island-pairs = long 24576;
+  counts = long 8192;
+  island-counts = long 8192;
   enabled = long 4096;
   numbers = long 8192;
   dynamic-bodies = long 4096;
-  endpoints = long 16384;
+  endpoints = long 24576;
   body-offsets = long 4097;
-  body-constraints = long 16384;
+  body-constraints = long 24576;
   scratch-offsets = long 8192;
   constraint-colors = long 8192;
   color-stamps = long 8192;
@@ -67,8 +72,9 @@ ample ts = record {
   color-offsets = long 8193;
   colored-constraints = long 8192;
   color-body-offsets = long 8193;
-  color-bodies = long 16384;
-  constraint-body-positions = long 16384;
+  color-bodies = long 24576;
+  constraint-body-positions = long 24576;
+  plan-counts = long 8192;
 }
 
 pub returns : goal.returns
