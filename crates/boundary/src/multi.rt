@@ -122,7 +122,11 @@ pub extern "C" fn engkarupi_positions_multi(
     ensures { MultiLocates (get_or plan.now 1 0) counts.now constraint_body_positions.now constraint result places.new count.new }
 {
     let planned = answer_numbers::multi_plan_from(plan);
-    let answer = planned.body_positions_for_constraint(counts, constraint_body_positions, constraint);
+    let answer = planned.body_positions_for_constraint(
+        counts,
+        constraint_body_positions,
+        constraint,
+    );
     answer_numbers::locate_places(answer, places, count)
 }
 
