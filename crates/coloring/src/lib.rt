@@ -41,6 +41,7 @@ fn make_busy(dynamic_bodies: &[u8], bodies: &[u16], fits: u16, busy_bodies: &mut
 
 // The walk for a color: the first `count` of the remaining constraints are uncolored; those that the color does not fit stay, in list
 // order, and the others are listed from place `start` on. Answers how many stay.
+#[inline(always)]
 fn walk(
     dynamic_bodies: &[u8],
     endpoints: &[u16],
@@ -97,6 +98,7 @@ fn make_idle(bodies: &[u16], busy_bodies: &mut [u16])
 }
 
 // Gives the color to its members, and makes their bodies idle.
+#[inline(always)]
 fn close_color(
     endpoints: &[u16],
     bounds: &[u16],
@@ -119,6 +121,7 @@ fn close_color(
 
 // The colors of all constraints, the members of all groups, where each group starts, with the end, and how many groups there are: the
 // first color that no constraint needs.
+#[inline(always)]
 pub fn color_constraints(
     dynamic_bodies: &[u8],
     endpoints: &[u16],

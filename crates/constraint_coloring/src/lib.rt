@@ -81,6 +81,7 @@ pub fn copy_flags(from: &[u8], to: &mut [u8])
 }
 
 // The bodies of all groups and the positions of all constraints, whatever the number of their bodies.
+#[inline(always)]
 fn list_groups(
     body_count: usize,
     endpoints: &[u16],
@@ -130,7 +131,9 @@ fn list_groups(
 // Remembers the input and builds its plan; each table is cut to the places that a stage may write. Constraints are pairs where there are no
 // bounds. The walks need no adjacency, so the tables `body_offsets`, `body_constraints` and `color_stamps` are not lent; they stand as [] in the
 // contract. `scratch_offsets` is the list of the uncolored, then serves the sort, then is the table of places; `body_stamps` tells who is
-// busy, is left 0 by the walks, and then takes the groups' stamps.
+// busy, is left 0 by the walks, and then takes the groups' stamps. It is compiled into each of its two callers, with its stages, so that in a
+// plan of pairs nothing asks for bounds.
+#[inline(always)]
 pub fn build_plan(
     flags: &[u8],
     ends: &[u16],

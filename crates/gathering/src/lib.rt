@@ -38,6 +38,7 @@ fn stamp_part(bodies: &[u16], stamp: u16, body_stamps: &mut [u16]) -> usize
 }
 
 // The bodies of a group's constraints; answers how many they are.
+#[inline(always)]
 fn stamp_members(
     endpoints: &[u16],
     bounds: &[u16],
@@ -76,6 +77,7 @@ fn collect(body_stamps: &[u16], stamp: u16, part: &mut [u16])
 }
 
 // The bodies of a group with many constraints, from place `start` on; answers where they end.
+#[inline(always)]
 fn list_many(
     endpoints: &[u16],
     bounds: &[u16],
@@ -135,6 +137,7 @@ fn note_part(
 }
 
 // The bodies of a group's constraints, as they come.
+#[inline(always)]
 fn note_members(
     endpoints: &[u16],
     bounds: &[u16],
@@ -160,6 +163,7 @@ fn note_members(
 }
 
 // The bodies of a group with few constraints, from place `start` on; answers where they end.
+#[inline(always)]
 fn list_few(
     endpoints: &[u16],
     bounds: &[u16],
@@ -189,6 +193,7 @@ fn list_few(
 }
 
 // The bodies of any group, from place `start` on; answers where they end.
+#[inline(always)]
 fn list_bodies(
     endpoints: &[u16],
     bounds: &[u16],
@@ -228,6 +233,7 @@ fn list_bodies(
 }
 
 // The bodies of all groups, group after group, and the start of each, with the end. Stamps and scratch are free afterwards.
+#[inline(always)]
 pub fn gather(
     body_count: usize,
     endpoints: &[u16],

@@ -50,6 +50,7 @@ fn locate_part(ends: &[u16], bodies: &[u16], places: &[u16], positions: &mut [u1
 }
 
 // The positions of a group's members: of many bodies the places are listed first.
+#[inline(always)]
 fn locate_members(
     endpoints: &[u16],
     bounds: &[u16],
@@ -83,6 +84,7 @@ fn locate_members(
 }
 
 // The positions of all constraints, group after group. Places are free.
+#[inline(always)]
 pub fn locate(
     body_count: usize,
     endpoints: &[u16],

@@ -1,6 +1,6 @@
 -- The plan as it stands after the update of an island hands back what the definition's plan does, so its groups make the same takes. The
 -- update is accepted, since its questions are and there is room.
-use Prim.Native.Nat.{ℕ, ◌*◌, ◌/◌, ◌%◌, ◌≤◌, ◌<◌}
+use Prim.Native.Nat.{ℕ, ◌*◌, ◌/◌, ◌≤◌, ◌<◌}
 use mathlib.Core.Path.{◌≡◌, refl, sym, ap, ◌∙◌, subst}
 use mathlib.Core.Bool.{true}
 use mathlib.Core.List.{List, []}
@@ -12,14 +12,11 @@ use Rattle.lists.specs.Basics.{joinMap, range}
 use Rattle.lists.proofs.Laws.{by_cases, range-high, pigeonhole, no_length}
 use Rattle.lists.proofs.Ranges.{joinMap-ext-in}
 use Rattle.frame.specs.Frames.{countsKnown, endCount}
-use Rattle.frame.specs.Questions.{even}
-use Rattle.frame.proofs.Questions.{passed}
 use Rattle.groups.specs.Groups.{Plan, pairsOf, counted_parts, colorsOf, groupCount}
 use Rattle.groups.proofs.Colors.{colors-length, group-not-empty}
 use Rattle.constraint_coloring.specs.declared.ConstraintColoring.{ConstraintColoring}
 use Rattle.constraint_coloring.specs.declared.Update.{Update}
-use Rattle.plan_questions.specs.Plans.{Tables, roomy_with, updateRefusal}
-use Rattle.plan_questions.proofs.Questions.{few}
+use Rattle.plan_questions.specs.Plans.{Tables, roomy_with}
 use Rattle.constraint_coloring.specs.Calls.{freshPlan, planAfter, refusalWith, Updated}
 use Rattle.multi_coloring.specs.declared.MultiColoring.{MultiColoring}
 use Rattle.multi_coloring.specs.declared.MultiUpdate.{MultiUpdate}
@@ -27,7 +24,7 @@ use Rattle.multi_coloring.specs.Counts.{multiUpdateRefusal}
 use Rattle.multi_coloring.specs.Calls.{freshMulti, multiPlanAfter, multiRefusalWith, numbersOf, MultiUpdated}
 use Rattle.multi_coloring.proofs.Accepted.{Accepted, accepted, few-ends, two-each}
 use Rattle.schedules.specs.Runs.{freshly, membersIn, bodiesIn, lookupRefusal, lookupOf, takeRank}
-use Rattle.schedules.proofs.Standing.{Lookups, fresh-pairs, updated-pairs, few-pairs, fresh-counts, updated-lent, constraints-lent, few-counts}
+use Rattle.schedules.proofs.Standing.{Lookups, asked-pairs, fresh-pairs, updated-pairs, few-pairs, fresh-counts, updated-lent, constraints-lent, few-counts}
 use Rattle.schedules.proofs.Condition3.{same-calls}
 use Rattle.group_run.specs.Appends.{seen, callsIn, planCalls}
 use Rattle.one_island.specs.Island.{islandCalls, ranks, Ready, Colored}
@@ -78,17 +75,10 @@ module _ {flags counts ends old : List ℕ} {n : ℕ} {t : Tables} (ready : Read
 
 -- of pairs
 module _ (flags ends : List ℕ) (t u : Tables) (ready : Ready flags [] ends (ranks [] ends) t []) where
-  two-each-pair : length ends ≡ 2 * (length ends / 2)
-  unfolding updateRefusal
-  two-each-pair =
-      let q3 = passed (few flags ends) _ 2 ready.accepted in
-      let q4 = passed (even ends) _ 3 q3.1 in
-      omega (arith, eqb-true (length ends % 2) 0 q4.0)
-
   with-tables : refusalWith t flags ends ≡ 0
   unfolding refusalWith
   with-tables =
-      let room : roomy_with (length flags) (length ends / 2) (2 * (length ends / 2)) t ≡ true = subst (λ (e : ℕ). roomy_with (length flags) (length ends / 2) e t ≡ true) two-each-pair ready.tables in
+      let room : roomy_with (length flags) (length ends / 2) (2 * (length ends / 2)) t ≡ true = subst (λ (e : ℕ). roomy_with (length flags) (length ends / 2) e t ≡ true) (asked-pairs flags ends true ready.accepted).1 ready.tables in
       rw room ready.accepted
 
   pub pairs-colored : (new plan : ConstraintColoring) (r : Update) → new ≡ freshPlan → Updated new flags ends t u r → plan ≡ planAfter new r → Colored flags [] ends plan u

@@ -12,7 +12,7 @@ const FRAMES: usize = 10;
 /// The run of a file on cleared tables of the lengths that it needs.
 fn run(file: &[u8]) {
     let frame = scope::read(file).unwrap();
-    let lengths = run_lengths_of(frame);
+    let lengths = run_lengths_of(&frame);
     let mut tables: RunTables = lent(&lengths);
     clear(&mut tables);
     assert_eq!(ours::run(file, &mut tables).refusal, 0);
