@@ -1,4 +1,4 @@
-//! The calls that document 01 and requests 3, 6 and 7 know, with their lent tables and answers: what the sides of a comparison
+//! The calls that document 01 and requests 3, 6, 7 and 11 know, with their lent tables and answers: what the sides of a comparison
 //! have in common.
 
 pub const NONE: u16 = 65535;

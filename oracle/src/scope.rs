@@ -1,4 +1,4 @@
-//! Document 01, sentence by sentence, and requests 3, 6 and 7: the side that answers where the Rust cannot be asked (limits,
+//! Document 01, sentence by sentence, and requests 3, 6, 7 and 11: the side that answers where the Rust cannot be asked (limits,
 //! numbers, question 6, what lies beyond, the roots and sizes of sets, the file, the run, the print, test lifts), and a second
 //! opinion where it can. Written for plainness, not speed.
 use crate::calls::{self, *};

@@ -28,7 +28,7 @@ fn limit_file(name: &str) -> Vec<u8> {
 }
 
 /// Every refusal of a file, the empty frame, the longest input and one byte more, more than 4,096 constraints, lifts of rising size,
-/// request 6's samples and the three frames of samples/.
+/// the samples of requests 6 and 11 and the four frames of samples/.
 fn inputs(root: &Path) -> Vec<Vec<u8>> {
     let small = frames::lift(1, 6, 5, 3);
     let sound = scope::write(&small);
