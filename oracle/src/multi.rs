@@ -405,15 +405,14 @@ pub fn random_frame(random: &mut Random, most_bodies: usize, most_constraints: u
     frame
 }
 
-/// Every frame of up to four bodies with one joint of each count, all four types, its endpoints in every order, equal and past the bodies too.
+/// Every frame of up to four bodies and one joint of each count: all four types, any endpoints, equal ones and one past the bodies too.
 fn every_little(mut give: impl FnMut(Frame)) {
     for b in 0..=4u16 {
         for code in 0..4usize.pow(b as u32) {
             let types: Vec<u8> = (0..b as u32).map(|i| (code / 4usize.pow(i) % 4) as u8).collect();
             for count in FEWEST..=MOST {
                 let places = b as usize + 1;
-                // of four endpoints every seventh choice
-                for choice in (code % 7..places.pow(count as u32)).step_by(if count == 4 { 7 } else { 1 }) {
+                for choice in 0..places.pow(count as u32) {
                     let ends = (0..count as u32).map(|i| (choice / places.pow(i) % places) as u16).collect();
                     let enabled = vec![(choice % 5 != 0) as u8];
                     give(Frame { types: types.clone(), joints: ends, counts: Some(vec![count]), enabled, ..Frame::default() });
@@ -671,6 +670,19 @@ pub fn runs<L: MultiCalls, R: MultiCalls>(agree: &mut Agree<L, R>, more: usize) 
         agree.check(refusal == number, || format!("sample file {}: {refusal}, not {number}", shorten(&file)));
         agree.print(&file);
     }
+    for (frame, _) in samples() {
+        let file = scope::write(&frame);
+        let mut at = file.len() - 2 * frame.joints.len() - 2 * frame.joint_count();
+        for ends in frame.joint_ends() {
+            for count in [0, 1, 5, 255] {
+                let mut bad = file.clone();
+                bad[at + 1] = count;
+                let refusal = agree.file(&bad).refusal;
+                agree.check(refusal == 5, || format!("a count of {count} in {}: {refusal}", shorten(&bad)));
+            }
+            at += 2 + 2 * ends.len();
+        }
+    }
     let refused = of_joints(&[2, 2, 2], &[], &[(&[0, 1, 0], 1)]);
     agree.printed(&scope::write(&refused), b"refused 7\n");
     let longest = scope::write(&frames::longest());
@@ -685,7 +697,7 @@ pub fn runs<L: MultiCalls, R: MultiCalls>(agree: &mut Agree<L, R>, more: usize) 
     every_little(|frame| {
         agree.file(&scope::write(&frame));
         count += 1;
-        if count % 97 == 0 {
+        if count % 997 == 0 {
             agree.print(&scope::write(&frame));
         }
     });
@@ -711,6 +723,17 @@ pub fn runs<L: MultiCalls, R: MultiCalls>(agree: &mut Agree<L, R>, more: usize) 
     }
 }
 
+/// The counts of a frame's joints, each in turn out of its range.
+fn bad_counts(frame: &Frame, mut give: impl FnMut(Frame)) {
+    for place in 0..frame.joint_count() {
+        for count in [0, 1, 5, 255] {
+            let mut bad = frame.clone();
+            bad.counts.as_mut().unwrap()[place] = count;
+            give(bad);
+        }
+    }
+}
+
 /// All that is asked of the calls with counts.
 pub fn calls<L: MultiCalls, R: MultiCalls>(agree: &mut Agree<L, R>, more: usize) {
     take_samples(agree);
@@ -718,6 +741,15 @@ pub fn calls<L: MultiCalls, R: MultiCalls>(agree: &mut Agree<L, R>, more: usize)
     island_samples(agree);
     for (frame, _) in samples() {
         agree.frame_multi(&frame);
+        bad_counts(&frame, |mut bad| {
+            agree.islands_of(&bad);
+            // with as many endpoints as the counts make
+            bad.joints.resize(scope::sum(bad.counts.as_ref().unwrap()), 0);
+            agree.islands_of(&bad);
+            let counts = [vec![FEWEST; bad.manifold_count()], bad.counts.clone().unwrap()].concat();
+            let ends = [&bad.manifolds[..], &bad.joints[..]].concat();
+            agree.history_multi(&[input(&frame), Input { flags: bad.flags(), ends, counts }]);
+        });
     }
     every_little(|frame| agree.frame_multi(&frame));
     for c in [8192, 8193] {

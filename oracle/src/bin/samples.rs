@@ -3,7 +3,7 @@
 //! `turns`, and `turns_too_long`, which is the same program, have one each; `turns_samples` has many: their number in one byte, then each after
 //! its length in three, the high one first. Writes also a line for `generate_frame`, with its print, and what `generator_samples` must print,
 //! both by request 3.
-use oracle::calls::{Calls, Frame};
+use oracle::calls::{Calls, FILE_BYTES, Frame, PAIR_FILE_BYTES};
 use oracle::compare;
 use oracle::frames;
 use oracle::kapitsa::Rust;
@@ -56,6 +56,8 @@ fn inputs(root: &Path) -> Vec<Vec<u8>> {
     }));
     inputs.extend(compare::logged_frames().iter().map(scope::write));
     inputs.extend(multi::files());
+    inputs.push(vec![0; FILE_BYTES]);
+    inputs.push([vec![1], vec![0; PAIR_FILE_BYTES]].concat());
     inputs.extend(["lift.frame", "document.frame", "logged.frame", "multi.frame"].map(|name| sample(root, name)));
     inputs
 }
