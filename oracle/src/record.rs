@@ -195,7 +195,7 @@ fn files(random: &mut Random, small: usize) -> Vec<Vec<u8>> {
     files.extend((0..8).map(|seed| scope::write(&frames::lift(seed, 300, 300, 100))));
     let kept = ["one pair 4,097 times", "4,095 islands on one static body"];
     files.extend(frames::shapes().into_iter().filter(|(name, _)| kept.contains(name)).map(|(_, f)| scope::write(&f)));
-    let kept = ["the longest file", "4,097 bodies", "65,535 of each, too short"];
+    let kept = ["the longest file of pairs", "4,097 bodies", "65,535 of each, too short"];
     files.extend(frames::limit_files().into_iter().filter(|(name, _)| kept.contains(name)).map(|(_, file)| file));
     files
 }
