@@ -83,8 +83,53 @@ static void one_pair(size_t bodies, size_t times, size_t b) {
     }
 }
 
-static void longest(void) {
+static void generated(void) {
     engkarupi_generate(1, B, M, J, frame, sizeof frame, &size);
+}
+
+/* a version 2 frame of dynamic bodies, without its manifolds and joints, which have so many bytes */
+static void start_second(size_t bodies, size_t manifolds, size_t joints, size_t bytes) {
+    size_t rest = 6 + bodies + bytes;
+    size = 0;
+    frame[size++] = 2;
+    put(rest >> 16);
+    put(rest & 65535);
+    put(bodies);
+    put(manifolds);
+    put(joints);
+    memset(frame + size, 2, bodies);
+    size += bodies;
+}
+
+static void joint(unsigned ends, size_t first) {
+    frame[size++] = 1;
+    frame[size++] = (uint8_t)ends;
+    for (size_t k = 0; k < ends; k++) {
+        put(first + k);
+    }
+}
+
+/* joints of four bodies one after another, each tied to the next: the largest group of a version 2 frame whose bodies are sorted */
+static void blocks(size_t bodies, size_t joints) {
+    start_second(bodies, 0, 2 * joints - 1, 10 * joints + 6 * (joints - 1));
+    for (size_t i = 0; i < joints; i++) {
+        joint(4, 4 * i);
+    }
+    for (size_t i = 0; i + 1 < joints; i++) {
+        joint(2, 4 * i + 3);
+    }
+}
+
+/* the longest frame: as many of each as there may be, all joints of four */
+static void longest(void) {
+    start_second(B, M, J, 4 * M + 10 * J);
+    for (size_t i = 0; i < M; i++) {
+        put(4 * (i / 4) + i % 4);
+        put(4 * (i / 4) + (i + 1) % 4);
+    }
+    for (size_t i = 0; i < J; i++) {
+        joint(4, 4 * (i / 4));
+    }
 }
 
 /* ---- the calls */
@@ -92,6 +137,12 @@ static void longest(void) {
 static uint8_t types[B], marks[B], flags[B], changed;
 static uint16_t bodies[B], indices[B], pairs[2 * 4095], handed[4], count16;
 static size_t plan[ENGKARUPI_PLAN_NUMBERS], count;
+
+enum { JOINTS = 63 };
+
+static uint16_t ends[4 * JOINTS], handed_multi[8];
+static const uint16_t places[4] = {9, 3, 7, 1};
+static uint8_t counts[JOINTS], enabled[JOINTS];
 
 static void run(void) {
     CALLER_IS_HERE();
@@ -115,6 +166,31 @@ static void update(void) {
                                tables.colored_constraints_len, tables.color_body_offsets, tables.color_body_offsets_len,
                                tables.color_bodies, tables.color_bodies_len, tables.constraint_body_positions,
                                tables.constraint_body_positions_len, &changed);
+}
+
+static void islands_multi(void) {
+    CALLER_IS_HERE();
+    refusal = engkarupi_islands_multi(types, B, NULL, 0, ends, 4 * JOINTS, counts, JOINTS, enabled, JOINTS, memory.parents, B, memory.sizes, B,
+                                      memory.body_islands, B, NULL, 0, memory.joint_islands, J, &count16);
+}
+
+static void update_multi(void) {
+    CALLER_IS_HERE();
+    memset(plan, 0, sizeof plan);
+    refusal = engkarupi_update_multi(plan, flags, B, ends, 4 * JOINTS, counts, JOINTS, tables.dynamic_bodies, B, tables.endpoints,
+                                     tables.endpoints_len, tables.plan_counts, tables.plan_counts_len, tables.body_offsets,
+                                     tables.body_offsets_len, tables.body_constraints, tables.body_constraints_len,
+                                     tables.scratch_offsets, tables.scratch_offsets_len, tables.constraint_colors,
+                                     tables.constraint_colors_len, tables.color_stamps, tables.color_stamps_len, tables.body_stamps,
+                                     tables.body_stamps_len, tables.color_offsets, tables.color_offsets_len, tables.colored_constraints,
+                                     tables.colored_constraints_len, tables.color_body_offsets, tables.color_body_offsets_len,
+                                     tables.color_bodies, tables.color_bodies_len, tables.constraint_body_positions,
+                                     tables.constraint_body_positions_len, &changed);
+}
+
+static void take_multi(void) {
+    CALLER_IS_HERE();
+    refusal = engkarupi_take_multi(bodies, marks, count, places, 4, handed_multi);
 }
 
 static void bind(void) {
@@ -145,6 +221,10 @@ int main(int words, char **word) {
     }
     longest();
     show("run of the longest frame", run);
+    blocks(B, JOINTS);
+    show("run of 63 joints of four among 4,096 bodies, which are sorted", run);
+    generated();
+    show("run of the longest frame of version 1", run);
     frame[5] = 255;
     show("run of a frame with too many bodies", run);
     start_frame(0, 0);
@@ -171,8 +251,16 @@ int main(int words, char **word) {
     show("update of that chain", update);
     count = 2 * 126;
     show("update of 127 bodies of it, which are sorted", update);
+    for (size_t i = 0; i < 4 * JOINTS; i++) {
+        ends[i] = (uint16_t)i;
+        counts[i / 4] = 4;
+        enabled[i / 4] = 1;
+    }
+    show("islands of 63 joints of four", islands_multi);
+    show("update of these, which are sorted", update_multi);
     show("bind of 4,096 bodies", bind);
     show("take from that binding", take);
+    show("take of four from that binding", take_multi);
     show("generate of the longest frame", generate);
     return 0;
 }
