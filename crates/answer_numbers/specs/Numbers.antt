@@ -10,32 +10,32 @@ use Rattle.colored_bodies.specs.declared.Take.{Take}
 use Rattle.colored_bodies.specs.declared.Take.TheVariants as take
 
 -- a plan as four numbers: bodies, constraints, groups, and the constraints of the largest group
-abbrev pub planOfNumbers : List ℕ → ConstraintColoring
-planOfNumbers p = record { body_count = get_or p 0 0; constraint_count = get_or p 1 0; color_count = get_or p 2 0; max_color_constraint_count = get_or p 3 0 }
+abbrev pub plan_of_numbers : List ℕ → ConstraintColoring
+plan_of_numbers p = record { body_count = get_or p 0 0; constraint_count = get_or p 1 0; color_count = get_or p 2 0; max_color_constraint_count = get_or p 3 0 }
 
-abbrev pub planNumbers : ConstraintColoring → List ℕ
-planNumbers p = p.body_count ∷ p.constraint_count ∷ p.color_count ∷ p.max_color_constraint_count ∷ []
+abbrev pub plan_numbers : ConstraintColoring → List ℕ
+plan_numbers p = p.body_count ∷ p.constraint_count ∷ p.color_count ∷ p.max_color_constraint_count ∷ []
 
 -- the positions of a constraint; both 0 where they are refused
-abbrev pub positionNumbers : Positions → List ℕ
-positionNumbers (positions.At a b) = a ∷ b ∷ []
-positionNumbers (positions.Refused n) = 0 ∷ 0 ∷ []
+abbrev pub position_numbers : Positions → List ℕ
+position_numbers (positions.At a b) = a ∷ b ∷ []
+position_numbers (positions.Refused n) = 0 ∷ 0 ∷ []
 
 -- the bodies that a take hands: a body and 1 for "dynamic" or 0 for "read-only", twice; all 0 where it is refused
-abbrev pub handedNumbers : Take → List ℕ
-handedNumbers (take.Taken x p y q) = x ∷ one p ∷ y ∷ one q ∷ []
-handedNumbers (take.Refused n) = 0 ∷ 0 ∷ 0 ∷ 0 ∷ []
+abbrev pub handed_numbers : Take → List ℕ
+handed_numbers (take.Taken x p y q) = x ∷ one p ∷ y ∷ one q ∷ []
+handed_numbers (take.Refused n) = 0 ∷ 0 ∷ 0 ∷ 0 ∷ []
 
 -- ---- of constraints that have a count each
 
-abbrev pub multiPlanOfNumbers : List ℕ → MultiColoring
-multiPlanOfNumbers p = record { body_count = get_or p 0 0; constraint_count = get_or p 1 0; color_count = get_or p 2 0; max_color_constraint_count = get_or p 3 0 }
+abbrev pub multi_plan_of_numbers : List ℕ → MultiColoring
+multi_plan_of_numbers p = record { body_count = get_or p 0 0; constraint_count = get_or p 1 0; color_count = get_or p 2 0; max_color_constraint_count = get_or p 3 0 }
 
-abbrev pub multiPlanNumbers : MultiColoring → List ℕ
-multiPlanNumbers p = p.body_count ∷ p.constraint_count ∷ p.color_count ∷ p.max_color_constraint_count ∷ []
+abbrev pub multi_plan_numbers : MultiColoring → List ℕ
+multi_plan_numbers p = p.body_count ∷ p.constraint_count ∷ p.color_count ∷ p.max_color_constraint_count ∷ []
 
 -- the bodies that a take of two to four positions hands: four times a body and 1 for "dynamic" or 0 for "read-only"; 0 past the last
-abbrev pub takenNumbers : TakenAt → List ℕ
-takenNumbers t =
+abbrev pub taken_numbers : TakenAt → List ℕ
+taken_numbers t =
     get_or t.bodies 0 0 ∷ get_or t.dynamic 0 0 ∷ get_or t.bodies 1 0 ∷ get_or t.dynamic 1 0
     ∷ get_or t.bodies 2 0 ∷ get_or t.dynamic 2 0 ∷ get_or t.bodies 3 0 ∷ get_or t.dynamic 3 0 ∷ []

@@ -2,10 +2,10 @@
 #![tactic(auto)]
 
 ghost use Rattle.std.specs.Prelude.{◌≡◌, cond, eqb, get_or};
-ghost use Rattle.colored_bodies.specs.Answers.{takeNumber, withBodies, Placed};
-ghost use Rattle.constraint_coloring.specs.Calls.{positionsNumber};
-ghost use Rattle.multi_coloring.specs.Calls.{placesNumber, placesValues, placesCount};
-ghost use Rattle.answer_numbers.specs.Numbers.{planOfNumbers, multiPlanOfNumbers, positionNumbers, handedNumbers, takenNumbers};
+ghost use Rattle.colored_bodies.specs.Answers.{take_number, with_bodies, Placed};
+ghost use Rattle.constraint_coloring.specs.Calls.{positions_number};
+ghost use Rattle.multi_coloring.specs.Calls.{places_number, places_values, places_count};
+ghost use Rattle.answer_numbers.specs.Numbers.{plan_of_numbers, multi_plan_of_numbers, position_numbers, handed_numbers, taken_numbers};
 
 use colored_bodies::Marked;
 use colored_bodies::multi::TakenAt;
@@ -15,7 +15,7 @@ use multi_coloring::{MultiColoring, MultiPositions};
 
 // The plan that four numbers give.
 pub fn plan_from(plan: &[usize; 4]) -> ConstraintColoring
-    ensures { result ≡ planOfNumbers plan.now }
+    ensures { result ≡ plan_of_numbers plan.now }
 {
     ConstraintColoring {
         body_count: plan[0],
@@ -40,7 +40,7 @@ pub fn part_start(offsets: &[u16], group: usize, size: usize) -> usize
 
 // The answer of a lookup of positions as numbers.
 pub fn locate(answer: Positions, places: &mut [u16; 2]) -> u8
-    ensures { (result ≡ positionsNumber answer) × (places.new ≡ positionNumbers answer) }
+    ensures { (result ≡ positions_number answer) × (places.new ≡ position_numbers answer) }
 {
     match answer {
         Positions::At(a, b) => {
@@ -63,7 +63,7 @@ pub fn hand(
     handed: &mut [u16; 4],
 ) -> u8
     requires { Placed a b marked }
-    ensures { (result ≡ takeNumber (withBodies bodies.now a b marked)) × (handed.new ≡ handedNumbers (withBodies bodies.now a b marked)) }
+    ensures { (result ≡ take_number (with_bodies bodies.now a b marked)) × (handed.new ≡ handed_numbers (with_bodies bodies.now a b marked)) }
 {
     match marked {
         Marked::Taken {
@@ -87,7 +87,7 @@ pub fn hand(
 
 // The plan with counts that four numbers give.
 pub fn multi_plan_from(plan: &[usize; 4]) -> MultiColoring
-    ensures { result ≡ multiPlanOfNumbers plan.now }
+    ensures { result ≡ multi_plan_of_numbers plan.now }
 {
     MultiColoring {
         body_count: plan[0],
@@ -99,7 +99,7 @@ pub fn multi_plan_from(plan: &[usize; 4]) -> MultiColoring
 
 // The answer of a lookup of two to four positions as numbers.
 pub fn locate_places(answer: MultiPositions, places: &mut [u16; 4], count: &mut usize) -> u8
-    ensures { (result ≡ placesNumber answer) × (places.new ≡ placesValues answer) × (count.new ≡ placesCount answer) }
+    ensures { (result ≡ places_number answer) × (places.new ≡ places_values answer) × (count.new ≡ places_count answer) }
 {
     match answer {
         MultiPositions::At(found) => {
@@ -118,7 +118,7 @@ pub fn locate_places(answer: MultiPositions, places: &mut [u16; 4], count: &mut 
 
 // The answer of a take of two to four positions as numbers.
 pub fn hand_taken(taken: TakenAt, handed: &mut [u16; 8]) -> u8
-    ensures { (result ≡ taken.refusal) × (handed.new ≡ takenNumbers taken) }
+    ensures { (result ≡ taken.refusal) × (handed.new ≡ taken_numbers taken) }
 {
     let bodies = taken.bodies;
     let dynamic = taken.dynamic;

@@ -10,8 +10,8 @@ use lib.Seq.{length-take-le}
 use borrow.Author.Tests.{eqb-true, leb-true}
 use Rattle.lists.proofs.Laws.{by_cases, and_left, and_right}
 use Rattle.constraint_coloring.specs.declared.ConstraintColoring.{ConstraintColoring}
-use Rattle.plan_questions.specs.Plans.{part, groupPart}
-use Rattle.answer_numbers.specs.Numbers.{planOfNumbers}
+use Rattle.plan_questions.specs.Plans.{part, group_part}
+use Rattle.answer_numbers.specs.Numbers.{plan_of_numbers}
 use Rattle.boundary.specs.Exports.{Found}
 
 empty : (xs table : List ℕ) (start : ℕ) → xs ≡ [] → take (length xs) (drop start table) ≡ xs
@@ -34,23 +34,23 @@ part_at s e start table true h from =
 part_at s e start table false h from = empty (part s e table) table start (rw h refl)
 
 group_at : (n : ℕ) (offsets table : List ℕ) (k start : ℕ) (t : Bool) → (ltb k n && ltb (k + 1) (length offsets)) ≡ t
-    → start ≡ cond (eqb (length (groupPart n offsets table k)) 0) 0 (get_or offsets k 0)
-    → take (length (groupPart n offsets table k)) (drop start table) ≡ groupPart n offsets table k
-unfolding groupPart
+    → start ≡ cond (eqb (length (group_part n offsets table k)) 0) 0 (get_or offsets k 0)
+    → take (length (group_part n offsets table k)) (drop start table) ≡ group_part n offsets table k
+unfolding group_part
 group_at n offsets table k start true h from =
     rw h (part_at (get_or offsets k 0) (get_or offsets (k + 1) 0) start table (leb (get_or offsets k 0) (get_or offsets (k + 1) 0) && leb (get_or offsets (k + 1) 0) (length table)) refl
     (from ∙ rw h refl))
-group_at n offsets table k start false h from = empty (groupPart n offsets table k) table start (rw h refl)
+group_at n offsets table k start false h from = empty (group_part n offsets table k) table start (rw h refl)
 
-pub found-by : {part : List ℕ} {p : ConstraintColoring} {start : ℕ} (plan offsets table : List ℕ) (k : ℕ)
-    → p ≡ planOfNumbers plan → part ≡ groupPart p.color_count offsets table k → start ≡ cond (eqb (length part) 0) 0 (get_or offsets k 0)
+pub found_by : {part : List ℕ} {p : ConstraintColoring} {start : ℕ} (plan offsets table : List ℕ) (k : ℕ)
+    → p ≡ plan_of_numbers plan → part ≡ group_part p.color_count offsets table k → start ≡ cond (eqb (length part) 0) 0 (get_or offsets k 0)
     → Found (get_or plan 2 0) offsets table k start (length part)
-found-by {part} {p} {start} plan offsets table k e h from =
+found_by {part} {p} {start} plan offsets table k e h from =
     let n = get_or plan 2 0 in
-    let same : part ≡ groupPart n offsets table k = h ∙ ap (λ (x : ConstraintColoring). groupPart x.color_count offsets table k) e in
+    let same : part ≡ group_part n offsets table k = h ∙ ap (λ (x : ConstraintColoring). group_part x.color_count offsets table k) e in
     record {
       part = ap (λ (xs : List ℕ). take (length xs) (drop start table)) same
           ∙ group_at n offsets table k start (ltb k n && ltb (k + 1) (length offsets)) refl (from ∙ ap (λ (xs : List ℕ). cond (eqb (length xs) 0) 0 (get_or offsets k 0)) same);
-      as-long = ap length same;
-      from-offset = from;
+      as_long = ap length same;
+      from_offset = from;
     }

@@ -3,19 +3,19 @@ use Rattle.std.specs.Prelude.{ℕ, ◌≡◌, cond, List, [], ◌∷◌, eqb, le
 use Rattle.lists.specs.Basics.{one}
 use Rattle.constraint_coloring.specs.declared.Update.{Update}
 use Rattle.constraint_coloring.specs.declared.Positions.{Positions}
-use Rattle.plan_questions.specs.Plans.{Tables, groupPart}
-use Rattle.constraint_coloring.specs.Calls.{updateNumber, updateChanged, planAfter, Updated, positionsNumber, Located}
+use Rattle.plan_questions.specs.Plans.{Tables, group_part}
+use Rattle.constraint_coloring.specs.Calls.{update_number, update_changed, plan_after, Updated, positions_number, Located}
 use Rattle.colored_bodies.specs.declared.BodyBinding.{BodyBinding}
 use Rattle.colored_bodies.specs.declared.Take.{Take}
 use Rattle.colored_bodies.specs.declared.multi.TakenAt.{TakenAt}
-use Rattle.colored_bodies.specs.Answers.{takeNumber, Takes, TakesAt}
+use Rattle.colored_bodies.specs.Answers.{take_number, Takes, TakesAt}
 use Rattle.multi_coloring.specs.declared.MultiUpdate.{MultiUpdate}
 use Rattle.multi_coloring.specs.declared.MultiPositions.{MultiPositions}
-use Rattle.multi_coloring.specs.Calls.{multiNumber, multiChanged, multiPlanAfter, MultiUpdated, placesNumber, placesValues, placesCount, MultiLocated}
-use Rattle.answer_numbers.specs.Numbers.{planOfNumbers, planNumbers, multiPlanOfNumbers, multiPlanNumbers, positionNumbers, handedNumbers, takenNumbers}
+use Rattle.multi_coloring.specs.Calls.{multi_number, multi_changed, multi_plan_after, MultiUpdated, places_number, places_values, places_count, MultiLocated}
+use Rattle.answer_numbers.specs.Numbers.{plan_of_numbers, plan_numbers, multi_plan_of_numbers, multi_plan_numbers, position_numbers, handed_numbers, taken_numbers}
 use Rattle.run_answer.specs.declared.Report.{Report}
 use Rattle.run_answer.specs.declared.Answer.{Answer}
-use Rattle.run_answer.specs.Answers.{runNumber, runReport}
+use Rattle.run_answer.specs.Answers.{run_number, run_report}
 use Rattle.frame_run.specs.Calls.{Lent, Ran}
 
 -- ---- updates and lookups
@@ -23,41 +23,41 @@ use Rattle.frame_run.specs.Calls.{Lent, Ran}
 -- an update of a plan with the tables t, which are left as u
 pub record Updates (plan flags pairs : List ℕ) (t u : Tables) (number changed : ℕ) (left : List ℕ) : Type 0 where
   pub answer : Update
-  pub updated : Updated (planOfNumbers plan) flags pairs t u answer
-  pub refusal : number ≡ updateNumber answer
-  pub change : changed ≡ one (updateChanged answer)
-  pub plan-after : left ≡ planNumbers (planAfter (planOfNumbers plan) answer)
+  pub updated : Updated (plan_of_numbers plan) flags pairs t u answer
+  pub refusal : number ≡ update_number answer
+  pub change : changed ≡ one (update_changed answer)
+  pub plan_left : left ≡ plan_numbers (plan_after (plan_of_numbers plan) answer)
 
 -- the part of group k of n groups: where it starts in the table, and its size; an empty part starts at 0
 pub record Found (n : ℕ) (offsets table : List ℕ) (k start size : ℕ) : Type 0 where
-  pub part : take size (drop start table) ≡ groupPart n offsets table k
-  pub as-long : size ≡ length (groupPart n offsets table k)
-  pub from-offset : start ≡ cond (eqb size 0) 0 (get_or offsets k 0)
+  pub part : take size (drop start table) ≡ group_part n offsets table k
+  pub as_long : size ≡ length (group_part n offsets table k)
+  pub from_offset : start ≡ cond (eqb size 0) 0 (get_or offsets k 0)
 
 -- a lookup of the positions of constraint r of n
 pub record Locates (n : ℕ) (table : List ℕ) (r number : ℕ) (places : List ℕ) : Type 0 where
   pub answer : Positions
   pub located : Located n table r answer
-  pub refusal : number ≡ positionsNumber answer
-  pub numbers : places ≡ positionNumbers answer
+  pub refusal : number ≡ positions_number answer
+  pub numbers : places ≡ position_numbers answer
 
 -- ---- the same of a plan with counts
 
 -- an update of a plan with the tables t and the counts c, which are left as u and c'
 pub record MultiUpdates (plan flags ends counts : List ℕ) (t : Tables) (c : List ℕ) (u : Tables) (c' : List ℕ) (number changed : ℕ) (left : List ℕ) : Type 0 where
   pub answer : MultiUpdate
-  pub updated : MultiUpdated (multiPlanOfNumbers plan) flags ends counts t c u c' answer
-  pub refusal : number ≡ multiNumber answer
-  pub change : changed ≡ one (multiChanged answer)
-  pub plan-after : left ≡ multiPlanNumbers (multiPlanAfter (multiPlanOfNumbers plan) answer)
+  pub updated : MultiUpdated (multi_plan_of_numbers plan) flags ends counts t c u c' answer
+  pub refusal : number ≡ multi_number answer
+  pub change : changed ≡ one (multi_changed answer)
+  pub plan_left : left ≡ multi_plan_numbers (multi_plan_after (multi_plan_of_numbers plan) answer)
 
 -- a lookup of the positions of constraint r of n, and how many they are
 pub record MultiLocates (n : ℕ) (counts table : List ℕ) (r number : ℕ) (places : List ℕ) (count : ℕ) : Type 0 where
   pub answer : MultiPositions
   pub located : MultiLocated n counts table r answer
-  pub refusal : number ≡ placesNumber answer
-  pub numbers : places ≡ placesValues answer
-  pub counted : count ≡ placesCount answer
+  pub refusal : number ≡ places_number answer
+  pub numbers : places ≡ places_values answer
+  pub counted : count ≡ places_count answer
 
 -- ---- bindings
 
@@ -65,25 +65,25 @@ pub record MultiLocates (n : ℕ) (counts table : List ℕ) (r number : ℕ) (pl
 pub record Took (b : BodyBinding) (ps : List ℕ) (left : BodyBinding) (number : ℕ) (handed : List ℕ) : Type 0 where
   pub answer : Take
   pub takes : Takes b ps answer left
-  pub refusal : number ≡ takeNumber answer
-  pub numbers : handed ≡ handedNumbers answer
+  pub refusal : number ≡ take_number answer
+  pub numbers : handed ≡ handed_numbers answer
 
 -- a take of two to four positions
 pub record TookAt (b : BodyBinding) (ps : List ℕ) (left : BodyBinding) (number : ℕ) (handed : List ℕ) : Type 0 where
   pub answer : TakenAt
   pub takes : TakesAt b ps answer left
   pub refusal : number ≡ answer.refusal
-  pub numbers : handed ≡ takenNumbers answer
+  pub numbers : handed ≡ taken_numbers answer
 
 -- ---- the run
 
 -- a report as four numbers: islands, turns, takes of dynamic bodies, and the largest number of constraints on one dynamic body
-abbrev pub reportNumbers : Report → List ℕ
-reportNumbers r = r.islands ∷ r.turns ∷ r.takes ∷ r.degree ∷ []
+abbrev pub report_numbers : Report → List ℕ
+report_numbers r = r.islands ∷ r.turns ∷ r.takes ∷ r.degree ∷ []
 
 -- a run of the file bs on the tables l, which are left as m
 pub record Runs (bs : List ℕ) (l m : Lent) (number : ℕ) (report : List ℕ) : Type 0 where
   pub answer : Answer
   pub ran : Ran bs l m answer
-  pub refusal : number ≡ runNumber answer
-  pub numbers : report ≡ reportNumbers (runReport answer)
+  pub refusal : number ≡ run_number answer
+  pub numbers : report ≡ report_numbers (run_report answer)

@@ -6,7 +6,7 @@ mod run;
 
 ghost use Rattle.std.specs.Prelude.{[], ◌∷◌, get_or};
 ghost use Rattle.frame.specs.Frames.{frame_of};
-ghost use Rattle.island.specs.Calls.{islandTablesOf, rooms_of, islandRefusal, Built};
+ghost use Rattle.island.specs.Calls.{island_tables_of, rooms_of, island_refusal, Built};
 ghost use Rattle.colored_bodies.specs.Answers.{Binds};
 ghost use Rattle.generator.specs.Calls.{Made};
 ghost use Rattle.plan_questions.specs.Plans.{tables_of};
@@ -30,10 +30,10 @@ pub extern "C" fn engkarupi_islands(
     island_count: &mut u16,
 ) -> u8
     ensures { Built (frame_of types.now manifolds.now joints.now enabled.now)
-        (islandRefusal types.now manifolds.now joints.now enabled.now
-        (rooms_of (islandTablesOf parents.old sizes.old body_islands.old manifold_islands.old joint_islands.old)))
-        (islandTablesOf parents.old sizes.old body_islands.old manifold_islands.old joint_islands.old)
-        (islandTablesOf parents.new sizes.new body_islands.new manifold_islands.new joint_islands.new)
+        (island_refusal types.now manifolds.now joints.now enabled.now
+        (rooms_of (island_tables_of parents.old sizes.old body_islands.old manifold_islands.old joint_islands.old)))
+        (island_tables_of parents.old sizes.old body_islands.old manifold_islands.old joint_islands.old)
+        (island_tables_of parents.new sizes.new body_islands.new manifold_islands.new joint_islands.new)
         result island_count.new }
 {
     let answer = island::build_with_joints(

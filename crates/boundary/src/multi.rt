@@ -1,7 +1,7 @@
 // The calls for C and Rust on joints and constraints of two to four bodies.
 ghost use Rattle.std.specs.Prelude.{get_or};
 ghost use Rattle.frame.specs.Frames.{frame_with};
-ghost use Rattle.island.specs.Calls.{islandTablesOf, rooms_of, multiIslandRefusal, Built};
+ghost use Rattle.island.specs.Calls.{island_tables_of, rooms_of, multi_island_refusal, Built};
 ghost use Rattle.plan_questions.specs.Plans.{tables_of};
 ghost use Rattle.boundary.specs.Exports.{MultiUpdates, MultiLocates, TookAt};
 
@@ -23,10 +23,10 @@ pub extern "C" fn engkarupi_islands_multi(
     island_count: &mut u16,
 ) -> u8
     ensures { Built (frame_with types.now manifolds.now joint_ends.now joint_counts.now enabled.now)
-        (multiIslandRefusal types.now manifolds.now joint_ends.now joint_counts.now enabled.now
-        (rooms_of (islandTablesOf parents.old sizes.old body_islands.old manifold_islands.old joint_islands.old)))
-        (islandTablesOf parents.old sizes.old body_islands.old manifold_islands.old joint_islands.old)
-        (islandTablesOf parents.new sizes.new body_islands.new manifold_islands.new joint_islands.new)
+        (multi_island_refusal types.now manifolds.now joint_ends.now joint_counts.now enabled.now
+        (rooms_of (island_tables_of parents.old sizes.old body_islands.old manifold_islands.old joint_islands.old)))
+        (island_tables_of parents.old sizes.old body_islands.old manifold_islands.old joint_islands.old)
+        (island_tables_of parents.new sizes.new body_islands.new manifold_islands.new joint_islands.new)
         result island_count.new }
 {
     let answer = island::build_with_multi_joints(

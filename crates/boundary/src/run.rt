@@ -1,5 +1,5 @@
 // The frame run for C and Rust.
-ghost use Rattle.island.specs.Calls.{islandTablesOf};
+ghost use Rattle.island.specs.Calls.{island_tables_of};
 ghost use Rattle.plan_questions.specs.Plans.{tables_of};
 ghost use Rattle.frame_run.specs.Calls.{lent_of};
 ghost use Rattle.boundary.specs.Exports.{Runs};
@@ -39,14 +39,14 @@ pub extern "C" fn engkarupi_run(
     report: &mut [usize; 4],
 ) -> u8
     ensures { Runs frame.now
-        (lent_of (islandTablesOf parents.old sizes.old body_islands.old manifold_islands.old joint_islands.old)
+        (lent_of (island_tables_of parents.old sizes.old body_islands.old manifold_islands.old joint_islands.old)
         turns.old types.old flags.old pairs.old
         island_pairs.old counts.old island_counts.old enabled.old numbers.old
         (tables_of dynamic_bodies.old endpoints.old body_offsets.old
         body_constraints.old scratch_offsets.old constraint_colors.old
         color_stamps.old body_stamps.old color_offsets.old
         colored_constraints.old color_body_offsets.old color_bodies.old constraint_body_positions.old) plan_counts.old)
-        (lent_of (islandTablesOf parents.new sizes.new body_islands.new manifold_islands.new joint_islands.new)
+        (lent_of (island_tables_of parents.new sizes.new body_islands.new manifold_islands.new joint_islands.new)
         turns.new types.new flags.new pairs.new
         island_pairs.new counts.new island_counts.new enabled.new numbers.new
         (tables_of dynamic_bodies.new endpoints.new body_offsets.new

@@ -11,11 +11,11 @@ use lib.ListN.{length, get_or, set, take, drop, replicate, length-append, length
 use lib.Seq.{take-suc, set_at, take_all, append_snoc, length-take-le}
 use borrow.Author.Tests.{leb-true, eqb-true}
 use Rattle.lists.specs.Basics.{rises}
-use Rattle.frame.specs.Questions.{typesKnown}
-use Rattle.colored_bodies.specs.Bindings.{lastBelow, bindRefusal, mark_of, padded, boundOf, bindOf}
+use Rattle.frame.specs.Questions.{types_known}
+use Rattle.colored_bodies.specs.Bindings.{last_below, bind_refusal, mark_of, padded, bound_of, bind_of}
 use Rattle.colored_bodies.specs.Answers.{Fillable}
 use Rattle.colored_bodies.specs.declared.BodyBinding.{BodyBinding}
-use Rattle.colored_bodies.proofs.Rises.{risesFrom, rises-is, rises-room, rises-under}
+use Rattle.colored_bodies.proofs.Rises.{rises_from, rises_is, rises-room, rises_under}
 
 -- one more element before the padding
 pub pad_to : (n : ℕ) (p : List ℕ) (i v : ℕ) → length p ≡ i → i < n → set (p ++ replicate (n - length p) 0) i v ≡ p ++ (v ∷ []) ++ replicate (n - length (p ++ (v ∷ []))) 0
@@ -27,48 +27,48 @@ pad_to n p i v e h =
     ∙ sym (append_snoc p v (replicate (n - (length p + 1)) 0))
     ∙ ap (λ (k : ℕ). p ++ (v ∷ []) ++ replicate k 0) same
 
-pad-step : (p : List ℕ) (i v : ℕ) → length p ≡ i → i < 4096 → set (padded p) i v ≡ padded (p ++ (v ∷ []))
+pad_step : (p : List ℕ) (i v : ℕ) → length p ≡ i → i < 4096 → set (padded p) i v ≡ padded (p ++ (v ∷ []))
 unfolding padded
-pad-step p i v e h = pad_to 4096 p i v e h
+pad_step p i v e h = pad_to 4096 p i v e h
 
 pub taken_more : (l : List ℕ) (i : ℕ) → i < length l → take (i + 1) l ≡ take i l ++ (get_or l i 0 ∷ [])
 taken_more l i h = rw (add-one, take-suc l i 0)
 
 -- what an accepted bind says of its list
-accepted-by : (a b c : Bool) (types indices : List ℕ) → leb (length types) 4096 ≡ a → (rises indices && lastBelow (length types) indices) ≡ c
-    → ◌≡◌ {A = ℕ} (cond a (cond b (cond c 0 8) 5) 3) 0 → (length types ≤ 4096) × (risesFrom 0 (length types) indices ≡ true)
-accepted-by true true true types indices e r h = (leb-true _ _ e, rises-is (length types) indices ∙ r)
-accepted-by true true false types indices e r h = absurd (omega arith)
-accepted-by true false c types indices e r h = absurd (omega arith)
-accepted-by false b c types indices e r h = absurd (omega arith)
+accepted_by : (a b c : Bool) (types indices : List ℕ) → leb (length types) 4096 ≡ a → (rises indices && last_below (length types) indices) ≡ c
+    → ◌≡◌ {A = ℕ} (cond a (cond b (cond c 0 8) 5) 3) 0 → (length types ≤ 4096) × (rises_from 0 (length types) indices ≡ true)
+accepted_by true true true types indices e r h = (leb-true _ _ e, rises_is (length types) indices ∙ r)
+accepted_by true true false types indices e r h = absurd (omega arith)
+accepted_by true false c types indices e r h = absurd (omega arith)
+accepted_by false b c types indices e r h = absurd (omega arith)
 
-accepted : (types indices : List ℕ) → bindRefusal types indices ≡ 0 → (length types ≤ 4096) × (risesFrom 0 (length types) indices ≡ true)
-unfolding bindRefusal
-accepted types indices h = accepted-by _ (typesKnown types) _ types indices refl refl h
+accepted : (types indices : List ℕ) → bind_refusal types indices ≡ 0 → (length types ≤ 4096) × (rises_from 0 (length types) indices ≡ true)
+unfolding bind_refusal
+accepted types indices h = accepted_by _ (types_known types) _ types indices refl refl h
 
 -- a bind fills as many places as its list has bodies, and none if it is refused
-module _ (types indices : List ℕ) (refusal count : ℕ) (asked : refusal ≡ bindRefusal types indices) (counted : count ≡ cond (eqb refusal 0) (length indices) 0) where
-  fillable-by : (t : Bool) → eqb refusal 0 ≡ t → Fillable types indices count
-  fillable-by true e =
+module _ (types indices : List ℕ) (refusal count : ℕ) (asked : refusal ≡ bind_refusal types indices) (counted : count ≡ cond (eqb refusal 0) (length indices) 0) where
+  fillable_by : (t : Bool) → eqb refusal 0 ≡ t → Fillable types indices count
+  fillable_by true e =
       let all : count ≡ length indices = counted ∙ rw e in
       let ok = accepted types indices (sym asked ∙ eqb-true refusal 0 e) in
       record {
         listed = omega arith;
         room = omega (arith, ok.0, rises-room 0 (length types) indices ok.1);
-        typed = λ i h. rises-under 0 (length types) indices i ok.1 (omega arith);
+        typed = λ i h. rises_under 0 (length types) indices i ok.1 (omega arith);
       }
-  fillable-by false e =
+  fillable_by false e =
       let none : count ≡ 0 = counted ∙ rw e in
       record { listed = omega arith; room = omega arith; typed = λ i h. absurd (omega arith) }
 
   pub fillable : Fillable types indices count
-  fillable = fillable-by (eqb refusal 0) refl
+  fillable = fillable_by (eqb refusal 0) refl
 
   abbrev filled : BodyBinding
   filled = record { bodies = padded (take count indices); marks = padded (map (mark_of types) (take count indices)); count = count }
 
-  bound_by : (t : Bool) → eqb refusal 0 ≡ t → filled ≡ bindOf types indices
-  unfolding bindOf boundOf
+  bound_by : (t : Bool) → eqb refusal 0 ≡ t → filled ≡ bind_of types indices
+  unfolding bind_of bound_of
   bound_by true e =
       let all : count ≡ length indices = counted ∙ rw e in
       let whole : take (length indices) indices ≡ indices = take_all (length indices) indices (omega arith) in
@@ -77,8 +77,8 @@ module _ (types indices : List ℕ) (refusal count : ℕ) (asked : refusal ≡ b
       let none : count ≡ 0 = counted ∙ rw e in
       simp (← asked, e, none)
 
-  pub bound-is : filled ≡ bindOf types indices
-  bound-is = bound_by (eqb refusal 0) refl
+  pub bound_is : filled ≡ bind_of types indices
+  bound_is = bound_by (eqb refusal 0) refl
 
 -- a list copied over zeros is padded
 zeros : (n m : ℕ) → n ≤ m → drop {A = ℕ} n (replicate m 0) ≡ replicate (m - n) 0
@@ -90,15 +90,15 @@ zeros (suc n) (suc m) h =
     let e : m - n ≡ suc m - suc n = omega arith in
     zeros n m (omega arith) ∙ ap (λ (k : ℕ). replicate k 0) e
 
-pub list-padded : (indices : List ℕ) (count : ℕ) → count ≤ length indices → count ≤ 4096 → take count indices ++ drop count (replicate 4096 0) ≡ padded (take count indices)
+pub list_padded : (indices : List ℕ) (count : ℕ) → count ≤ length indices → count ≤ 4096 → take count indices ++ drop count (replicate 4096 0) ≡ padded (take count indices)
 unfolding padded
-list-padded indices count h room = rw (zeros count 4096 room, length-take-le count indices h)
+list_padded indices count h room = rw (zeros count 4096 room, length-take-le count indices h)
 
 -- one mark more
-pub mark-next : (types indices : List ℕ) (i : ℕ) → i < length indices → i < 4096
+pub mark_next : (types indices : List ℕ) (i : ℕ) → i < length indices → i < 4096
     → set (padded (map (mark_of types) (take i indices))) i (mark_of types (get_or indices i 0)) ≡ padded (map (mark_of types) (take (i + 1) indices))
-mark-next types indices i h room =
-    pad-step (map (mark_of types) (take i indices)) i (mark_of types (get_or indices i 0)) (length-map (take i indices) (mark_of types) ∙ length-take-le i indices (omega arith)) room
+mark_next types indices i h room =
+    pad_step (map (mark_of types) (take i indices)) i (mark_of types (get_or indices i 0)) (length-map (take i indices) (mark_of types) ∙ length-take-le i indices (omega arith)) room
     ∙ ap padded (sym (map-append (mark_of types) (take i indices) (get_or indices i 0 ∷ [])) ∙ ap (map (mark_of types)) (sym (taken_more indices i h)))
 
 -- nothing filled yet

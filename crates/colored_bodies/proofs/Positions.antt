@@ -1,5 +1,5 @@
 -- Takes of two to four positions. Positions that pass questions 5 and 9 are at most four places; in rising order they are still places,
--- and the take of each in turn is a clause of `refusalFrom` and `marksFrom`. The flags are read before anything is taken.
+-- and the take of each in turn is a clause of `refusal_from` and `marks_from`. The flags are read before anything is taken.
 use Prim.Native.Nat.{ℕ, ◌+◌, ◌≤◌, ◌<◌}
 use mathlib.Core.Path.{◌≡◌, refl, sym, ap, ◌∙◌}
 use mathlib.Core.Bool.{Bool, true, false, ◌&&◌, cond}
@@ -14,10 +14,10 @@ use borrow.Author.Tests.{ltb-true, le-leb, lt-leb, leb-true, eqb-true, eq-eqb, n
 use Rattle.std.proofs.lemmas.Bool.Decides.{nat_tests}
 use Rattle.lists.specs.Basics.{all, one, distinct, sorted, four}
 use Rattle.lists.proofs.Bits.{byte_one}
-use Rattle.lists.proofs.Laws.{and_right, by_cases, all-weaken, all_in, all-intro, all_get_d}
+use Rattle.lists.proofs.Laws.{and_right, by_cases, all_weaken, all_in, all_intro, all_get_d}
 use Rattle.frame.specs.Frames.{counted}
 use Rattle.frame.proofs.Questions.{passed, zero-cond}
-use Rattle.colored_bodies.specs.Bindings.{placed, ask_refusal, spend, refusalFrom, marksFrom, takeRefusal, takeMarks, handedAt, take_of}
+use Rattle.colored_bodies.specs.Bindings.{placed, ask_refusal, spend, refusal_from, marks_from, take_refusal, take_marks, handed_at, take_of}
 use Rattle.colored_bodies.specs.Answers.{Handable, MarksAt, TakesAt}
 use Rattle.colored_bodies.specs.declared.BodyBinding.{BodyBinding}
 use Rattle.colored_bodies.specs.declared.multi.MarkedAt.{MarkedAt}
@@ -55,11 +55,11 @@ unfolding placed
 ask_passed ps count e =
     let q5 = passed (counted (length ps)) _ 4 e in
     let q9 = passed (placed count ps) 0 8 q5.1 in
-    (leb-true (length ps) 4 (and_right (leb 2 (length ps)) (leb (length ps) 4) q5.0), all-weaken _ (λ p. ltb p 4096) ps (λ p. and_right (ltb p count) (ltb p 4096)) (and_right (distinct ps) (all (λ p. ltb p count && ltb p 4096) ps) q9.0))
+    (leb-true (length ps) 4 (and_right (leb 2 (length ps)) (leb (length ps) 4) q5.0), all_weaken _ (λ p. ltb p 4096) ps (λ p. and_right (ltb p count) (ltb p 4096)) (and_right (distinct ps) (all (λ p. ltb p count && ltb p 4096) ps) q9.0))
 
 -- ---- rising order
 sorted_places : (ps : List ℕ) → Places ps → Places (sorted ps)
-sorted_places ps h = all-intro (λ p. ltb p 4096) (sorted ps) (λ q m. all_in (λ p. ltb p 4096) q ps (sym (mem-sorted q ps) ∙ m) h)
+sorted_places ps h = all_intro (λ p. ltb p 4096) (sorted ps) (λ q m. all_in (λ p. ltb p 4096) q ps (sym (mem-sorted q ps) ∙ m) h)
 
 -- four places, of which the first hold the positions; and those sorted
 module _ (ps out inner : List ℕ) (few : length ps ≤ 4) (e : out ≡ take (length ps) ps ++ drop (length ps) (0 ∷ 0 ∷ 0 ∷ 0 ∷ [])) (s : inner ≡ sorted (take (length ps) out)) where
@@ -83,19 +83,19 @@ module _ (marks ps : List ℕ) (i : ℕ) where
   at = get_or ps i 0
 
   module _ (h : i < length ps) where
-    pub each_gone : 1 < get_or marks at 0 → (gone i ≡ refusalFrom (gone i) marks (drop i ps)) × (marks ≡ marksFrom marks (drop i ps))
-    unfolding refusalFrom marksFrom
+    pub each_gone : 1 < get_or marks at 0 → (gone i ≡ refusal_from (gone i) marks (drop i ps)) × (marks ≡ marks_from marks (drop i ps))
+    unfolding refusal_from marks_from
     each_gone g = (rw (drop-cons ps i 0 h, lt-leb (get_or marks at 0) 1 g), rw (drop-cons ps i 0 h, lt-leb (get_or marks at 0) 1 g))
 
     pub each_turn : (after : List ℕ) → get_or marks at 0 ≤ 1 → after ≡ spend marks at
-        → (refusalFrom (gone (i + 1)) after (drop (i + 1) ps) ≡ refusalFrom (gone i) marks (drop i ps)) × (marksFrom after (drop (i + 1) ps) ≡ marksFrom marks (drop i ps))
-    unfolding refusalFrom marksFrom
+        → (refusal_from (gone (i + 1)) after (drop (i + 1) ps) ≡ refusal_from (gone i) marks (drop i ps)) × (marks_from after (drop (i + 1) ps) ≡ marks_from marks (drop i ps))
+    unfolding refusal_from marks_from
     each_turn after g e =
         let later : gone (i + 1) ≡ 11 = rw (ne_eqb (i + 1) 0 (λ z. omega arith)) in
         (rw (later, e, drop-cons ps i 0 h, le-leb (get_or marks at 0) 1 g, add-one i), rw (e, drop-cons ps i 0 h, le-leb (get_or marks at 0) 1 g, add-one i))
 
-  pub each_end : length ps ≤ i → (0 ≡ refusalFrom (gone i) marks (drop i ps)) × (marks ≡ marksFrom marks (drop i ps))
-  unfolding refusalFrom marksFrom
+  pub each_end : length ps ≤ i → (0 ≡ refusal_from (gone i) marks (drop i ps)) × (marks ≡ marks_from marks (drop i ps))
+  unfolding refusal_from marks_from
   each_end h = (rw (drop_of_length-le ps {i = i} h), rw (drop_of_length-le ps {i = i} h))
 
 -- ---- the flags
@@ -125,27 +125,27 @@ module _ (bodies marks ps : List ℕ) (count : ℕ) where
   binding = record { bodies = bodies; marks = marks; count = count }
 
   pub at_refused : (k : ℕ) → k ≡ ask_refusal count ps → (k ≡ 0 → ⊥) → MarksAt binding ps (record { refusal = k; dynamic = replicate 4 0 }) marks
-  unfolding take_of takeRefusal takeMarks four
+  unfolding take_of take_refusal take_marks four
   at_refused k e z =
       let n : eqb (ask_refusal count ps) 0 ≡ false = ne_eqb (ask_refusal count ps) 0 (λ h. z (e ∙ h)) in
       record { refusal = rw n e; dynamic = rw (n, n); marks = rw n }
 
-  module _ (n : ℕ) (left : List ℕ) (a : ask_refusal count ps ≡ 0) (two : (n ≡ refusalFrom 10 marks (sorted ps)) × (left ≡ marksFrom marks (sorted ps))) where
-    number : n ≡ takeRefusal binding ps
-    unfolding takeRefusal
+  module _ (n : ℕ) (left : List ℕ) (a : ask_refusal count ps ≡ 0) (two : (n ≡ refusal_from 10 marks (sorted ps)) × (left ≡ marks_from marks (sorted ps))) where
+    number : n ≡ take_refusal binding ps
+    unfolding take_refusal
     number = two.0 ∙ rw a
 
-    after : left ≡ takeMarks binding ps
-    unfolding takeMarks
+    after : left ≡ take_marks binding ps
+    unfolding take_marks
     after = two.1 ∙ rw a
 
     pub at_gone : (n ≡ 0 → ⊥) → MarksAt binding ps (record { refusal = n; dynamic = replicate 4 0 }) left
     unfolding take_of four
-    at_gone z = record { refusal = number; dynamic = rw (ne_eqb (takeRefusal binding ps) 0 (λ e. z (number ∙ e))); marks = after }
+    at_gone z = record { refusal = number; dynamic = rw (ne_eqb (take_refusal binding ps) 0 (λ e. z (number ∙ e))); marks = after }
 
     pub at_taken : (flags : List ℕ) → n ≡ 0 → flags ≡ four (map (flag_at marks) ps) → MarksAt binding ps (record { refusal = 0; dynamic = flags }) left
     unfolding take_of
-    at_taken flags z e = record { refusal = sym z ∙ number; dynamic = e ∙ rw (eq-eqb (takeRefusal binding ps) 0 (sym number ∙ z)) (ap four (sym (map-map (λ h. one h.dynamic) (handedAt binding) ps))); marks = after }
+    at_taken flags z e = record { refusal = sym z ∙ number; dynamic = e ∙ rw (eq-eqb (take_refusal binding ps) 0 (sym number ∙ z)) (ap four (sym (map-map (λ h. one h.dynamic) (handed_at binding) ps))); marks = after }
 
 -- ---- from a take of marks to the whole take
 module _ (b : BodyBinding) (ps : List ℕ) (m : MarkedAt) (left : List ℕ) (k : MarksAt b ps m left) (count : ℕ) (e : count ≡ cond (eqb m.refusal 0) (length ps) 0) where
@@ -154,27 +154,27 @@ module _ (b : BodyBinding) (ps : List ℕ) (m : MarkedAt) (left : List ℕ) (k :
 
   -- a take that is not refused passed questions 5 and 9
   pub handable : Handable ps count
-  unfolding take_of takeRefusal
+  unfolding take_of take_refusal
   handable = by_cases (eqb (take_of b ps).refusal 0)
       (λ f.
-      let q = ask_passed ps b.count (zero-cond (ask_refusal b.count ps) _ (eqb-true (takeRefusal b ps) 0 f)).0 in
+      let q = ask_passed ps b.count (zero-cond (ask_refusal b.count ps) _ (eqb-true (take_refusal b ps) 0 f)).0 in
       let n : count ≡ length ps = counts true f in
       record { listed = omega arith; room = omega (arith, q.0); within = λ i h. place_below ps i q.1 })
       (λ f.
       let n : count ≡ 0 = counts false f in
       record { listed = omega arith; room = omega arith; within = λ i h. absurd (omega arith) })
 
-  hands : (t : Bool) → eqb (takeRefusal b ps) 0 ≡ t → count ≡ cond t (length ps) 0
+  hands : (t : Bool) → eqb (take_refusal b ps) 0 ≡ t → count ≡ cond t (length ps) 0
       → (count ≡ length (take_of b ps).handed) × (four (map (λ p. get_or b.bodies p 0) (take count ps)) ≡ four (map (λ h. h.body) (take_of b ps).handed))
   unfolding take_of
-  hands true f n = (n ∙ rw f (sym (length-map ps (handedAt b))), rw (f, n, take_all (length ps) ps (omega arith)) (ap four (sym (map-map (λ h. h.body) (handedAt b) ps))))
+  hands true f n = (n ∙ rw f (sym (length-map ps (handed_at b))), rw (f, n, take_all (length ps) ps (omega arith)) (ap four (sym (map-map (λ h. h.body) (handed_at b) ps))))
   hands false f n = (n ∙ rw f, rw (f, n))
 
   pub takes_at : (bs : List ℕ) → bs ≡ four (map (λ p. get_or b.bodies p 0) (take count ps))
       → TakesAt b ps (record { refusal = m.refusal; count = count; bodies = bs; dynamic = m.dynamic }) (record { bodies = b.bodies; marks = left; count = b.count })
   unfolding take_of
   takes_at bs f =
-      let h = hands (eqb (takeRefusal b ps) 0) refl (counts (eqb (takeRefusal b ps) 0) refl) in
+      let h = hands (eqb (take_refusal b ps) 0) refl (counts (eqb (take_refusal b ps) 0) refl) in
       record {
         refusal = k.refusal;
         count = h.0;

@@ -8,8 +8,8 @@
 
 ghost use Rattle.std.specs.Prelude.{◌≡◌, ◌&&◌, cond, List, [], ◌∷◌, map, ℕ, ◌<◌, leb, eqb, take, replicate};
 ghost use Rattle.lists.specs.Basics.{rises};
-ghost use Rattle.colored_bodies.specs.Bindings.{lastBelow, bindRefusal, Known, mark_of, padded, bindOf, placed, spend, refusalFrom, marksFrom};
-ghost use Rattle.colored_bodies.specs.Answers.{withBodies, Placed, Fillable, Binds, Takes, Marks};
+ghost use Rattle.colored_bodies.specs.Bindings.{last_below, bind_refusal, Known, mark_of, padded, bind_of, placed, spend, refusal_from, marks_from};
+ghost use Rattle.colored_bodies.specs.Answers.{with_bodies, Placed, Fillable, Binds, Takes, Marks};
 
 use frame::Frame;
 
@@ -61,7 +61,7 @@ pub enum Marked {
 
 // Question 8: the list rises strictly, and its last entry is below n. `low` is the least that the next entry may be.
 fn rises_below(indices: &[u16], n: usize) -> bool
-    ensures { result ≡ (rises indices.now && lastBelow n indices.now) }
+    ensures { result ≡ (rises indices.now && last_below n indices.now) }
 {
     let mut low: usize = 0;
     let mut i = 0;
@@ -80,7 +80,7 @@ fn rises_below(indices: &[u16], n: usize) -> bool
 // Question 8, the only one left of known types.
 fn known_refusal(types: &[u8], indices: &[u16]) -> u8
     requires { Known types.now }
-    ensures { result ≡ bindRefusal types.now indices.now }
+    ensures { result ≡ bind_refusal types.now indices.now }
 {
     if !rises_below(indices, types.len()) {
         return 8;
@@ -90,7 +90,7 @@ fn known_refusal(types: &[u8], indices: &[u16]) -> u8
 
 // Questions 3, 5 and 8, in that order.
 fn bind_refusal(types: &[u8], indices: &[u16]) -> u8
-    ensures { result ≡ bindRefusal types.now indices.now }
+    ensures { result ≡ bind_refusal types.now indices.now }
 {
     if Frame::MAX_BODIES < types.len() {
         return 3;
@@ -126,7 +126,7 @@ fn mark_bodies(types: &[u8], indices: &[u16], count: usize, marks: &mut [u8; Fra
 // it. Answers the binding's count.
 pub fn bind_marks(types: &[u8], indices: &[u16], marks: &mut [u8; Frame::MAX_BODIES]) -> usize
     requires { Known types.now }
-    ensures { (result ≡ (bindOf types.now indices.now).count) × (marks.new ≡ (bindOf types.now indices.now).marks) }
+    ensures { (result ≡ (bind_of types.now indices.now).count) × (marks.new ≡ (bind_of types.now indices.now).marks) }
 {
     let count = bound_count(known_refusal(types, indices), indices.len());
     *marks = [0u8; Frame::MAX_BODIES];
@@ -190,7 +190,7 @@ fn take_body(marks: &mut [u8; Frame::MAX_BODIES], p: usize)
 // Questions 10 and 11: the lower place is taken before the higher one is asked, and stays taken if that one is gone.
 fn take_both(marks: &mut [u8; Frame::MAX_BODIES], low: usize, high: usize) -> u8
     requires { (low < 4096) × (high < 4096) }
-    ensures { (result ≡ refusalFrom 10 marks.old (low ∷ high ∷ [])) × (marks.new ≡ marksFrom marks.old (low ∷ high ∷ [])) }
+    ensures { (result ≡ refusal_from 10 marks.old (low ∷ high ∷ [])) × (marks.new ≡ marks_from marks.old (low ∷ high ∷ [])) }
 {
     if 1 < marks[low] {
         return 10;
@@ -227,7 +227,7 @@ pub fn take_marks(marks: &mut [u8; Frame::MAX_BODIES], count: usize, a: usize, b
 // The answer of a take of marks, with the bodies' numbers.
 fn with_bodies(bodies: &[u16; Frame::MAX_BODIES], a: usize, b: usize, marked: Marked) -> Take
     requires { Placed a b marked }
-    ensures { result ≡ withBodies bodies.now a b marked }
+    ensures { result ≡ with_bodies bodies.now a b marked }
 {
     match marked {
         Marked::Taken {

@@ -2,7 +2,7 @@
 // are gone, by rising place (10, 11).
 ghost use Rattle.std.specs.Prelude.{◌≡◌, ◌≤◌, ℕ, List, map, cond, true, eqb, ltb, length, get_or, take};
 ghost use Rattle.lists.specs.Basics.{all, one, four, sorted};
-ghost use Rattle.colored_bodies.specs.Bindings.{ask_refusal, refusalFrom, marksFrom};
+ghost use Rattle.colored_bodies.specs.Bindings.{ask_refusal, refusal_from, marks_from};
 ghost use Rattle.colored_bodies.specs.Answers.{Handable, MarksAt, TakesAt};
 
 use crate::{BodyBinding, bound_count, take_body};
@@ -85,7 +85,7 @@ fn gone_at(i: usize) -> u8
 // Questions 10 and 11, place after place: each is taken before the next is asked, and stays taken if that one is gone.
 fn take_each(marks: &mut [u8; Frame::MAX_BODIES], places: &[u16]) -> u8
     requires { all (λ p. ltb p 4096) places.now ≡ true }
-    ensures { (result ≡ refusalFrom 10 marks.old places.now) × (marks.new ≡ marksFrom marks.old places.now) }
+    ensures { (result ≡ refusal_from 10 marks.old places.now) × (marks.new ≡ marks_from marks.old places.now) }
 {
     let mut i = 0;
     // The first i places were free, and are taken.
@@ -103,7 +103,7 @@ fn take_each(marks: &mut [u8; Frame::MAX_BODIES], places: &[u16]) -> u8
 // The same by rising place.
 fn take_rising(marks: &mut [u8; Frame::MAX_BODIES], positions: &[u16]) -> u8
     requires { (length positions.now ≤ 4) × (all (λ p. ltb p 4096) positions.now ≡ true) }
-    ensures { (result ≡ refusalFrom 10 marks.old (sorted positions.now)) × (marks.new ≡ marksFrom marks.old (sorted positions.now)) }
+    ensures { (result ≡ refusal_from 10 marks.old (sorted positions.now)) × (marks.new ≡ marks_from marks.old (sorted positions.now)) }
 {
     let n = positions.len();
     let mut places = [0u16; 4];

@@ -11,16 +11,16 @@ use lib.ListN.{length, get_or, take, set, length-set}
 use lib.Seq.{take-suc, take_all, take-suc-set, take-set-le, get_or-take, get_or-set_other, length-take-le}
 use borrow.Author.Tests.{eqb-true, eq-eqb, ne_eqb, ltb-true, ltb-false, le-leb}
 use Rattle.lists.specs.Basics.{one, any, all, filter, range, mem}
-use Rattle.lists.proofs.Laws.{by_cases, all_in, getD-mem, all_get_d, cond-or}
+use Rattle.lists.proofs.Laws.{by_cases, all_in, get_or-mem, all_get_d, cond-or}
 use Rattle.lists.proofs.Ranges.{filter-append}
-use Rattle.lists.proofs.Scans.{any_next, any-ext-in, filter-filter}
-use Rattle.groups.specs.Groups.{flagged, colorsOf, members}
+use Rattle.lists.proofs.Scans.{any_next, any_ext_in, filter-filter}
+use Rattle.groups.specs.Groups.{flagged, colors_of, members}
 use Rattle.groups.proofs.Colors.{colors-length}
 use Rattle.groups.proofs.Tables.{flatten-suc}
 use Rattle.coloring.specs.Coloring.{promised, uncolored, touched, Opened, Walked}
 use Rattle.coloring.specs.Steps.{MadeBusy}
 use Rattle.lists.proofs.Bits.{one-true}
-use Rattle.coloring.proofs.Promised.{busy, listed_in, busy-higher}
+use Rattle.coloring.proofs.Promised.{busy, listed_in, busy_higher}
 
 -- is one of the bodies busy?
 abbrev pub barred : List ℕ → List ℕ → Bool
@@ -32,15 +32,15 @@ first_of flags cs k i = take i (uncolored flags cs k)
 
 -- they are passed: `left` of them stay uncolored, and the others are listed up to place `end`
 pub record Passed (flags : List ℕ) (cs : List (List ℕ)) (k start : ℕ) (remaining₀ colored₀ remaining colored busies : List ℕ) (left end i : ℕ) : Type 0 where
-  pub remaining-length : length remaining ≡ length remaining₀
-  pub members-length : length colored ≡ length colored₀
-  pub busy-length : length busies ≡ length flags
+  pub remaining_length : length remaining ≡ length remaining₀
+  pub members_length : length colored ≡ length colored₀
+  pub busy_length : length busies ≡ length flags
   pub order : left ≤ i
   pub ended : end + left ≡ start + i
   pub rest : (j : ℕ) → i ≤ j → get_or remaining j 0 ≡ get_or remaining₀ j 0
   pub kept : take left remaining ≡ filter (λ r. ltb k (promised flags cs r)) (first_of flags cs k i)
   pub grown : take end colored ≡ take start colored₀ ++ filter (λ r. eqb k (promised flags cs r)) (first_of flags cs k i)
-  pub busy-are : (b : ℕ) → b < length flags → get_or busies b 0 ≡ one (busy flags cs k (first_of flags cs k i) b)
+  pub busy_are : (b : ℕ) → b < length flags → get_or busies b 0 ≡ one (busy flags cs k (first_of flags cs k i) b)
 
 any-filter : (p q : ℕ → Bool) (xs : List ℕ) → any p (filter q xs) ≡ any (λ x. q x && p x) xs
 any-filter p q [] = refl
@@ -59,42 +59,42 @@ module _ {flags : List ℕ} {cs : List (List ℕ)} {k start count : ℕ} {remain
 
     -- each entry is a bit
     pub bits : (b : ℕ) → b < length flags → get_or busies b 0 ≡ one (eqb (get_or busies b 0) 1)
-    bits b l = rw (v.busy-are b l) (ap one (sym (one-true (busy flags cs k (first_of flags cs k i) b))))
+    bits b l = rw (v.busy_are b l) (ap one (sym (one-true (busy flags cs k (first_of flags cs k i) b))))
 
     module _ (l : i < count) where
-      next-is : next ≡ get_or (uncolored flags cs k) i 0
-      next-is = v.rest i (omega arith) ∙ sym (get_or-take count remaining₀ i 0 l) ∙ ap (λ (t : List ℕ). get_or t i 0) o.listed
+      next_is : next ≡ get_or (uncolored flags cs k) i 0
+      next_is = v.rest i (omega arith) ∙ sym (get_or-take count remaining₀ i 0 l) ∙ ap (λ (t : List ℕ). get_or t i 0) o.listed
 
-      next-listed : (next < length cs) × (k ≤ promised flags cs next)
-      next-listed = rw next-is (listed_in flags cs k (get_or (uncolored flags cs k) i 0) (getD-mem (uncolored flags cs k) i (omega (arith, many))))
+      next_listed : (next < length cs) × (k ≤ promised flags cs next)
+      next_listed = rw next_is (listed_in flags cs k (get_or (uncolored flags cs k) i 0) (get_or-mem (uncolored flags cs k) i (omega (arith, many))))
 
-      pub next-in : next < length colored₀
-      next-in = omega (arith, next-listed.0, o.members-length)
+      pub next_in : next < length colored₀
+      next_in = omega (arith, next_listed.0, o.members_length)
 
       -- there is a place for it in the list of its group
-      end-in : end < length colored
-      end-in = omega (arith, v.ended, v.order, v.members-length, o.members-length, o.counted)
+      end_in : end < length colored
+      end_in = omega (arith, v.ended, v.order, v.members_length, o.members_length, o.counted)
 
-      bodies-exist : all (λ b. ltb b (length flags)) (get_or cs next []) ≡ true
-      bodies-exist = all_get_d (λ bs. all (λ b. ltb b (length flags)) bs) [] cs next refl o.bodies
+      bodies_exist : all (λ b. ltb b (length flags)) (get_or cs next []) ≡ true
+      bodies_exist = all_get_d (λ bs. all (λ b. ltb b (length flags)) bs) [] cs next refl o.bodies
 
       pub next-bodies : (bs : List ℕ) → bs ≡ get_or cs next [] → all (λ b. ltb b (length flags)) bs ≡ true
-      next-bodies bs e = ap (all (λ b. ltb b (length flags))) e ∙ bodies-exist
+      next-bodies bs e = ap (all (λ b. ltb b (length flags))) e ∙ bodies_exist
 
       -- the color does not fit exactly the constraints that are promised a higher one
-      barred-higher : barred busies (get_or cs next []) ≡ ltb k (promised flags cs next)
-      barred-higher =
-          any-ext-in (λ b. eqb (get_or busies b 0) 1) (busy flags cs k (first_of flags cs k i)) (get_or cs next [])
-          (λ b m. rw (v.busy-are b (ltb-true b (length flags) (all_in (λ b. ltb b (length flags)) b (get_or cs next []) m bodies-exist))) (one-true (busy flags cs k (first_of flags cs k i) b)))
-          ∙ rw next-is (busy-higher flags cs k i (omega (arith, many)))
+      barred_higher : barred busies (get_or cs next []) ≡ ltb k (promised flags cs next)
+      barred_higher =
+          any_ext_in (λ b. eqb (get_or busies b 0) 1) (busy flags cs k (first_of flags cs k i)) (get_or cs next [])
+          (λ b m. rw (v.busy_are b (ltb-true b (length flags) (all_in (λ b. ltb b (length flags)) b (get_or cs next []) m bodies_exist))) (one-true (busy flags cs k (first_of flags cs k i) b)))
+          ∙ rw next_is (busy_higher flags cs k i (omega (arith, many)))
 
       own-not : eqb k (promised flags cs next) ≡ not (ltb k (promised flags cs next))
       own-not = by_cases (ltb k (promised flags cs next))
           (λ e. rw (e, ne_eqb k (promised flags cs next) (λ q. omega (arith, ltb-true k (promised flags cs next) e))))
-          (λ e. rw (e, eq-eqb k (promised flags cs next) (omega (arith, ltb-false k (promised flags cs next) e, next-listed.1))))
+          (λ e. rw (e, eq-eqb k (promised flags cs next) (omega (arith, ltb-false k (promised flags cs next) e, next_listed.1))))
 
       first_next : first_of flags cs k (i + 1) ≡ first_of flags cs k i ++ next ∷ []
-      first_next = rw (add-one, next-is) (take-suc (uncolored flags cs k) i 0 (omega (arith, many)))
+      first_next = rw (add-one, next_is) (take-suc (uncolored flags cs k) i 0 (omega (arith, many)))
 
       filter-next : (p : ℕ → Bool) → filter p (first_of flags cs k (i + 1)) ≡ filter p (first_of flags cs k i) ++ cond (p next) (next ∷ []) []
       filter-next p = rw first_next (filter-append p (first_of flags cs k i) (next ∷ []))
@@ -102,77 +102,77 @@ module _ {flags : List ℕ} {cs : List (List ℕ)} {k start count : ℕ} {remain
       busy-next : (b : ℕ) → busy flags cs k (first_of flags cs k (i + 1)) b
           ≡ (busy flags cs k (first_of flags cs k i) b || (flagged flags b && (eqb k (promised flags cs next) && mem b (get_or cs next []))))
       busy-next b = by_cases (flagged flags b)
-          (λ f. rw (f, next-is) (any_next (λ s. eqb k (promised flags cs s) && mem b (get_or cs s [])) (uncolored flags cs k) i (omega (arith, many))))
+          (λ f. rw (f, next_is) (any_next (λ s. eqb k (promised flags cs s) && mem b (get_or cs s [])) (uncolored flags cs k) i (omega (arith, many))))
           (λ f. rw f)
 
       -- it stays uncolored; the place after its group's list may have been written, and its bodies stay as they are
-      pub walk-left : (bs : List ℕ) {colored' busies' : List ℕ} → bs ≡ get_or cs next [] → barred busies bs ≡ true
+      pub walk_left : (bs : List ℕ) {colored' busies' : List ℕ} → bs ≡ get_or cs next [] → barred busies bs ≡ true
           → length colored' ≡ length colored → take end colored' ≡ take end colored
           → length busies' ≡ length busies → ((b : ℕ) → b < length flags → get_or busies' b 0 ≡ get_or busies b 0)
           → Passed flags cs k start remaining₀ colored₀ (set remaining left next) colored' busies' (left + 1) end (i + 1)
-      walk-left bs e h lc tc lb sb =
+      walk_left bs e h lc tc lb sb =
           record {
-            remaining-length = length-set remaining left next ∙ v.remaining-length;
-            members-length = lc ∙ v.members-length;
-            busy-length = lb ∙ v.busy-length;
+            remaining_length = length-set remaining left next ∙ v.remaining_length;
+            members_length = lc ∙ v.members_length;
+            busy_length = lb ∙ v.busy_length;
             order = omega (arith, v.order);
             ended = omega (arith, v.ended);
             rest = λ j m. get_or-set_other remaining left j next 0 (λ e. omega (arith, v.order)) ∙ v.rest j (omega arith);
             kept = appended ∙ rw v.kept (sym (filter-next (λ r. ltb k (promised flags cs r)) ∙ rw higher));
             grown = tc ∙ v.grown ∙ ap (λ (t : List ℕ). take start colored₀ ++ t) (sym others);
-            busy-are = λ b m. let q : busy flags cs k (first_of flags cs k (i + 1)) b ≡ busy flags cs k (first_of flags cs k i) b = busy-next b ∙ rw (own-not, higher, and-false, or-false) in
-                sb b m ∙ v.busy-are b m ∙ ap one (sym q);
+            busy_are = λ b m. let q : busy flags cs k (first_of flags cs k (i + 1)) b ≡ busy flags cs k (first_of flags cs k i) b = busy-next b ∙ rw (own-not, higher, and-false, or-false) in
+                sb b m ∙ v.busy_are b m ∙ ap one (sym q);
           }
         where
           higher : ltb k (promised flags cs next) ≡ true
-          higher = sym barred-higher ∙ ap (barred busies) (sym e) ∙ h
+          higher = sym barred_higher ∙ ap (barred busies) (sym e) ∙ h
 
           others : filter (λ r. eqb k (promised flags cs r)) (first_of flags cs k (i + 1)) ≡ filter (λ r. eqb k (promised flags cs r)) (first_of flags cs k i)
           others = filter-next (λ r. eqb k (promised flags cs r)) ∙ rw (own-not, higher, append-nil)
 
           appended : take (left + 1) (set remaining left next) ≡ take left remaining ++ next ∷ []
-          appended = rw add-one (take-suc-set remaining left next (omega (arith, v.order, v.remaining-length, o.counted, o.room)))
+          appended = rw add-one (take-suc-set remaining left next (omega (arith, v.order, v.remaining_length, o.counted, o.room)))
 
       -- it is listed
-      pub walk-given : (bs : List ℕ) {busies' : List ℕ} → bs ≡ get_or cs next [] → barred busies bs ≡ false → length busies' ≡ length busies → MadeBusy flags 1 bs busies busies'
+      pub walk_given : (bs : List ℕ) {busies' : List ℕ} → bs ≡ get_or cs next [] → barred busies bs ≡ false → length busies' ≡ length busies → MadeBusy flags 1 bs busies busies'
           → Passed flags cs k start remaining₀ colored₀ (set remaining left next) (set colored end next) busies' left (end + 1) (i + 1)
-      walk-given bs {busies'} e h same d =
+      walk_given bs {busies'} e h same d =
           record {
-            remaining-length = length-set remaining left next ∙ v.remaining-length;
-            members-length = length-set colored end next ∙ v.members-length;
-            busy-length = same ∙ v.busy-length;
+            remaining_length = length-set remaining left next ∙ v.remaining_length;
+            members_length = length-set colored end next ∙ v.members_length;
+            busy_length = same ∙ v.busy_length;
             order = omega (arith, v.order);
             ended = omega (arith, v.ended);
             rest = λ j m. get_or-set_other remaining left j next 0 (λ e. omega (arith, v.order)) ∙ v.rest j (omega arith);
             kept = take-set-le left remaining left next (omega arith) ∙ v.kept ∙ sym (filter-next (λ r. ltb k (promised flags cs r)) ∙ rw (lower, append-nil));
             grown = appended ∙ rw v.grown (append_assoc (take start colored₀) (filter (λ r. eqb k (promised flags cs r)) (first_of flags cs k i)) (next ∷ []) ∙ ap (λ (t : List ℕ). take start colored₀ ++ t) (sym own));
-            busy-are = λ b m. let q : busy flags cs k (first_of flags cs k (i + 1)) b ≡ (busy flags cs k (first_of flags cs k i) b || (flagged flags b && mem b (get_or cs next []))) = busy-next b ∙ rw (own-not, lower) in
-                d b (omega (arith, v.busy-length)) ∙ rw (v.busy-are b m, e) (cond-or (busy flags cs k (first_of flags cs k i) b) (flagged flags b && mem b (get_or cs next [])) 1 0 ∙ ap one (sym q));
+            busy_are = λ b m. let q : busy flags cs k (first_of flags cs k (i + 1)) b ≡ (busy flags cs k (first_of flags cs k i) b || (flagged flags b && mem b (get_or cs next []))) = busy-next b ∙ rw (own-not, lower) in
+                d b (omega (arith, v.busy_length)) ∙ rw (v.busy_are b m, e) (cond-or (busy flags cs k (first_of flags cs k i) b) (flagged flags b && mem b (get_or cs next [])) 1 0 ∙ ap one (sym q));
           }
         where
           lower : ltb k (promised flags cs next) ≡ false
-          lower = sym barred-higher ∙ ap (barred busies) (sym e) ∙ h
+          lower = sym barred_higher ∙ ap (barred busies) (sym e) ∙ h
 
           own : filter (λ r. eqb k (promised flags cs r)) (first_of flags cs k (i + 1)) ≡ filter (λ r. eqb k (promised flags cs r)) (first_of flags cs k i) ++ next ∷ []
           own = filter-next (λ r. eqb k (promised flags cs r)) ∙ rw (own-not, lower)
 
           appended : take (end + 1) (set colored end next) ≡ take end colored ++ next ∷ []
-          appended = rw add-one (take-suc-set colored end next end-in)
+          appended = rw add-one (take-suc-set colored end next end_in)
 
       -- it is passed without a branch: one of both
-      pub walk-passed : (bs : List ℕ) {busies' : List ℕ} (bit fits : ℕ) → bs ≡ get_or cs next [] → bit ≡ one (barred busies bs) → fits ≡ 1 - bit → length busies' ≡ length busies → MadeBusy flags fits bs busies busies'
+      pub walk_passed : (bs : List ℕ) {busies' : List ℕ} (bit fits : ℕ) → bs ≡ get_or cs next [] → bit ≡ one (barred busies bs) → fits ≡ 1 - bit → length busies' ≡ length busies → MadeBusy flags fits bs busies busies'
           → Passed flags cs k start remaining₀ colored₀ (set remaining left next) (set colored end next) busies' (left + bit) (end + fits) (i + 1)
-      walk-passed bs {busies'} bit fits e q f same d = by_cases (barred busies bs)
+      walk_passed bs {busies'} bit fits e q f same d = by_cases (barred busies bs)
           (λ h.
           let b1 : bit ≡ 1 = q ∙ ap one h in
           let f0 : fits ≡ 0 = omega arith in
           let e0 : end + 0 ≡ end = omega arith in
-          rw (b1, f0, e0) (walk-left bs e h (length-set colored end next) (take-set-le end colored end next (omega arith)) same (λ b m. rw f0 at (d b (omega (arith, v.busy-length))))))
+          rw (b1, f0, e0) (walk_left bs e h (length-set colored end next) (take-set-le end colored end next (omega arith)) same (λ b m. rw f0 at (d b (omega (arith, v.busy_length))))))
           (λ h.
           let b0 : bit ≡ 0 = q ∙ ap one h in
           let f1 : fits ≡ 1 = omega arith in
           let e0 : left + 0 ≡ left = omega arith in
-          rw (b0, f1, e0) (walk-given bs e h same (rw f1 at d)))
+          rw (b0, f1, e0) (walk_given bs e h same (rw f1 at d)))
 
     -- all are passed
     pub walk_ends : count ≤ i → i ≤ count → Walked flags cs k start count left remaining colored busies
@@ -180,11 +180,11 @@ module _ {flags : List ℕ} {cs : List (List ℕ)} {k start count : ℕ} {remain
     walk_ends l m =
         record {
           counted = omega (arith, v.order);
-          left-are = v.kept ∙ rw (all_first, add-one)
+          left_are = v.kept ∙ rw (all_first, add-one)
               (filter-filter (λ r. leb k (promised flags cs r)) (λ r. ltb k (promised flags cs r)) (range (length cs))
               (λ r h. le-leb k (promised flags cs r) (omega (arith, ltb-true k (promised flags cs r) h))));
-          grouped = ap (λ (n : ℕ). take n colored) end_is ∙ v.grown ∙ rw (o.grouped, all_first, own) (sym (flatten-suc (members (colorsOf flags cs)) k));
-          busy-are = λ b h. v.busy-are b h ∙ rw (all_first, on-group b);
+          grouped = ap (λ (n : ℕ). take n colored) end_is ∙ v.grown ∙ rw (o.grouped, all_first, own) (sym (flatten-suc (members (colors_of flags cs)) k));
+          busy_are = λ b h. v.busy_are b h ∙ rw (all_first, on_group b);
         }
       where
         all_first : first_of flags cs k i ≡ uncolored flags cs k
@@ -193,11 +193,11 @@ module _ {flags : List ℕ} {cs : List (List ℕ)} {k start count : ℕ} {remain
         end_is : start + (count - left) ≡ end
         end_is = omega (arith, v.ended, v.order)
 
-        own : filter (λ r. eqb k (promised flags cs r)) (uncolored flags cs k) ≡ members (colorsOf flags cs) k
+        own : filter (λ r. eqb k (promised flags cs r)) (uncolored flags cs k) ≡ members (colors_of flags cs) k
         own =
             filter-filter (λ r. leb k (promised flags cs r)) (λ r. eqb k (promised flags cs r)) (range (length cs))
             (λ r h. le-leb k (promised flags cs r) (omega (arith, eqb-true k (promised flags cs r) h)))
             ∙ ap (λ (n : ℕ). filter (λ r. eqb k (promised flags cs r)) (range n)) (sym (colors-length flags cs))
 
-        on-group : (b : ℕ) → any (λ s. eqb k (promised flags cs s) && mem b (get_or cs s [])) (uncolored flags cs k) ≡ touched cs (members (colorsOf flags cs) k) b
-        on-group b = rw (sym own) (sym (any-filter (λ r. mem b (get_or cs r [])) (λ r. eqb k (promised flags cs r)) (uncolored flags cs k)))
+        on_group : (b : ℕ) → any (λ s. eqb k (promised flags cs s) && mem b (get_or cs s [])) (uncolored flags cs k) ≡ touched cs (members (colors_of flags cs) k) b
+        on_group b = rw (sym own) (sym (any-filter (λ r. mem b (get_or cs r [])) (λ r. eqb k (promised flags cs r)) (uncolored flags cs k)))

@@ -3,7 +3,7 @@ use Prim.Native.Nat.{ℕ, suc}
 use mathlib.Core.Path.{◌≡◌, refl}
 use mathlib.Core.List.{List, [], ◌∷◌, map}
 use Rattle.lists.specs.Basics.{range}
-use Rattle.groups.specs.Groups.{clash, freeFrom, free, usedBy, colorFrom, colorsOf, groupCount}
+use Rattle.groups.specs.Groups.{clash, free_from, free, used_by, color_from, colors_of, group_count}
 use Rattle.coloring.specs.Coloring.{uncolored}
 
 record Sample : Type 0 where
@@ -31,9 +31,9 @@ samples =
 -- by the definitions
 abbrev walked : Sample → Sample
 walked s =
-    let colors = colorsOf s.flags s.constraints in
-    sample s.flags s.constraints colors (map (λ k. uncolored s.flags s.constraints (suc k)) (range (groupCount colors)))
+    let colors = colors_of s.flags s.constraints in
+    sample s.flags s.constraints colors (map (λ k. uncolored s.flags s.constraints (suc k)) (range (group_count colors)))
 
-pub walks-sampled : map walked samples ≡ samples
-unfolding clash freeFrom free usedBy colorFrom colorsOf groupCount uncolored
-walks-sampled = refl
+pub walks_sampled : map walked samples ≡ samples
+unfolding clash free_from free used_by color_from colors_of group_count uncolored
+walks_sampled = refl

@@ -2,7 +2,7 @@
 -- of whatever length.
 use Rattle.std.specs.Prelude.{ℕ, suc, ◌+◌, ◌-◌, ◌≤◌, ◌<◌, ◌≡◌, Bool, true, ◌&&◌, List, [], leb, ltb, length, get_or, take}
 use Rattle.lists.specs.Basics.{one, any, all, mem, filter, range, over}
-use Rattle.groups.specs.Groups.{flagged, colorsOf, groupCount, members, flatten, offsets}
+use Rattle.groups.specs.Groups.{flagged, colors_of, group_count, members, flatten, offsets}
 
 -- the sizes of what is lent, and bodies that exist; of what the tables hold nothing is asked
 pub record Ready (flags : List ℕ) (cs : List (List ℕ)) (remaining colors starts colored busy : List ℕ) : Type 0 where
@@ -10,23 +10,23 @@ pub record Ready (flags : List ℕ) (cs : List (List ℕ)) (remaining colors sta
   pub few : length colors ≤ 8192
   pub bodies : all (λ bs. all (λ b. ltb b (length flags)) bs) cs ≡ true
   pub room : length colors ≤ length remaining
-  pub starts-length : length starts ≡ length colors + 1
-  pub members-length : length colored ≡ length colors
-  pub busy-length : length busy ≡ length flags
+  pub starts_length : length starts ≡ length colors + 1
+  pub members_length : length colored ≡ length colors
+  pub busy_length : length busy ≡ length flags
 
 -- the colors, how many groups they make, the members of all groups and where each group starts, with the end; no body is left busy
-pub record Colored (flags : List ℕ) (cs : List (List ℕ)) (starts colors' starts' colored' busy' : List ℕ) (color-count : ℕ) : Type 0 where
-  pub colors-are : colors' ≡ colorsOf flags cs
-  pub count-is : color-count ≡ groupCount (colorsOf flags cs)
-  pub starts-are : starts' ≡ over (offsets (members (colorsOf flags cs)) color-count) starts
-  pub members-are : colored' ≡ flatten (members (colorsOf flags cs)) color-count
+pub record Colored (flags : List ℕ) (cs : List (List ℕ)) (starts colors' starts' colored' busy' : List ℕ) (color_count : ℕ) : Type 0 where
+  pub colors_are : colors' ≡ colors_of flags cs
+  pub count_is : color_count ≡ group_count (colors_of flags cs)
+  pub starts_are : starts' ≡ over (offsets (members (colors_of flags cs)) color_count) starts
+  pub members_are : colored' ≡ flatten (members (colors_of flags cs)) color_count
   pub idle : (b : ℕ) → b < length flags → get_or busy' b 0 ≡ 0
 
 -- ---- a walk for each color
 
 -- the color that constraint r is promised
 abbrev pub promised : List ℕ → List (List ℕ) → ℕ → ℕ
-promised flags cs r = get_or (colorsOf flags cs) r 0
+promised flags cs r = get_or (colors_of flags cs) r 0
 
 -- the constraints that are promised color k or a higher one, in list order
 unfoldable pub uncolored : List ℕ → List (List ℕ) → ℕ → List ℕ
@@ -42,17 +42,17 @@ pub record Opened (flags : List ℕ) (cs : List (List ℕ)) (k start count : ℕ
   pub few : length cs ≤ 8192
   pub bodies : all (λ bs. all (λ b. ltb b (length flags)) bs) cs ≡ true
   pub room : length cs ≤ length remaining
-  pub members-length : length colored ≡ length cs
-  pub busy-length : length busy ≡ length flags
+  pub members_length : length colored ≡ length cs
+  pub busy_length : length busy ≡ length flags
   pub counted : start + count ≡ length cs
   pub listed : take count remaining ≡ uncolored flags cs k
-  pub grouped : take start colored ≡ flatten (members (colorsOf flags cs)) k
+  pub grouped : take start colored ≡ flatten (members (colors_of flags cs)) k
   pub idle : (b : ℕ) → b < length flags → get_or busy b 0 ≡ 0
 
 -- its walk is made: uncolored are left exactly the constraints promised a higher color, the others are listed as group k, and busy are the
 -- dynamic bodies on them
 pub record Walked (flags : List ℕ) (cs : List (List ℕ)) (k start count left : ℕ) (remaining' colored' busy' : List ℕ) : Type 0 where
   pub counted : left ≤ count
-  pub left-are : take left remaining' ≡ uncolored flags cs (k + 1)
-  pub grouped : take (start + (count - left)) colored' ≡ flatten (members (colorsOf flags cs)) (suc k)
-  pub busy-are : (b : ℕ) → b < length flags → get_or busy' b 0 ≡ one (flagged flags b && touched cs (members (colorsOf flags cs) k) b)
+  pub left_are : take left remaining' ≡ uncolored flags cs (k + 1)
+  pub grouped : take (start + (count - left)) colored' ≡ flatten (members (colors_of flags cs)) (suc k)
+  pub busy_are : (b : ℕ) → b < length flags → get_or busy' b 0 ≡ one (flagged flags b && touched cs (members (colors_of flags cs) k) b)

@@ -15,7 +15,7 @@ MadeIdle bs busy busy' = (b : ℕ) → b < length busy → get_or busy' b 0 ≡ 
 -- the members ms of color k are constraints, on bodies that exist
 pub record Closable (cs : List (List ℕ)) (k : ℕ) (ms colors busy : List ℕ) : Type 0 where
   pub few : length colors ≤ 8192
-  pub color-few : k ≤ 8192
+  pub color_few : k ≤ 8192
   pub inside : all (λ r. ltb r (length colors)) ms ≡ true
   pub bodies : all (λ bs. all (λ b. ltb b (length busy)) bs) cs ≡ true
 

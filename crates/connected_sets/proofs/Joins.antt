@@ -8,7 +8,7 @@ use mathlib.Core.Logic.{◌⊎◌, inl, inr, ⊎_elim}
 use mathlib.Core.List.Memᴰ
 use mathlib.Core.List.{List, [], ◌∷◌, Memᴰ}
 use Rattle.island_sets.specs.Sets.{relabel, merge}
-use Rattle.island_sets.proofs.Merges.{relabel-cases, relabel-le, relabel-left, relabel-right}
+use Rattle.island_sets.proofs.Merges.{relabel_cases, relabel-le, relabel-left, relabel_right}
 use Rattle.connected_sets.specs.Islands.{Edge, join}
 
 -- the larger and the smaller of two are the two
@@ -21,8 +21,8 @@ ordered p q = go (dec_le p q)
 
 -- ---- an equivalence that holds over each edge holds from each body to its number
 module _ (R : ℕ → ℕ → Type 0) (same : (x : ℕ) → R x x) (back : (x y : ℕ) → R x y → R y x) (on : (x y z : ℕ) → R x y → R y z → R x z) where
-  merge-rel : (g : ℕ → ℕ) (a b : ℕ) → ((x : ℕ) → R x (g x)) → R a b → (x : ℕ) → R x (merge g a b x)
-  merge-rel g a b h e x = ⊎_elim hi (λ w. subst (λ (n : ℕ). R x n) (sym w.1) (h x)) (relabel-cases (g a) (g b) (g x))
+  merge_rel : (g : ℕ → ℕ) (a b : ℕ) → ((x : ℕ) → R x (g x)) → R a b → (x : ℕ) → R x (merge g a b x)
+  merge_rel g a b h e x = ⊎_elim hi (λ w. subst (λ (n : ℕ). R x n) (sym w.1) (h x)) (relabel_cases (g a) (g b) (g x))
     where
       across : R (g a) (g b)
       across = on _ _ _ (back _ _ (h a)) (on _ _ _ e (h b))
@@ -33,10 +33,10 @@ module _ (R : ℕ → ℕ → Type 0) (same : (x : ℕ) → R x x) (back : (x y 
           (λ o. subst (λ (n : ℕ). R x n) (sym o.1) (on _ _ _ (subst (λ (n : ℕ). R x n) (w.0 ∙ o.0) (h x)) (back _ _ across)))
           (ordered (g a) (g b)))
 
-  pub join-rel : (es : List Edge) (g : ℕ → ℕ) → ((x : ℕ) → R x (g x)) → ((e : Edge) → Memᴰ e es → R e.from e.to) → (x : ℕ) → R x (join g es x)
-  join-rel [] g h k x = h x
-  join-rel (e ∷ es) g h k x =
-      join-rel es (merge g e.from e.to) (merge-rel g e.from e.to h (k e (Memᴰ.head refl))) (λ e' m. k e' (Memᴰ.tail m)) x
+  pub join_rel : (es : List Edge) (g : ℕ → ℕ) → ((x : ℕ) → R x (g x)) → ((e : Edge) → Memᴰ e es → R e.from e.to) → (x : ℕ) → R x (join g es x)
+  join_rel [] g h k x = h x
+  join_rel (e ∷ es) g h k x =
+      join_rel es (merge g e.from e.to) (merge_rel g e.from e.to h (k e (Memᴰ.head refl))) (λ e' m. k e' (Memᴰ.tail m)) x
 
 pub join-le : (es : List Edge) (g : ℕ → ℕ) → ((x : ℕ) → g x ≤ x) → (x : ℕ) → join g es x ≤ x
 join-le [] g h x = h x
@@ -51,6 +51,6 @@ join-edge [] g e m = absurd (Memᴰ.not-nil m)
 join-edge (d ∷ es) g e m = ⊎_elim
     (λ q. join-same es (merge g d.from d.to) e.from e.to
     (subst (λ (c : Edge). merge g d.from d.to c.from ≡ merge g d.from d.to c.to) (sym q)
-    (relabel-left (g d.from) (g d.to) ∙ sym (relabel-right (g d.from) (g d.to)))))
+    (relabel-left (g d.from) (g d.to) ∙ sym (relabel_right (g d.from) (g d.to)))))
     (λ m'. join-edge es (merge g d.from d.to) e m')
     (Memᴰ.cases_cons m)

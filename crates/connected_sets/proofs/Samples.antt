@@ -3,8 +3,8 @@ use Prim.Native.Nat.{ℕ}
 use mathlib.Core.Path.{◌≡◌, refl}
 use mathlib.Core.List.{List, [], ◌∷◌, map}
 use Rattle.frame.specs.Frames.{frame_of, bodies, dynamic}
-use Rattle.island_sets.specs.Sets.{sizeIn, winner}
-use Rattle.connected_sets.specs.Islands.{edgesOf, edges, lowest, heaviest, setSize}
+use Rattle.island_sets.specs.Sets.{size_in, winner}
+use Rattle.connected_sets.specs.Islands.{edges_of, edges, lowest, heaviest, set_size}
 
 record Sample : Type 0 where
   types : List ℕ
@@ -34,8 +34,8 @@ samples =
 abbrev weighed : Sample → Sample
 weighed s =
     let f = frame_of s.types s.pairs [] [] in
-    sample s.types s.pairs (map (heaviest f) (bodies f)) (map (setSize f) (bodies f))
+    sample s.types s.pairs (map (heaviest f) (bodies f)) (map (set_size f) (bodies f))
 
-pub weights-sampled : map weighed samples ≡ samples
-unfolding heaviest setSize lowest edges edgesOf dynamic winner sizeIn
-weights-sampled = refl
+pub weights_sampled : map weighed samples ≡ samples
+unfolding heaviest set_size lowest edges edges_of dynamic winner size_in
+weights_sampled = refl

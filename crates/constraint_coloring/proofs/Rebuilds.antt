@@ -11,17 +11,17 @@ use lib.ListN.{length, get_or, take, drop}
 use lib.Seq.{take_at, take-append-le}
 use borrow.Author.Tests.{leb-true}
 use Rattle.lists.specs.Basics.{sum_of, max_of, range, over, all, distinct}
-use Rattle.lists.proofs.Laws.{and_left, and_right, all-weaken}
-use Rattle.lists.proofs.Ranges.{length-joinMap}
-use Rattle.lists.proofs.Sums.{sum-map}
+use Rattle.lists.proofs.Laws.{and_left, and_right, all_weaken}
+use Rattle.lists.proofs.Ranges.{length-join_map}
+use Rattle.lists.proofs.Sums.{sum_map}
 use Rattle.frame.specs.Frames.{fewest, most, fits}
 use Rattle.frame.proofs.Pairs.{fits_in}
-use Rattle.groups.specs.Groups.{planFrom, colorsOf, groupCount, members, largestGroup, positions, flatten, offsets}
-use Rattle.groups.proofs.Colors.{colors-length, groups-few as few-groups}
+use Rattle.groups.specs.Groups.{plan_from, colors_of, group_count, members, largest_group, positions, flatten, offsets}
+use Rattle.groups.proofs.Colors.{colors-length, groups_few as few_groups}
 use Rattle.groups.proofs.Tables.{length-offsets}
 use Rattle.parts.specs.Parts.{part_at, parts_at}
 use Rattle.parts.specs.Steps.{widest}
-use Rattle.parts.proofs.Groups.{widest-is}
+use Rattle.parts.proofs.Groups.{widest_is}
 use Rattle.parts.proofs.Parts.{parts-length}
 use Rattle.coloring.specs.Coloring.{Ready}
 use Rattle.gathering.specs.Gathers.{Gatherable}
@@ -31,9 +31,9 @@ use Rattle.constraint_coloring.specs.Stages.{Scheduled, Buildable}
 use Rattle.constraint_coloring.specs.declared.ConstraintColoring.{ConstraintColoring}
 
 -- the size of the largest group
-pub largest-is : (colors : List ℕ) (n : ℕ) → n ≡ groupCount colors → widest (offsets (members colors) n) ≡ largestGroup colors
-unfolding largestGroup
-largest-is colors n e = widest-is (members colors) n ∙ ap (λ (m : ℕ). max_of (λ k. length (members colors k)) (range m)) e
+pub largest_is : (colors : List ℕ) (n : ℕ) → n ≡ group_count colors → widest (offsets (members colors) n) ≡ largest_group colors
+unfolding largest_group
+largest_is colors n e = widest_is (members colors) n ∙ ap (λ (m : ℕ). max_of (λ k. length (members colors k)) (range m)) e
 
 carried-eq : (b c c' k k' m m' : ℕ) → c ≡ c' → k ≡ k' → m ≡ m'
     → ◌≡◌ {A = ConstraintColoring} (record { body_count = b; constraint_count = c; color_count = k; max_color_constraint_count = m })
@@ -41,8 +41,8 @@ carried-eq : (b c c' k k' m m' : ℕ) → c ≡ c' → k ≡ k' → m ≡ m'
 carried-eq b c c' k k' m m' p q r = simp (p, q, r)
 
 -- the first places of offsets that stand in a longer table
-pub starts-front : (g : ℕ → List ℕ) (k n : ℕ) (starts₀ starts rest : List ℕ) → starts ≡ over (offsets g k) starts₀ → length starts ≡ n → k + 1 ≤ n → take (k + 1) (starts ++ rest) ≡ offsets g k
-starts-front g k n starts₀ starts rest e l h =
+pub starts_front : (g : ℕ → List ℕ) (k n : ℕ) (starts₀ starts rest : List ℕ) → starts ≡ over (offsets g k) starts₀ → length starts ≡ n → k + 1 ≤ n → take (k + 1) (starts ++ rest) ≡ offsets g k
+starts_front g k n starts₀ starts rest e l h =
     take-append-le (k + 1) starts rest (omega arith) ∙ ap (λ (t : List ℕ). take (k + 1) t) e ∙ take_at (offsets g k) (drop (length (offsets g k)) starts₀) (k + 1) (length-offsets g k ∙ sym (add-one k))
 
 -- constraints that pass question 7 have at most four endpoints each
@@ -62,14 +62,14 @@ module _ {flags ends bounds : List ℕ} {n : ℕ} {t : Tables} (ok : Buildable f
 
   -- the colors that are promised
   abbrev pub promised : List ℕ
-  promised = colorsOf flags cs
+  promised = colors_of flags cs
 
-  bodies-below : all (λ bs. all (λ b. ltb b (length flags)) bs) cs ≡ true
-  bodies-below = all-weaken (fits (length flags)) (λ bs. all (λ b. ltb b (length flags)) bs) cs (fits_in (length flags)) ok.sound
+  bodies_below : all (λ bs. all (λ b. ltb b (length flags)) bs) cs ≡ true
+  bodies_below = all_weaken (fits (length flags)) (λ bs. all (λ b. ltb b (length flags)) bs) cs (fits_in (length flags)) ok.sound
 
-  ends-are : sum_of length cs ≡ length ends
+  ends_are : sum_of length cs ≡ length ends
   unfolding parts_at
-  ends-are = sum-map length (part_at bounds ends) (range n) ∙ sym (length-joinMap (part_at bounds ends) (range n)) ∙ sym ok.gapless.whole
+  ends_are = sum_map length (part_at bounds ends) (range n) ∙ sym (length-join_map (part_at bounds ends) (range n)) ∙ sym ok.gapless.whole
 
   ends_few : sum_of length cs ≤ 65535
   ends_few = omega (arith, ends-few (length flags) cs ok.sound, parts-length n bounds ends, ok.few)
@@ -81,31 +81,31 @@ module _ {flags ends bounds : List ℕ} {n : ℕ} {t : Tables} (ok : Buildable f
       (record {
         sized = c ∙ sym (parts-length n bounds ends);
         few = omega (arith, c, ok.few);
-        bodies = bodies-below;
+        bodies = bodies_below;
         room = omega (arith, c);
-        starts-length = omega (arith, c);
-        members-length = m ∙ sym c;
-        busy-length = b;
+        starts_length = omega (arith, c);
+        members_length = m ∙ sym c;
+        busy_length = b;
       })
 
-  pub groups-few : (k : ℕ) → k ≡ groupCount promised → k ≤ n
-  groups-few k e = omega (arith, few-groups flags cs, parts-length n bounds ends)
+  pub groups_few : (k : ℕ) → k ≡ group_count promised → k ≤ n
+  groups_few k e = omega (arith, few_groups flags cs, parts-length n bounds ends)
 
-  pub colors-long : length promised ≡ n
-  colors-long = colors-length flags cs ∙ parts-length n bounds ends
+  pub colors_long : length promised ≡ n
+  colors_long = colors-length flags cs ∙ parts-length n bounds ends
 
   -- what the walks leave can be gathered
-  pub gatherable : {colors starts constraints busy scratch body-starts bodies : List ℕ} (k : ℕ) → colors ≡ promised → k ≡ groupCount promised → starts ≡ offsets (members promised) k → constraints ≡ flatten (members promised) k
-      → length busy ≡ length flags → ((b : ℕ) → b < length flags → get_or busy b 0 ≡ 0) → length flags ≤ length scratch → length body-starts ≡ k + 1 → length bodies ≡ length ends
-      → Gatherable (length flags) (parts_at (length colors) bounds ends) colors k starts constraints busy scratch body-starts bodies × (k ≡ groupCount colors)
+  pub gatherable : {colors starts constraints busy scratch body_starts bodies : List ℕ} (k : ℕ) → colors ≡ promised → k ≡ group_count promised → starts ≡ offsets (members promised) k → constraints ≡ flatten (members promised) k
+      → length busy ≡ length flags → ((b : ℕ) → b < length flags → get_or busy b 0 ≡ 0) → length flags ≤ length scratch → length body_starts ≡ k + 1 → length bodies ≡ length ends
+      → Gatherable (length flags) (parts_at (length colors) bounds ends) colors k starts constraints busy scratch body_starts bodies × (k ≡ group_count colors)
   gatherable {colors} k ec ek es em lb idle room le lo =
-      let l : length colors ≡ n = ap length ec ∙ colors-long in
+      let l : length colors ≡ n = ap length ec ∙ colors_long in
       rw (ap (λ (m : ℕ). parts_at m bounds ends) l) (
         record {
-          few-bodies = ok.few-bodies;
+          few_bodies = ok.few_bodies;
           few = omega (arith, l, ok.few);
-          low = omega (arith, l, groups-few k ek);
-          below = bodies-below;
+          low = omega (arith, l, groups_few k ek);
+          below = bodies_below;
           small = ends_few;
           starts = rw ec es;
           constraints = rw ec em;
@@ -113,41 +113,41 @@ module _ {flags ends bounds : List ℕ} {n : ℕ} {t : Tables} (ok : Buildable f
           unstamped = idle;
           scratch = room;
           ends = le;
-          room = omega (arith, ends-are, lo);
+          room = omega (arith, ends_are, lo);
         },
         rw ec ek,
       )
 
   -- ---- what the plan says
-  pub plan-is : (k largest : ℕ) → k ≡ groupCount promised → largest ≡ largestGroup promised
-      → ◌≡◌ {A = ConstraintColoring} (record { body_count = length flags; constraint_count = n; color_count = k; max_color_constraint_count = largest }) (carried (planFrom flags cs))
-  unfolding planFrom
-  plan-is k largest ek el = carried-eq (length flags) n (length cs) k (groupCount promised) largest (largestGroup promised) (sym (parts-length n bounds ends)) ek el
+  pub plan_is : (k largest : ℕ) → k ≡ group_count promised → largest ≡ largest_group promised
+      → ◌≡◌ {A = ConstraintColoring} (record { body_count = length flags; constraint_count = n; color_count = k; max_color_constraint_count = largest }) (carried (plan_from flags cs))
+  unfolding plan_from
+  plan_is k largest ek el = carried-eq (length flags) n (length cs) k (group_count promised) largest (largest_group promised) (sym (parts-length n bounds ends)) ek el
 
-  pub colors-planned : (planFrom flags cs).colors ≡ promised
-  unfolding planFrom
-  colors-planned = refl
+  pub colors_planned : (plan_from flags cs).colors ≡ promised
+  unfolding plan_from
+  colors_planned = refl
 
-  pub starts-planned : (k : ℕ) → k ≡ groupCount promised → (planFrom flags cs).color-offsets ≡ offsets (members promised) k
-  unfolding planFrom
-  starts-planned k e = ap (offsets (members promised)) (sym e)
+  pub starts_planned : (k : ℕ) → k ≡ group_count promised → (plan_from flags cs).color_offsets ≡ offsets (members promised) k
+  unfolding plan_from
+  starts_planned k e = ap (offsets (members promised)) (sym e)
 
-  pub constraints-planned : (k : ℕ) → k ≡ groupCount promised → (planFrom flags cs).colored-constraints ≡ flatten (members promised) k
-  unfolding planFrom
-  constraints-planned k e = ap (flatten (members promised)) (sym e)
+  pub constraints_planned : (k : ℕ) → k ≡ group_count promised → (plan_from flags cs).colored_constraints ≡ flatten (members promised) k
+  unfolding plan_from
+  constraints_planned k e = ap (flatten (members promised)) (sym e)
 
-  module _ {colors bodies₀ body-starts bodies positions' : List ℕ} {k : ℕ} (ec : colors ≡ promised) (ek : k ≡ groupCount promised) (l : Scheduled (length flags) (parts_at (length colors) bounds ends) colors k bodies₀ body-starts bodies positions') where
-    listed : Scheduled (length flags) cs promised (groupCount promised) bodies₀ body-starts bodies positions'
-    listed = rw (ap (λ (m : ℕ). parts_at m bounds ends) (ap length ec ∙ colors-long), ec, ek) at l
+  module _ {colors bodies₀ body_starts bodies positions' : List ℕ} {k : ℕ} (ec : colors ≡ promised) (ek : k ≡ group_count promised) (l : Scheduled (length flags) (parts_at (length colors) bounds ends) colors k bodies₀ body_starts bodies positions') where
+    listed : Scheduled (length flags) cs promised (group_count promised) bodies₀ body_starts bodies positions'
+    listed = rw (ap (λ (m : ℕ). parts_at m bounds ends) (ap length ec ∙ colors_long), ec, ek) at l
 
-    pub body-starts-planned : body-starts ≡ (planFrom flags cs).color-body-offsets
-    unfolding planFrom
-    body-starts-planned = listed.gathered.starts
+    pub body-starts_planned : body_starts ≡ (plan_from flags cs).color_body_offsets
+    unfolding plan_from
+    body-starts_planned = listed.gathered.starts
 
-    pub bodies-planned : bodies ≡ over (planFrom flags cs).color-bodies bodies₀
-    unfolding planFrom
-    bodies-planned = listed.gathered.bodies
+    pub bodies_planned : bodies ≡ over (plan_from flags cs).color_bodies bodies₀
+    unfolding plan_from
+    bodies_planned = listed.gathered.bodies
 
-    pub positions-planned : positions' ≡ (planFrom flags cs).positions
-    unfolding planFrom
-    positions-planned = listed.positions ∙ ap (flatten (positions (length flags) cs promised)) (colors-length flags cs)
+    pub positions_planned : positions' ≡ (plan_from flags cs).positions
+    unfolding plan_from
+    positions_planned = listed.positions ∙ ap (flatten (positions (length flags) cs promised)) (colors-length flags cs)

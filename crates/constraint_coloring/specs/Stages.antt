@@ -11,28 +11,28 @@ use Rattle.constraint_coloring.specs.Calls.{carried, Leaves}
 use Rattle.constraint_coloring.specs.declared.ConstraintColoring.{ConstraintColoring}
 
 -- colored constraints cs are listed: the bodies of all groups, where each group's start, with the end, and the positions of all constraints
-pub record Scheduled (body-count : ℕ) (cs : List (List ℕ)) (constraint-colors : List ℕ) (color-count : ℕ) (color-bodies color-body-offsets' color-bodies' constraint-body-positions' : List ℕ) : Type 0 where
-  pub gathered : Gathered body-count cs constraint-colors color-count color-body-offsets' color-bodies color-bodies'
-  pub positions : constraint-body-positions' ≡ flatten (positions body-count cs constraint-colors) (length constraint-colors)
+pub record Scheduled (body_count : ℕ) (cs : List (List ℕ)) (constraint_colors : List ℕ) (color_count : ℕ) (color_bodies color_body_offsets' color_bodies' constraint_body_positions' : List ℕ) : Type 0 where
+  pub gathered : Gathered body_count cs constraint_colors color_count color_body_offsets' color_bodies color_bodies'
+  pub positions : constraint_body_positions' ≡ flatten (positions body_count cs constraint_colors) (length constraint_colors)
 
 -- n constraints that fill the endpoint list and pass question 7, and room in the tables that a build writes
 pub record Buildable (flags ends bounds : List ℕ) (n : ℕ) (t : Tables) : Type 0 where
-  pub few-bodies : length flags ≤ 4096
+  pub few_bodies : length flags ≤ 4096
   pub few : n ≤ 8192
   pub bounded : Bounded n bounds ends
   pub gapless : Gapless n bounds ends
   pub sound : all (fits (length flags)) (parts_at n bounds ends) ≡ true
-  pub dynamic-bodies : length flags ≤ length t.dynamic-bodies
+  pub dynamic_bodies : length flags ≤ length t.dynamic_bodies
   pub endpoints : length ends ≤ length t.endpoints
-  pub scratch-bodies : length flags ≤ length t.scratch-offsets
-  pub scratch-constraints : n ≤ length t.scratch-offsets
-  pub constraint-colors : n ≤ length t.constraint-colors
-  pub body-stamps : length flags ≤ length t.body-stamps
-  pub color-offsets : n + 1 ≤ length t.color-offsets
-  pub colored-constraints : n ≤ length t.colored-constraints
-  pub color-body-offsets : n + 1 ≤ length t.color-body-offsets
-  pub color-bodies : length ends ≤ length t.color-bodies
-  pub constraint-body-positions : length ends ≤ length t.constraint-body-positions
+  pub scratch_bodies : length flags ≤ length t.scratch_offsets
+  pub scratch_constraints : n ≤ length t.scratch_offsets
+  pub constraint_colors : n ≤ length t.constraint_colors
+  pub body_stamps : length flags ≤ length t.body_stamps
+  pub color_offsets : n + 1 ≤ length t.color_offsets
+  pub colored_constraints : n ≤ length t.colored_constraints
+  pub color_body_offsets : n + 1 ≤ length t.color_body_offsets
+  pub color_bodies : length ends ≤ length t.color_bodies
+  pub constraint_body_positions : length ends ≤ length t.constraint_body_positions
 
 -- the plan d is built: the tables t at entry and u at exit, what it carries r
 pub record Rebuilt (flags ends : List ℕ) (d : Plan) (t u : Tables) (r : ConstraintColoring) : Type 0 where

@@ -3,12 +3,12 @@
 
 ghost use Rattle.std.specs.Prelude.{◌≡◌, ◌≤◌, [], length};
 ghost use Rattle.lists.specs.Basics.{one, over};
-ghost use Rattle.groups.specs.Groups.{groupCount, planFrom};
+ghost use Rattle.groups.specs.Groups.{group_count, plan_from};
 ghost use Rattle.parts.specs.Parts.{parts_at, Bounded};
 ghost use Rattle.parts.specs.Steps.{Gapless};
 ghost use Rattle.gathering.specs.Gathers.{Gatherable};
-ghost use Rattle.plan_questions.specs.Plans.{tables_of, groupPart};
-ghost use Rattle.constraint_coloring.specs.Calls.{updateNumber, updateChanged, planAfter, freshPlan, Updated, Located};
+ghost use Rattle.plan_questions.specs.Plans.{tables_of, group_part};
+ghost use Rattle.constraint_coloring.specs.Calls.{update_number, update_changed, plan_after, fresh_plan, Updated, Located};
 ghost use Rattle.constraint_coloring.specs.Stages.{Scheduled, Buildable, Rebuilt};
 
 use frame::Frame;
@@ -32,7 +32,7 @@ pub enum Update {
 
 // What an update answered: the refusal or 0, 1 if it changed the plan, and the plan after it.
 pub fn refusal_of(answer: Update) -> u8
-    ensures { result ≡ updateNumber answer }
+    ensures { result ≡ update_number answer }
 {
     match answer {
         Update::Changed(_) => 0,
@@ -42,7 +42,7 @@ pub fn refusal_of(answer: Update) -> u8
 }
 
 pub fn is_changed(answer: Update) -> u8
-    ensures { result ≡ one (updateChanged answer) }
+    ensures { result ≡ one (update_changed answer) }
 {
     match answer {
         Update::Changed(_) => 1,
@@ -52,7 +52,7 @@ pub fn is_changed(answer: Update) -> u8
 }
 
 pub fn plan_after(plan: ConstraintColoring, answer: Update) -> ConstraintColoring
-    ensures { result ≡ planAfter plan answer }
+    ensures { result ≡ plan_after plan answer }
 {
     match answer {
         Update::Changed(changed) => changed,
@@ -97,7 +97,7 @@ fn list_groups(
     constraint_body_positions: &mut [u16],
 )
     requires bounded { Bounded (length constraint_colors.now) bounds.now endpoints.now × Gapless (length constraint_colors.now) bounds.now endpoints.now × (length constraint_body_positions.old ≡ length endpoints.now) }
-    requires gatherable { Gatherable body_count (parts_at (length constraint_colors.now) bounds.now endpoints.now) constraint_colors.now color_count color_offsets.now colored_constraints.now body_stamps.old scratch_offsets.old color_body_offsets.old color_bodies.old × (color_count ≡ groupCount constraint_colors.now) }
+    requires gatherable { Gatherable body_count (parts_at (length constraint_colors.now) bounds.now endpoints.now) constraint_colors.now color_count color_offsets.now colored_constraints.now body_stamps.old scratch_offsets.old color_body_offsets.old color_bodies.old × (color_count ≡ group_count constraint_colors.now) }
     ensures { Scheduled body_count (parts_at (length constraint_colors.now) bounds.now endpoints.now) constraint_colors.now color_count color_bodies.old color_body_offsets.new color_bodies.new constraint_body_positions.new }
 {
     gathering::gather(
@@ -154,7 +154,7 @@ pub fn build_plan(
         (tables_of dynamic_bodies.old endpoints.old [] [] scratch_offsets.old
         constraint_colors.old [] body_stamps.old color_offsets.old
         colored_constraints.old color_body_offsets.old color_bodies.old constraint_body_positions.old) }
-    ensures { Rebuilt flags.now ends.now (planFrom flags.now (parts_at constraint_count bounds.now ends.now))
+    ensures { Rebuilt flags.now ends.now (plan_from flags.now (parts_at constraint_count bounds.now ends.now))
         (tables_of dynamic_bodies.old endpoints.old [] [] scratch_offsets.old
         constraint_colors.old [] body_stamps.old color_offsets.old
         colored_constraints.old color_body_offsets.old color_bodies.old constraint_body_positions.old)
@@ -201,7 +201,7 @@ pub fn build_plan(
 impl ConstraintColoring {
     // A fresh plan: it remembers two empty lists.
     pub fn new() -> Self
-        ensures { result ≡ freshPlan }
+        ensures { result ≡ fresh_plan }
     {
         ConstraintColoring {
             body_count: 0,
@@ -296,7 +296,7 @@ impl ConstraintColoring {
         colored_constraints: &'a [u16],
         group: usize,
     ) -> &'a [u16]
-        ensures { result.now ≡ groupPart self.color_count color_offsets.now colored_constraints.now group }
+        ensures { result.now ≡ group_part self.color_count color_offsets.now colored_constraints.now group }
     {
         plan_questions::group_part(self.color_count, color_offsets, colored_constraints, group)
     }
@@ -308,7 +308,7 @@ impl ConstraintColoring {
         color_bodies: &'a [u16],
         group: usize,
     ) -> &'a [u16]
-        ensures { result.now ≡ groupPart self.color_count color_body_offsets.now color_bodies.now group }
+        ensures { result.now ≡ group_part self.color_count color_body_offsets.now color_bodies.now group }
     {
         plan_questions::group_part(self.color_count, color_body_offsets, color_bodies, group)
     }

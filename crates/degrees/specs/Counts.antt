@@ -1,21 +1,21 @@
 -- Constraints counted on each body.
 use Rattle.std.specs.Prelude.{ℕ, ◌+◌, ◌≤◌, ◌<◌, ◌≡◌, Bool, true, ◌&&◌, cond, List, [], ltb, eqb, length, get_or}
 use Rattle.lists.specs.Basics.{all, sum_of, count}
-use Rattle.frame.specs.Frames.{Constraint, frame_of, on, touches, sound, conflicts, endCount}
+use Rattle.frame.specs.Frames.{Constraint, frame_of, on, touches, sound, conflicts, end_count}
 
 -- a constraint counts for body b: it touches a dynamic body of these types, and is on b
-abbrev pub countsFor : List ℕ → ℕ → Constraint → Bool
-countsFor ts b c = touches (frame_of ts [] [] []) c && on b c
+abbrev pub counts_for : List ℕ → ℕ → Constraint → Bool
+counts_for ts b c = touches (frame_of ts [] [] []) c && on b c
 
 -- constraints that can be counted into a table: they pass question 7, each body has a place, and the counts fit 16 bits
 pub record Countable (ts : List ℕ) (cs : List Constraint) (counts : List ℕ) : Type 0 where
   pub sound : all (sound (length counts)) cs ≡ true
   pub long : length counts ≡ length ts
-  pub fits : (b : ℕ) → b < length counts → get_or counts b 0 + count (countsFor ts b) cs ≤ 65535
+  pub fits : (b : ℕ) → b < length counts → get_or counts b 0 + count (counts_for ts b) cs ≤ 65535
 
 -- each body's count has grown by the constraints that count for it
 pub record Counted (ts : List ℕ) (cs : List Constraint) (old new : List ℕ) : Type 0 where
-  pub each : (b : ℕ) → b < length old → get_or new b 0 ≡ get_or old b 0 + count (countsFor ts b) cs
+  pub each : (b : ℕ) → b < length old → get_or new b 0 ≡ get_or old b 0 + count (counts_for ts b) cs
 
 -- what a body of type t with n constraints counts for: only bodies that make conflicts do
 abbrev pub counted : ℕ → ℕ → ℕ
@@ -23,7 +23,7 @@ counted t n = cond (conflicts t) n 0
 
 -- counts that make these endpoints, without gaps; without counts they are pairs
 abbrev pub CountsOf : List ℕ → List ℕ → Type 0
-CountsOf counts ends = (length counts ≡ 0 → ⊥) → endCount counts ≡ length ends
+CountsOf counts ends = (length counts ≡ 0 → ⊥) → end_count counts ≡ length ends
 
 -- what body b gets if each of these endpoints counts this amount
 abbrev pub added : ℕ → List ℕ → ℕ → ℕ

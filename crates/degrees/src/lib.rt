@@ -3,7 +3,7 @@
 
 ghost use Rattle.std.specs.Prelude.{◌≤◌, ◌<◌, ◌≡◌, true, [], ◌∷◌, ltb, length, get_or};
 ghost use Rattle.lists.specs.Basics.{all, max_of, range};
-ghost use Rattle.frame.specs.Frames.{constraint, constraints, constraintsOf, counted_of, joints_of, frame_of, frame_with, endCount, touches, allSound, degreeMax};
+ghost use Rattle.frame.specs.Frames.{constraint, constraints, constraints_of, counted_of, joints_of, frame_of, frame_with, end_count, touches, all_sound, degree_max};
 ghost use Rattle.degrees.specs.Counts.{CountsOf, Addable, Added, Countable, Counted, counted};
 
 // Whether a live constraint on these two bodies touches a dynamic one: then it has an island.
@@ -28,8 +28,8 @@ fn count_one(types: &[u8], counts: &mut [u16], live: bool, a: u16, b: u16)
 
 // The constraints of a list of endpoint pairs; those with an enabled byte 0 are not counted.
 fn count_all(types: &[u8], pairs: &[u16], enabled: &[u8], counts: &mut [u16])
-    requires { Countable types.now (constraintsOf pairs.now enabled.now) counts.old }
-    ensures { Counted types.now (constraintsOf pairs.now enabled.now) counts.old counts.new }
+    requires { Countable types.now (constraints_of pairs.now enabled.now) counts.old }
+    ensures { Counted types.now (constraints_of pairs.now enabled.now) counts.old counts.new }
 {
     let mut k: usize = 0;
     let mut i: usize = 0;
@@ -89,7 +89,7 @@ fn count_counted(
     enabled: &[u8],
     counts: &mut [u16],
 )
-    requires { (endCount joint_counts.now ≤ length ends.now) × Countable types.now (counted_of joint_counts.now ends.now enabled.now) counts.old }
+    requires { (end_count joint_counts.now ≤ length ends.now) × Countable types.now (counted_of joint_counts.now ends.now enabled.now) counts.old }
     ensures { Counted types.now (counted_of joint_counts.now ends.now enabled.now) counts.old counts.new }
 {
     let mut start: usize = 0;
@@ -157,8 +157,8 @@ pub fn degree(
     on_bodies: &mut [u16],
 ) -> usize
     requires { (length on_bodies.old ≡ length types.now) × CountsOf counts.now joints.now
-        × (allSound (frame_with types.now manifolds.now joints.now counts.now enabled.now) ≡ true) × (length (constraints (frame_with types.now manifolds.now joints.now counts.now enabled.now)) ≤ 8192) }
-    ensures { result ≡ degreeMax (frame_with types.now manifolds.now joints.now counts.now enabled.now) }
+        × (all_sound (frame_with types.now manifolds.now joints.now counts.now enabled.now) ≡ true) × (length (constraints (frame_with types.now manifolds.now joints.now counts.now enabled.now)) ≤ 8192) }
+    ensures { result ≡ degree_max (frame_with types.now manifolds.now joints.now counts.now enabled.now) }
 {
     tables::fill(on_bodies, 0);
     count_all(types, manifolds, &[], on_bodies);

@@ -1,5 +1,5 @@
 -- Constraints that have a count each, one by one: the one at place i has that many endpoints behind those of the i before it. A loop
--- over them keeps its place among the endpoints as `endCount (take i cs)`, and the constraints from place i on as `drop i`.
+-- over them keeps its place among the endpoints as `end_count (take i cs)`, and the constraints from place i on as `drop i`.
 use Prim.Native.Nat.{ℕ, zero, suc, ◌+◌, ◌-◌, ◌*◌, ◌≤◌, ◌<◌}
 use mathlib.Core.Path.{◌≡◌, refl, ap, ◌∙◌}
 use mathlib.Core.Bool.{Bool, true, ◌&&◌}
@@ -12,36 +12,36 @@ use lib.Seq.{drop-nil, drop-cons, drop-drop}
 use borrow.Author.Tests.{leb-true}
 use Rattle.lists.specs.Basics.{all, distinct}
 use Rattle.lists.proofs.Laws.{and_left, and_right}
-use Rattle.frame.specs.Frames.{Constraint, counted, counted_of, joints_of, countsKnown, endCount, fits, sound}
+use Rattle.frame.specs.Frames.{Constraint, counted, counted_of, joints_of, counts_known, end_count, fits, sound}
 
 -- ---- where endpoints stand
 
 -- those of the first i constraints, and those of the others, are all
-pub ends-parts : (cs : List ℕ) (i : ℕ) → endCount (take i cs) + endCount (drop i cs) ≡ endCount cs
+pub ends-parts : (cs : List ℕ) (i : ℕ) → end_count (take i cs) + end_count (drop i cs) ≡ end_count cs
 ends-parts [] zero = refl
 ends-parts [] (suc i) = refl
 ends-parts (c ∷ cs) zero = omega arith
 ends-parts (c ∷ cs) (suc i) = omega (arith, ends-parts cs i)
 
 -- one more constraint
-one-more : (cs : List ℕ) (i : ℕ) → endCount (take (suc i) cs) ≡ endCount (take i cs) + get_or cs i 0
-one-more [] zero = refl
-one-more [] (suc i) = refl
-one-more (c ∷ cs) zero = omega arith
-one-more (c ∷ cs) (suc i) = omega (arith, one-more cs i)
+one_more : (cs : List ℕ) (i : ℕ) → end_count (take (suc i) cs) ≡ end_count (take i cs) + get_or cs i 0
+one_more [] zero = refl
+one_more [] (suc i) = refl
+one_more (c ∷ cs) zero = omega arith
+one_more (c ∷ cs) (suc i) = omega (arith, one_more cs i)
 
-pub ends-next : (cs : List ℕ) (i : ℕ) → endCount (take (i + 1) cs) ≡ endCount (take i cs) + get_or cs i 0
-ends-next cs i = rw add-one (one-more cs i)
+pub ends-next : (cs : List ℕ) (i : ℕ) → end_count (take (i + 1) cs) ≡ end_count (take i cs) + get_or cs i 0
+ends-next cs i = rw add-one (one_more cs i)
 
 -- the endpoints of the constraint at place i are there
-pub ends-inside : (cs bs : List ℕ) (i : ℕ) → endCount cs ≤ length bs → endCount (take i cs) + get_or cs i 0 ≤ length bs
-ends-inside cs bs i h = omega (arith, ends-next cs i, ends-parts cs (i + 1))
+pub ends_inside : (cs bs : List ℕ) (i : ℕ) → end_count cs ≤ length bs → end_count (take i cs) + get_or cs i 0 ≤ length bs
+ends_inside cs bs i h = omega (arith, ends-next cs i, ends-parts cs (i + 1))
 
 -- ---- the constraints
 
 -- the constraint at place i
 abbrev pub counted_at : List ℕ → List ℕ → List ℕ → ℕ → Constraint
-counted_at cs bs es i = record { ends = take (get_or cs i 0) (drop (endCount (take i cs)) bs); live = eqb (get_or es i 1) 1 }
+counted_at cs bs es i = record { ends = take (get_or cs i 0) (drop (end_count (take i cs)) bs); live = eqb (get_or es i 1) 1 }
 
 pub counted-length : (cs bs es : List ℕ) → length (counted_of cs bs es) ≡ length cs
 counted-length [] bs es = refl
@@ -49,22 +49,22 @@ counted-length (c ∷ cs) bs [] = ap suc (counted-length cs (drop c bs) [])
 counted-length (c ∷ cs) bs (e ∷ es) = ap suc (counted-length cs (drop c bs) es)
 
 -- those from place i on
-pub counted-drop : (cs bs es : List ℕ) (i : ℕ) → drop i (counted_of cs bs es) ≡ counted_of (drop i cs) (drop (endCount (take i cs)) bs) (drop i es)
+pub counted-drop : (cs bs es : List ℕ) (i : ℕ) → drop i (counted_of cs bs es) ≡ counted_of (drop i cs) (drop (end_count (take i cs)) bs) (drop i es)
 counted-drop [] bs es zero = refl
 counted-drop [] bs es (suc i) = refl
 counted-drop (c ∷ cs) bs es zero = refl
-counted-drop (c ∷ cs) bs [] (suc i) = rw drop-nil at (counted-drop cs (drop c bs) [] i) ∙ ap (λ (l : List ℕ). counted_of (drop i cs) l []) (drop-drop (endCount (take i cs)) c bs)
-counted-drop (c ∷ cs) bs (e ∷ es) (suc i) = counted-drop cs (drop c bs) es i ∙ ap (λ (l : List ℕ). counted_of (drop i cs) l (drop i es)) (drop-drop (endCount (take i cs)) c bs)
+counted-drop (c ∷ cs) bs [] (suc i) = rw drop-nil at (counted-drop cs (drop c bs) [] i) ∙ ap (λ (l : List ℕ). counted_of (drop i cs) l []) (drop-drop (end_count (take i cs)) c bs)
+counted-drop (c ∷ cs) bs (e ∷ es) (suc i) = counted-drop cs (drop c bs) es i ∙ ap (λ (l : List ℕ). counted_of (drop i cs) l (drop i es)) (drop-drop (end_count (take i cs)) c bs)
 
 pub counted-at : (cs bs es : List ℕ) (i : ℕ) (d : Constraint) → i < length cs → get_or (counted_of cs bs es) i d ≡ counted_at cs bs es i
 counted-at [] bs es i d h = absurd (omega arith)
 counted-at (c ∷ cs) bs [] zero d h = refl
 counted-at (c ∷ cs) bs (e ∷ es) zero d h = refl
-counted-at (c ∷ cs) bs [] (suc i) d h = counted-at cs (drop c bs) [] i d (omega arith) ∙ ap (λ (l : List ℕ). record { ends = take (get_or cs i 0) l; live = true }) (drop-drop (endCount (take i cs)) c bs)
-counted-at (c ∷ cs) bs (e ∷ es) (suc i) d h = counted-at cs (drop c bs) es i d (omega arith) ∙ ap (λ (l : List ℕ). record { ends = take (get_or cs i 0) l; live = eqb (get_or es i 1) 1 }) (drop-drop (endCount (take i cs)) c bs)
+counted-at (c ∷ cs) bs [] (suc i) d h = counted-at cs (drop c bs) [] i d (omega arith) ∙ ap (λ (l : List ℕ). record { ends = take (get_or cs i 0) l; live = true }) (drop-drop (end_count (take i cs)) c bs)
+counted-at (c ∷ cs) bs (e ∷ es) (suc i) d h = counted-at cs (drop c bs) es i d (omega arith) ∙ ap (λ (l : List ℕ). record { ends = take (get_or cs i 0) l; live = eqb (get_or es i 1) 1 }) (drop-drop (end_count (take i cs)) c bs)
 
 -- the next constraint of a loop, whose endpoints are cut out from k up to k + c, and the rest
-pub counted-next : (cs bs es : List ℕ) (k i c : ℕ) (live : Bool) → i < length cs → k ≡ endCount (take i cs) → c ≡ get_or cs i 0 → live ≡ eqb (get_or es i 1) 1
+pub counted-next : (cs bs es : List ℕ) (k i c : ℕ) (live : Bool) → i < length cs → k ≡ end_count (take i cs) → c ≡ get_or cs i 0 → live ≡ eqb (get_or es i 1) 1
     → drop i (counted_of cs bs es) ≡ record { ends = take (k + c - k) (drop k bs); live = live } ∷ drop (i + 1) (counted_of cs bs es)
 counted-next cs bs es k i c live h ek ec el =
     let part : k + c - k ≡ c = omega arith in
@@ -77,23 +77,23 @@ pub counted-end : (cs bs es : List ℕ) (i : ℕ) → length cs ≤ i → drop i
 counted-end cs bs es i h = drop_of_length-le (counted_of cs bs es) (omega (arith, counted-length cs bs es))
 
 -- joints by counts that question 4 passes; where there are none, there is no joint
-pub joints-counted : (cs bs es : List ℕ) → endCount cs ≡ length bs → joints_of cs bs es ≡ counted_of cs bs es
+pub joints-counted : (cs bs es : List ℕ) → end_count cs ≡ length bs → joints_of cs bs es ≡ counted_of cs bs es
 joints-counted [] [] es h = refl
 joints-counted [] (b ∷ bs) es h = absurd (omega arith)
 joints-counted (c ∷ cs) bs es h = refl
 
 -- ---- counts that pass question 5
-pub known-at : (cs : List ℕ) (i : ℕ) → countsKnown cs ≡ true → i < length cs → (2 ≤ get_or cs i 0) × (get_or cs i 0 ≤ 4)
+pub known-at : (cs : List ℕ) (i : ℕ) → counts_known cs ≡ true → i < length cs → (2 ≤ get_or cs i 0) × (get_or cs i 0 ≤ 4)
 known-at [] i e h = absurd (omega arith)
-known-at (c ∷ cs) zero e h = let k = and_left (counted c) (countsKnown cs) e in (leb-true 2 c (and_left (leb 2 c) (leb c 4) k), leb-true c 4 (and_right (leb 2 c) (leb c 4) k))
-known-at (c ∷ cs) (suc i) e h = known-at cs i (and_right (counted c) (countsKnown cs) e) (omega arith)
+known-at (c ∷ cs) zero e h = let k = and_left (counted c) (counts_known cs) e in (leb-true 2 c (and_left (leb 2 c) (leb c 4) k), leb-true c 4 (and_right (leb 2 c) (leb c 4) k))
+known-at (c ∷ cs) (suc i) e h = known-at cs i (and_right (counted c) (counts_known cs) e) (omega arith)
 
 -- they make two to four endpoints a constraint
-pub known-many : (cs : List ℕ) → countsKnown cs ≡ true → (2 * length cs ≤ endCount cs) × (endCount cs ≤ 4 * length cs)
+pub known-many : (cs : List ℕ) → counts_known cs ≡ true → (2 * length cs ≤ end_count cs) × (end_count cs ≤ 4 * length cs)
 known-many [] e = (omega arith, omega arith)
 known-many (c ∷ cs) e =
     let k = known-at (c ∷ cs) 0 e (omega arith) in
-    let r = known-many cs (and_right (counted c) (countsKnown cs) e) in
+    let r = known-many cs (and_right (counted c) (counts_known cs) e) in
     (omega arith, omega arith)
 
 -- ---- endpoints that pass question 7

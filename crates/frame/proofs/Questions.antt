@@ -8,7 +8,7 @@ use lib.Dec.{leb, ltb, eqb}
 use borrow.Author.Tests.{eqb-true, eqb-false, leb-true, ltb-true, ne_eqb}
 use Rattle.lists.specs.Basics.{all}
 use Rattle.lists.proofs.Laws.{and_left, and_right, by_cases}
-use Rattle.frame.specs.Questions.{Question, asked, fewEach}
+use Rattle.frame.specs.Questions.{Question, asked, few_each}
 
 -- a question that passed
 pub passed : (b : Bool) (rest k : ℕ) → cond b rest (suc k) ≡ 0 → (b ≡ true) × (rest ≡ 0)
@@ -32,8 +32,8 @@ pub asked-both : (qs rs : List Question) → Numbered qs → asked (qs ++ rs) �
 asked-both qs rs h e = zero-cond (asked qs) (asked rs) (sym (asked-append qs rs h) ∙ e)
 
 -- what a "yes" to question 3 says
-pub few-each : (b m j : ℕ) → fewEach b m j ≡ true → (b ≤ 4096) × (m ≤ 4096) × (j ≤ 4096)
-unfolding fewEach
+pub few-each : (b m j : ℕ) → few_each b m j ≡ true → (b ≤ 4096) × (m ≤ 4096) × (j ≤ 4096)
+unfolding few_each
 few-each b m j e =
     let two = and_left (leb b 4096 && leb m 4096) (leb j 4096) e in
     (leb-true b 4096 (and_left (leb b 4096) (leb m 4096) two), leb-true m 4096 (and_right (leb b 4096) (leb m 4096) two), leb-true j 4096 (and_right (leb b 4096 && leb m 4096) (leb j 4096) e))

@@ -4,31 +4,31 @@ use Rattle.frame.specs.declared.Frame.{Frame}
 use Rattle.frame.specs.declared.Reading.{Reading}
 use Rattle.frame.specs.declared.Reading.TheVariants.{Accepted, Refused}
 use Rattle.frame.specs.Questions.{asked}
-use Rattle.frame.specs.Files.{byte, countB, countM, countJ, jointEndsIn, fileQuestions}
+use Rattle.frame.specs.Files.{byte, count_b, count_m, count_j, joint_ends_in, file_questions}
 
 -- 0 where the file was accepted
-abbrev pub readNumber : Reading → ℕ
-readNumber (Accepted f) = 0
-readNumber (Refused n) = n
+abbrev pub read_number : Reading → ℕ
+read_number (Accepted f) = 0
+read_number (Refused n) = n
 
 -- whether it is a refusal: that has a number, never 0
-abbrev pub readRefused : Reading → Bool
-readRefused (Accepted f) = false
-readRefused (Refused n) = true
+abbrev pub read_refused : Reading → Bool
+read_refused (Accepted f) = false
+read_refused (Refused n) = true
 
 -- the version, B, M, J and the number of the joints' endpoints; all 0 where it was refused
-abbrev pub noSizes : Frame
-noSizes = record { version = 0; bodies = 0; manifolds = 0; joints = 0; joint_ends = 0 }
+abbrev pub no_sizes : Frame
+no_sizes = record { version = 0; bodies = 0; manifolds = 0; joints = 0; joint_ends = 0 }
 
-abbrev pub readSizes : Reading → Frame
-readSizes (Accepted f) = f
-readSizes (Refused n) = noSizes
+abbrev pub read_sizes : Reading → Frame
+read_sizes (Accepted f) = f
+read_sizes (Refused n) = no_sizes
 
-abbrev pub sizesOf : List ℕ → Frame
-sizesOf bs = record { version = byte bs 0; bodies = countB bs; manifolds = countM bs; joints = countJ bs; joint_ends = length (jointEndsIn bs) }
+abbrev pub sizes_of : List ℕ → Frame
+sizes_of bs = record { version = byte bs 0; bodies = count_b bs; manifolds = count_m bs; joints = count_j bs; joint_ends = length (joint_ends_in bs) }
 
 -- the contract of reading a file: questions 1 to 5, and the sizes
 pub record Read (bs : List ℕ) (r : Reading) : Type 0 where
-  pub refusal : readNumber r ≡ asked (fileQuestions bs)
-  pub refused : readRefused r ≡ not (eqb (asked (fileQuestions bs)) 0)
-  pub sizes : readSizes r ≡ cond (eqb (asked (fileQuestions bs)) 0) (sizesOf bs) noSizes
+  pub refusal : read_number r ≡ asked (file_questions bs)
+  pub refused : read_refused r ≡ not (eqb (asked (file_questions bs)) 0)
+  pub sizes : read_sizes r ≡ cond (eqb (asked (file_questions bs)) 0) (sizes_of bs) no_sizes

@@ -43,8 +43,8 @@ bodies f = range (length f.types)
 abbrev pub nothing : Constraint
 nothing = record { ends = []; live = false }
 
-unfoldable pub constraintAt : Frame → ℕ → Constraint
-constraintAt f n = get_or (constraints f) n nothing
+unfoldable pub constraint_at : Frame → ℕ → Constraint
+constraint_at f n = get_or (constraints f) n nothing
 
 -- is the body of this number dynamic?
 unfoldable pub dynamic : Frame → ℕ → Bool
@@ -80,23 +80,23 @@ unfoldable pub sound : ℕ → Constraint → Bool
 sound nb c = not c.live || fits nb c.ends
 
 -- question 7 of a frame
-unfoldable pub allSound : Frame → Bool
-allSound f = all (sound (length f.types)) (constraints f)
+unfoldable pub all_sound : Frame → Bool
+all_sound f = all (sound (length f.types)) (constraints f)
 
 -- turns: the constraints that touch a dynamic body
-unfoldable pub turnCount : Frame → ℕ
-turnCount f = count (touches f) (constraints f)
+unfoldable pub turn_count : Frame → ℕ
+turn_count f = count (touches f) (constraints f)
 
 -- the constraints on a body that have an island, as those that touch a dynamic body do; counted for bodies that make conflicts only. Their
 -- sum is the takes, the largest is D
 unfoldable pub degree : Frame → ℕ → ℕ
 degree f b = cond (conflicting f b) (count (λ c. touches f c && on b c) (constraints f)) 0
 
-unfoldable pub degreeSum : Frame → ℕ
-degreeSum f = sum_of (degree f) (bodies f)
+unfoldable pub degree_sum : Frame → ℕ
+degree_sum f = sum_of (degree f) (bodies f)
 
-unfoldable pub degreeMax : Frame → ℕ
-degreeMax f = max_of (degree f) (bodies f)
+unfoldable pub degree_max : Frame → ℕ
+degree_max f = max_of (degree f) (bodies f)
 
 -- ---- a frame as a call is lent it: types, endpoint pairs a, b, a, b, .., enabled bytes
 
@@ -104,15 +104,15 @@ degreeMax f = max_of (degree f) (bodies f)
 abbrev pub constraint : Bool → ℕ → ℕ → Constraint
 constraint live a b = record { ends = a ∷ b ∷ []; live = live }
 
-abbrev pub constraintsOf : List ℕ → List ℕ → List Constraint
-constraintsOf [] es = []
-constraintsOf (a ∷ []) es = []
-constraintsOf (a ∷ b ∷ r) [] = constraint true a b ∷ constraintsOf r []
-constraintsOf (a ∷ b ∷ r) (e ∷ es) = constraint (eqb e 1) a b ∷ constraintsOf r es
+abbrev pub constraints_of : List ℕ → List ℕ → List Constraint
+constraints_of [] es = []
+constraints_of (a ∷ []) es = []
+constraints_of (a ∷ b ∷ r) [] = constraint true a b ∷ constraints_of r []
+constraints_of (a ∷ b ∷ r) (e ∷ es) = constraint (eqb e 1) a b ∷ constraints_of r es
 
 -- the frame of types, manifold pairs, joint pairs and the joints' enabled bytes
 abbrev pub frame_of : List ℕ → List ℕ → List ℕ → List ℕ → Frame
-frame_of ts ps js es = record { types = ts; manifolds = constraintsOf ps []; joints = constraintsOf js es }
+frame_of ts ps js es = record { types = ts; manifolds = constraints_of ps []; joints = constraints_of js es }
 
 -- constraints that have a count each: their endpoints stand constraint after constraint; live as pairs are
 abbrev pub counted_of : List ℕ → List ℕ → List ℕ → List Constraint
@@ -122,20 +122,20 @@ counted_of (c ∷ cs) bs (e ∷ es) = record { ends = take c bs; live = eqb e 1 
 
 -- joints by their counts; where there are no counts, pairs
 abbrev pub joints_of : List ℕ → List ℕ → List ℕ → List Constraint
-joints_of [] bs es = constraintsOf bs es
+joints_of [] bs es = constraints_of bs es
 joints_of (c ∷ cs) bs es = counted_of (c ∷ cs) bs es
 
 -- the frame of types, manifold pairs, joint endpoints, the joints' counts and their enabled bytes
 abbrev pub frame_with : List ℕ → List ℕ → List ℕ → List ℕ → List ℕ → Frame
-frame_with ts ps bs cs es = record { types = ts; manifolds = constraintsOf ps []; joints = joints_of cs bs es }
+frame_with ts ps bs cs es = record { types = ts; manifolds = constraints_of ps []; joints = joints_of cs bs es }
 
 -- question 5 of counts, and how many endpoints they make
-abbrev pub countsKnown : List ℕ → Bool
-countsKnown cs = all counted cs
+abbrev pub counts_known : List ℕ → Bool
+counts_known cs = all counted cs
 
-abbrev pub endCount : List ℕ → ℕ
-endCount cs = sum_of (λ c. c) cs
+abbrev pub end_count : List ℕ → ℕ
+end_count cs = sum_of (λ c. c) cs
 
 -- a body's flag, from its type: 1 if it makes conflicts
-abbrev pub flagOf : ℕ → ℕ
-flagOf t = one (conflicts t)
+abbrev pub flag_of : ℕ → ℕ
+flag_of t = one (conflicts t)

@@ -2,7 +2,7 @@
 // of an entry is found only by a walk over those before it.
 ghost use Rattle.std.specs.Prelude.{◌≡◌, ◌+◌, ◌*◌, ◌≤◌, length};
 ghost use Rattle.frame.specs.Questions.{bits};
-ghost use Rattle.frame.specs.Files.{entryRefusal, entriesRefusal, placesFrom, halvesFrom, liveFrom, countJ, jointsAt};
+ghost use Rattle.frame.specs.Files.{entry_refusal, entries_refusal, places_from, halves_from, live_from, count_j, joints_at};
 ghost use Rattle.frame.specs.Joints.{Walks, Walkable, Entered, Placeable};
 
 use crate::multi::counted;
@@ -18,7 +18,7 @@ pub struct Walked {
 // The entry at a place of the file: cut off before its count is met (4), a wrong count (5), cut off behind it (4), or 0.
 fn entry_refusal(bytes: &[u8], at: usize) -> u8
     requires { at ≤ length bytes.now }
-    ensures { result ≡ entryRefusal bytes.now at }
+    ensures { result ≡ entry_refusal bytes.now at }
 {
     let left = bytes.len() - at;
     if left < 2 {
@@ -70,8 +70,8 @@ pub fn walk(bytes: &[u8], from: usize, joints: usize) -> Walked
 
 // Question 5 of the enabled bytes of the `joints` entries that start at `from`.
 pub fn enabled_known(bytes: &[u8], from: usize, joints: usize) -> bool
-    requires { entriesRefusal bytes.now from joints ≡ 0 }
-    ensures { result ≡ bits (liveFrom bytes.now from joints) }
+    requires { entries_refusal bytes.now from joints ≡ 0 }
+    ensures { result ≡ bits (live_from bytes.now from joints) }
 {
     let mut at = from;
     let mut left = joints;
@@ -89,7 +89,7 @@ pub fn enabled_known(bytes: &[u8], from: usize, joints: usize) -> bool
 // Numbers of 16 bits, from place `from` on.
 fn decode_halves(bytes: &[u8], from: usize, halves: &mut [u16])
     requires { from + 2 * length halves.old ≤ length bytes.now }
-    ensures { halves.new ≡ halvesFrom bytes.now from (length halves.old) }
+    ensures { halves.new ≡ halves_from bytes.now from (length halves.old) }
 {
     let mut at = from;
     let mut k = 0;
@@ -124,7 +124,7 @@ pub fn decode(bytes: &[u8], from: usize, ends: &mut [u16], counts: &mut [u8], en
 // The places of all entries of a file.
 pub fn entry_places(bytes: &[u8], places: &mut [u16])
     requires { Placeable bytes.now places.old }
-    ensures { places.new ≡ placesFrom bytes.now (jointsAt bytes.now) (countJ bytes.now) }
+    ensures { places.new ≡ places_from bytes.now (joints_at bytes.now) (count_j bytes.now) }
 {
     let mut at = HEADER + half_at(bytes, 5) + PAIR * half_at(bytes, 7);
     let mut j = 0;

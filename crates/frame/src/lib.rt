@@ -9,12 +9,12 @@ pub mod multi;
 
 ghost use Rattle.std.specs.Prelude.{◌≡◌, ◌&&◌, ◌||◌, map, ◌+◌, ◌-◌, ◌*◌, ◌/◌, ◌%◌, ◌≤◌, ◌<◌, leb, ltb, eqb, length, get_or, take, drop, replicate};
 ghost use Rattle.lists.specs.Basics.{all};
-ghost use Rattle.frame.specs.Frames.{constraint, constraintsOf, sound, conflicts, flagOf};
-ghost use Rattle.frame.specs.Questions.{asked, fewEach, bits};
-ghost use Rattle.frame.specs.Files.{byte, half, word, second, pairsFrom, enabledFrom, countM, countJ, jointsAt, liveIn, ends_at, headQuestions};
+ghost use Rattle.frame.specs.Frames.{constraint, constraints_of, sound, conflicts, flag_of};
+ghost use Rattle.frame.specs.Questions.{asked, few_each, bits};
+ghost use Rattle.frame.specs.Files.{byte, half, word, second, pairs_from, enabled_from, count_m, count_j, joints_at, live_in, ends_at, head_questions};
 ghost use Rattle.frame.specs.Joints.{JointsRead, Passed};
 ghost use Rattle.frame.specs.Decodes.{Decodable, Decoded};
-ghost use Rattle.frame.specs.Answers.{readNumber, readSizes, Read};
+ghost use Rattle.frame.specs.Answers.{read_number, read_sizes, Read};
 
 use crate::entries::Walked;
 
@@ -44,7 +44,7 @@ pub enum Reading {
 
 // What reading the file answered: the refusal or 0, and the sizes.
 pub fn refusal_of(reading: Reading) -> u8
-    ensures { result ≡ readNumber reading }
+    ensures { result ≡ read_number reading }
 {
     match reading {
         Reading::Accepted(_) => 0,
@@ -53,7 +53,7 @@ pub fn refusal_of(reading: Reading) -> u8
 }
 
 pub fn sizes_of(reading: Reading) -> Frame
-    ensures { result ≡ readSizes reading }
+    ensures { result ≡ read_sizes reading }
 {
     match reading {
         Reading::Accepted(sizes) => sizes,
@@ -119,7 +119,7 @@ fn length_right(bytes: &[u8]) -> bool
 
 // Question 3.
 pub fn few_each(bodies: usize, manifolds: usize, joints: usize) -> bool
-    ensures { result ≡ fewEach bodies manifolds joints }
+    ensures { result ≡ few_each bodies manifolds joints }
 {
     (bodies <= Frame::MAX_BODIES)
         & (manifolds <= Frame::MAX_MANIFOLDS)
@@ -128,7 +128,7 @@ pub fn few_each(bodies: usize, manifolds: usize, joints: usize) -> bool
 
 // Questions 1 to 3; 0 where all get a "yes".
 fn head_refusal(bytes: &[u8]) -> u8
-    ensures { result ≡ asked (headQuestions bytes.now) }
+    ensures { result ≡ asked (head_questions bytes.now) }
 {
     if !version_known(bytes) {
         return 1;
@@ -144,7 +144,7 @@ fn head_refusal(bytes: &[u8]) -> u8
 
 // Questions 5 (of counts) and 4 of the joints that start at `from`: the walk of version 2, the length of version 1.
 fn walk_joints(bytes: &[u8], from: usize, joints: usize) -> Walked
-    requires { (asked (headQuestions bytes.now) ≡ 0) × (from ≡ jointsAt bytes.now) × (joints ≡ countJ bytes.now) }
+    requires { (asked (head_questions bytes.now) ≡ 0) × (from ≡ joints_at bytes.now) × (joints ≡ count_j bytes.now) }
     ensures { JointsRead bytes.now result }
 {
     if is_second(bytes) {
@@ -179,7 +179,7 @@ pub fn at_most(s: &[u8], limit: u8) -> bool
 // Question 5 of the enabled bytes of the `joints` joints that start at `from`, version 1.
 fn enabled_known(bytes: &[u8], from: usize, joints: usize) -> bool
     requires { (from + 5 * joints ≤ length bytes.now) × (joints ≤ 4096) }
-    ensures { result ≡ bits (enabledFrom bytes.now from joints) }
+    ensures { result ≡ bits (enabled_from bytes.now from joints) }
 {
     let mut at = from;
     let mut left = joints;
@@ -197,7 +197,7 @@ fn enabled_known(bytes: &[u8], from: usize, joints: usize) -> bool
 // Question 5 of the enabled bytes, by version.
 fn live_known(bytes: &[u8], from: usize, joints: usize) -> bool
     requires { Passed bytes.now from joints }
-    ensures { result ≡ bits (liveIn bytes.now) }
+    ensures { result ≡ bits (live_in bytes.now) }
 {
     if is_second(bytes) {
         return entries::enabled_known(bytes, from, joints);
@@ -277,7 +277,7 @@ pub fn conflicts(t: u8) -> bool
 
 // Its flag in a coloring, and its mark in a binding.
 pub fn flag_of(t: u8) -> u8
-    ensures { result ≡ flagOf t }
+    ensures { result ≡ flag_of t }
 {
     conflicts(t) as u8
 }
@@ -285,7 +285,7 @@ pub fn flag_of(t: u8) -> u8
 // The flags of types.
 fn flag_bodies(types: &[u8], flags: &mut [u8])
     requires { length flags.old ≡ length types.now }
-    ensures { flags.new ≡ map flagOf types.now }
+    ensures { flags.new ≡ map flag_of types.now }
 {
     let mut i = 0;
     // The first i flags are those of their types.
@@ -298,7 +298,7 @@ fn flag_bodies(types: &[u8], flags: &mut [u8])
 // The endpoint pairs that start at `from`, one every `step` bytes.
 fn decode_pairs(bytes: &[u8], from: usize, step: usize, pairs: &mut [u16])
     requires { (4 ≤ step) × (from + step * (length pairs.old / 2) ≤ length bytes.now) × (length pairs.old % 2 ≡ 0) }
-    ensures { pairs.new ≡ pairsFrom bytes.now from step (length pairs.old / 2) }
+    ensures { pairs.new ≡ pairs_from bytes.now from step (length pairs.old / 2) }
 {
     let mut at = from;
     let mut k = 0;
@@ -314,7 +314,7 @@ fn decode_pairs(bytes: &[u8], from: usize, step: usize, pairs: &mut [u16])
 // The enabled bytes of the joints that start at `from`, version 1.
 fn decode_enabled(bytes: &[u8], from: usize, enabled: &mut [u8])
     requires { from + 5 * length enabled.old ≤ length bytes.now }
-    ensures { enabled.new ≡ enabledFrom bytes.now from (length enabled.old) }
+    ensures { enabled.new ≡ enabled_from bytes.now from (length enabled.old) }
 {
     let mut at = from;
     let mut j = 0;
@@ -392,7 +392,7 @@ pub fn half_or_zero(bytes: &[u8], i: usize) -> usize
 
 // How many constraints a file says it has.
 pub fn constraint_count(bytes: &[u8]) -> usize
-    ensures { (result ≡ countM bytes.now + countJ bytes.now) × (result < 131072) }
+    ensures { (result ≡ count_m bytes.now + count_j bytes.now) × (result < 131072) }
 {
     half_or_zero(bytes, 7) + half_or_zero(bytes, 9)
 }
@@ -433,7 +433,7 @@ pub fn sound_one(bodies: usize, live: bool, a: u16, b: u16) -> bool
 
 // Question 7 of a list of endpoint pairs; those with an enabled byte 0 are not looked at.
 pub fn all_sound(bodies: usize, pairs: &[u16], enabled: &[u8]) -> bool
-    ensures { result ≡ all (sound bodies) (constraintsOf pairs.now enabled.now) }
+    ensures { result ≡ all (sound bodies) (constraints_of pairs.now enabled.now) }
 {
     let mut k: usize = 0;
     let mut i: usize = 0;

@@ -2,7 +2,7 @@
 // several calls ask of such lists (questions 4, 5 and 7).
 ghost use Rattle.std.specs.Prelude.{◌≡◌, ◌&&◌, ◌≤◌, ltb, length};
 ghost use Rattle.lists.specs.Basics.{all, mem, distinct};
-ghost use Rattle.frame.specs.Frames.{counted, countsKnown, endCount, counted_of, fits, sound};
+ghost use Rattle.frame.specs.Frames.{counted, counts_known, end_count, counted_of, fits, sound};
 
 use crate::{Frame, live_at, wide};
 
@@ -15,7 +15,7 @@ pub fn counted(count: usize) -> bool
 
 // Question 5 of lent counts: is each two to four?
 pub fn counts_known(counts: &[u8]) -> bool
-    ensures { result ≡ countsKnown counts.now }
+    ensures { result ≡ counts_known counts.now }
 {
     let mut known = true;
     let mut i = 0;
@@ -30,7 +30,7 @@ pub fn counts_known(counts: &[u8]) -> bool
 // The sum of lent counts: how many endpoints question 4 wants.
 pub fn sum_counts(counts: &[u8]) -> usize
     requires { length counts.now ≤ 8192 }
-    ensures { result ≡ endCount counts.now }
+    ensures { result ≡ end_count counts.now }
 {
     let mut sum: usize = 0;
     let mut i = 0;
@@ -95,7 +95,7 @@ pub fn sound_ends(bodies: usize, live: bool, ends: &[u16]) -> bool
 
 // Question 7 of constraints by their counts; those with an enabled byte 0 are not looked at.
 pub fn all_fit(bodies: usize, ends: &[u16], counts: &[u8], enabled: &[u8]) -> bool
-    requires { endCount counts.now ≤ length ends.now }
+    requires { end_count counts.now ≤ length ends.now }
     ensures { result ≡ all (sound bodies) (counted_of counts.now ends.now enabled.now) }
 {
     let mut k: usize = 0;

@@ -3,11 +3,11 @@
 #![tactic(auto)]
 
 ghost use Rattle.std.specs.Prelude.{◌+◌, ◌*◌, ◌≤◌, ◌≡◌, cond, ◌++◌, eqb, length, take, drop};
-ghost use Rattle.frame.specs.Frames.{degreeMax};
-ghost use Rattle.island.specs.Calls.{islandTablesOf, rooms_of, Built};
-ghost use Rattle.island.specs.Answers.{answerNumber, answerIslands};
-ghost use Rattle.island_numbers.specs.Numbers.{byIsland, Labels, Sortable};
-ghost use Rattle.frame_parts.specs.Parts.{standing_frame, standingRefusal, Countable};
+ghost use Rattle.frame.specs.Frames.{degree_max};
+ghost use Rattle.island.specs.Calls.{island_tables_of, rooms_of, Built};
+ghost use Rattle.island.specs.Answers.{answer_number, answer_islands};
+ghost use Rattle.island_numbers.specs.Numbers.{by_island, Labels, Sortable};
+ghost use Rattle.frame_parts.specs.Parts.{standing_frame, standing_refusal, Countable};
 
 use island::Answer;
 
@@ -37,11 +37,11 @@ pub fn build(
 ) -> Answer
     requires { (2 * manifolds ≤ length pairs.now) × ((length counts.now ≡ 0 → ⊥) → manifolds ≤ length counts.now) }
     ensures { Built (standing_frame types.now pairs.now manifolds counts.now enabled.now)
-        (standingRefusal types.now pairs.now manifolds counts.now enabled.now
-        (rooms_of (islandTablesOf parents.old sizes.old body_islands.old manifold_islands.old joint_islands.old)))
-        (islandTablesOf parents.old sizes.old body_islands.old manifold_islands.old joint_islands.old)
-        (islandTablesOf parents.new sizes.new body_islands.new manifold_islands.new joint_islands.new)
-        (answerNumber result) (answerIslands result) }
+        (standing_refusal types.now pairs.now manifolds counts.now enabled.now
+        (rooms_of (island_tables_of parents.old sizes.old body_islands.old manifold_islands.old joint_islands.old)))
+        (island_tables_of parents.old sizes.old body_islands.old manifold_islands.old joint_islands.old)
+        (island_tables_of parents.new sizes.new body_islands.new manifold_islands.new joint_islands.new)
+        (answer_number result) (answer_islands result) }
 {
     let n = 2 * manifolds;
     if counts.len() != 0 {
@@ -82,7 +82,7 @@ pub fn degree_of(
     on_bodies: &mut [u16],
 ) -> usize
     requires { Countable refusal types.now pairs.now manifolds counts.now enabled.now on_bodies.old }
-    ensures { result ≡ cond (eqb refusal 0) (degreeMax (standing_frame types.now pairs.now manifolds counts.now enabled.now)) 0 }
+    ensures { result ≡ cond (eqb refusal 0) (degree_max (standing_frame types.now pairs.now manifolds counts.now enabled.now)) 0 }
 {
     if refusal != 0 {
         return 0;
@@ -113,7 +113,7 @@ pub fn sort(
     requires manifolds_in_bounds { (manifolds ≤ length manifold_islands.now) × (joints ≤ length joint_islands.now) × (manifolds + joints ≤ length keys.old) }
     requires labels { Labels islands (take manifolds manifold_islands.now ++ take joints joint_islands.now) }
     requires sortable { Sortable (manifolds + joints) (take (manifolds + joints) keys.old) scratch_offsets.old offsets.old numbers.old }
-    ensures { numbers.new ≡ byIsland islands (take manifolds manifold_islands.now ++ take joints joint_islands.now) }
+    ensures { numbers.new ≡ by_island islands (take manifolds manifold_islands.now ++ take joints joint_islands.now) }
 {
     island_numbers::sort(
         &manifold_islands[..manifolds],

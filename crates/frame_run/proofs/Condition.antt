@@ -3,28 +3,28 @@ use Prim.Native.Nat.{ℕ}
 use mathlib.Core.Path.{◌≡◌, refl, sym, ◌∙◌}
 use mathlib.Core.Bool.{true, cond}
 use mathlib.Core.List.{List, [], ◌∷◌}
-use Rattle.frame.specs.Frames.{allSound}
+use Rattle.frame.specs.Frames.{all_sound}
 use Rattle.frame.specs.Questions.{question, asked}
-use Rattle.frame.specs.Files.{decode, fileQuestions, frameRefusal}
+use Rattle.frame.specs.Files.{decode, file_questions, frame_refusal}
 use Rattle.frame.proofs.Questions.{passed, asked-append, zero-cond}
 use Rattle.schedules.proofs.Condition3.{condition3}
-use Rattle.frame_tables.specs.Filled.{soundRefusal}
-use Rattle.frame_run.specs.Calls.{Lent, roomyIn, refusalIn}
+use Rattle.frame_tables.specs.Filled.{sound_refusal}
+use Rattle.frame_run.specs.Calls.{Lent, roomy_in, refusal_in}
 use Rattle.frame_run.specs.Condition.{Claim}
 use Rattle.frame_run.proofs.Runs.{all_asked}
 
 -- a frame that the run accepts is accepted, and the tables have room
-module _ (bs : List ℕ) (l : Lent) (e : refusalIn bs l ≡ 0) where
-  parts : (asked (fileQuestions bs) ≡ 0) × (cond (roomyIn bs l) (soundRefusal bs) 6 ≡ 0)
-  parts = zero-cond (asked (fileQuestions bs)) (cond (roomyIn bs l) (soundRefusal bs) 6) (sym (all_asked bs (roomyIn bs l)) ∙ e)
+module _ (bs : List ℕ) (l : Lent) (e : refusal_in bs l ≡ 0) where
+  parts : (asked (file_questions bs) ≡ 0) × (cond (roomy_in bs l) (sound_refusal bs) 6 ≡ 0)
+  parts = zero-cond (asked (file_questions bs)) (cond (roomy_in bs l) (sound_refusal bs) 6) (sym (all_asked bs (roomy_in bs l)) ∙ e)
 
-  pub room : roomyIn bs l ≡ true
-  room = (passed (roomyIn bs l) (soundRefusal bs) 5 parts.1).0
+  pub room : roomy_in bs l ≡ true
+  room = (passed (roomy_in bs l) (sound_refusal bs) 5 parts.1).0
 
-  pub accepted : frameRefusal bs ≡ 0
-  unfolding frameRefusal soundRefusal
+  pub accepted : frame_refusal bs ≡ 0
+  unfolding frame_refusal sound_refusal
   accepted =
-      asked-append (fileQuestions bs) (question 7 (allSound (decode bs)) ∷ []) refl ∙ rw parts.0 (passed (roomyIn bs l) (soundRefusal bs) 5 parts.1).1
+      asked-append (file_questions bs) (question 7 (all_sound (decode bs)) ∷ []) refl ∙ rw parts.0 (passed (roomy_in bs l) (sound_refusal bs) 5 parts.1).1
 
 pub conditioned : Claim
 conditioned bs l m r p o e h s =

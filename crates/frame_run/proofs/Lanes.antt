@@ -4,23 +4,23 @@ use Prim.Native.Nat.{ℕ}
 use mathlib.Core.Path.{◌≡◌, sym, ap, ◌∙◌, subst}
 use mathlib.Core.List.{List}
 use native.Mathlib.Omega.{arith}
-use Rattle.lists.specs.Basics.{over, joinMap}
-use Rattle.frame.specs.Frames.{turnCount}
+use Rattle.lists.specs.Basics.{over, join_map}
+use Rattle.frame.specs.Frames.{turn_count}
 use Rattle.frame.specs.Files.{second, decode}
-use Rattle.schedules.specs.Runs.{turn_of, runCalls}
+use Rattle.schedules.specs.Runs.{turn_of, run_calls}
 use Rattle.schedules.specs.Lanes.{ApartIn}
-use Rattle.schedules.proofs.Condition3.{run-report}
-use Rattle.schedules.proofs.Table.{table-apart}
+use Rattle.schedules.proofs.Condition3.{run_report_lem}
+use Rattle.schedules.proofs.Table.{table_apart}
 use Rattle.run_answer.specs.declared.Report.{Report}
-use Rattle.run_answer.specs.Answers.{runReport}
+use Rattle.run_answer.specs.Answers.{run_report}
 use Rattle.frame_run.specs.Lanes.{RunApart}
 use Rattle.frame_run.proofs.Condition.{room, accepted}
 
-pub run-apart : RunApart
-run-apart bs l m r a b e h less short =
+pub run_apart : RunApart
+run_apart bs l m r a b e h less short =
     let f = decode bs in
     let roomy = room bs l e in
     let ok = accepted bs l e in
-    let table : m.turns ≡ over (joinMap turn_of (runCalls (second bs) f)) l.turns = h.turns ∙ rw (roomy, run-report bs ok) in
-    let count : (runReport r).turns ≡ turnCount f = ap (λ (x : Report). x.turns) h.report ∙ rw (roomy, run-report bs ok) in
-    subst (λ (t : List ℕ). ApartIn f t a b) (sym table) (table-apart bs _ a b ok less (omega arith))
+    let table : m.turns ≡ over (join_map turn_of (run_calls (second bs) f)) l.turns = h.turns ∙ rw (roomy, run_report_lem bs ok) in
+    let count : (run_report r).turns ≡ turn_count f = ap (λ (x : Report). x.turns) h.report ∙ rw (roomy, run_report_lem bs ok) in
+    subst (λ (t : List ℕ). ApartIn f t a b) (sym table) (table_apart bs _ a b ok less (omega arith))

@@ -9,236 +9,236 @@ use lib.Dec.{ltb, eqb}
 use lib.ListN.{length, take, length-map}
 use lib.Seq.{length_paste_head}
 use borrow.Author.Tests.{lt-ltb, eqb-true, eqb-false}
-use Rattle.lists.specs.Basics.{joinMap}
+use Rattle.lists.specs.Basics.{join_map}
 use Rattle.lists.proofs.Laws.{by_cases}
 use Rattle.lists.proofs.Puts.{put_first}
-use Rattle.frame.specs.Frames.{Frame, constraints, allSound, flagOf}
+use Rattle.frame.specs.Frames.{Frame, constraints, all_sound, flag_of}
 use Rattle.frame.specs.Questions.{question, asked}
-use Rattle.frame.specs.Files.{second, countB, countM, countJ, types_in, jointEndsIn, decode, fileQuestions}
-use Rattle.frame.specs.Decodes.{allCounts}
+use Rattle.frame.specs.Files.{second, count_b, count_m, count_j, types_in, joint_ends_in, decode, file_questions}
+use Rattle.frame.specs.Decodes.{all_counts}
 use Rattle.frame.proofs.Questions.{asked-append}
-use Rattle.frame.proofs.Files.{file-sized, file-types, types-long, live-in-long, file-ends, ends-first-long, all-counts-first, all-counts-long}
-use Rattle.connected_sets.specs.Islands.{islandCount, label}
+use Rattle.frame.proofs.Files.{file_sized, file-types, types_long, live_in_long, file-ends, ends-first_long, all_counts-first, all_counts_long}
+use Rattle.connected_sets.specs.Islands.{island_count, label}
 use Rattle.island.specs.Calls.{IslandTables}
-use Rattle.island.proofs.Built.{built-as}
+use Rattle.island.proofs.Built.{built_as}
 use Rattle.groups.specs.Groups.{members}
 use Rattle.plan_questions.specs.Plans.{Tables}
-use Rattle.plan_questions.proofs.Rooms.{fitted-with}
+use Rattle.plan_questions.proofs.Rooms.{fitted_with}
 use Rattle.colored_bodies.specs.Bindings.{Known}
-use Rattle.schedules.specs.Runs.{turn_of, turnsOf, takesOf, runCalls, runRefusal, run_of}
-use Rattle.island_numbers.specs.Numbers.{byIsland, endsAmong, countsAmong, Collectable}
-use Rattle.island_numbers.proofs.Among.{sorted-all, all-pairs, all-ends, all-counts}
+use Rattle.schedules.specs.Runs.{turn_of, turns_of, takes_of, run_calls, run_refusal, run_of}
+use Rattle.island_numbers.specs.Numbers.{by_island, ends_among, counts_among, Collectable}
+use Rattle.island_numbers.proofs.Among.{sorted-all, all_pairs, all-ends, all-counts}
 use Rattle.turn_table.specs.declared.Tally.{Tally}
 use Rattle.turn_table.specs.Turns.{none, Room, Appended}
-use Rattle.group_run.specs.Appends.{addedBy}
-use Rattle.one_island.specs.Island.{freshRefusal}
+use Rattle.group_run.specs.Appends.{added_by}
+use Rattle.one_island.specs.Island.{fresh_refusal}
 use Rattle.island_run.specs.Islands.{calls_of, Prepared}
-use Rattle.island_run.proofs.Rooms.{SameLengths, room-kept}
+use Rattle.island_run.proofs.Rooms.{SameLengths, room_kept}
 use Rattle.frame_tables.specs.declared.Filling.{Filling}
-use Rattle.frame_tables.specs.Filled.{labelsIn, soundRefusal, Fills, Roomy}
-use Rattle.frame_tables.proofs.Tables.{some-counts, file-accepted, labels-are, labels-sortable}
+use Rattle.frame_tables.specs.Filled.{labels_in, sound_refusal, Fills, Roomy}
+use Rattle.frame_tables.proofs.Tables.{some_counts, file_accepted, labels_are, labels_sortable}
 use Rattle.run_answer.specs.declared.Report.{Report}
 use Rattle.run_answer.specs.declared.Answer.{Answer}
-use Rattle.run_answer.specs.Answers.{runReport, entriesFor, AnswerOf}
+use Rattle.run_answer.specs.Answers.{run_report, entries_for, AnswerOf}
 use Rattle.frame_run.specs.Sized.{RoomySized, RanSized}
-use Rattle.frame_run.proofs.Ends.{all_ends, ends-long, pairs-long, counts-whole, all-known}
-use Rattle.frame_run.proofs.Frames.{turns-long, ranked, calls_are, updates-accepted, run_room}
+use Rattle.frame_run.proofs.Ends.{all_ends, ends_long, pairs_long, counts_whole, all-known}
+use Rattle.frame_run.proofs.Frames.{turns_long, ranked, calls_are, updates_accepted, run_room}
 
 -- the room that filling the tables needs
 pub roomy_of : (bs : List ℕ) (is : IslandTables) (ts ip ic ns : List ℕ) (t : Tables) (pc : List ℕ) → RoomySized bs is ts ip ic ns t pc
-    → Roomy bs is ns t.constraint-colors t.scratch-offsets t.color-offsets t.body-stamps
+    → Roomy bs is ns t.constraint_colors t.scratch_offsets t.color_offsets t.body_stamps
 roomy_of bs is ts ip ic ns t pc h =
-    let w = fitted-with (countB bs) (countM bs + countJ bs) (entriesFor (second bs) (countM bs) (countJ bs)) t h.tables in
+    let w = fitted_with (count_b bs) (count_m bs + count_j bs) (entries_for (second bs) (count_m bs) (count_j bs)) t h.tables in
     record {
       islands = h.islands;
       numbers = h.numbers;
       keys = w.1.1.1.1.1.1.0;
       scratch = w.1.1.1.1.1.0;
       offsets = w.1.1.1.1.1.1.1.1.1.0;
-      on-bodies = w.1.1.1.1.1.1.1.1.0;
+      on_bodies = w.1.1.1.1.1.1.1.1.0;
     }
 
 -- questions 6 and 7 come after those of the file
-pub all_asked : (bs : List ℕ) (room : Bool) → runRefusal bs room ≡ cond (eqb (asked (fileQuestions bs)) 0) (cond room (soundRefusal bs) 6) (asked (fileQuestions bs))
-unfolding runRefusal soundRefusal
-all_asked bs room = asked-append (fileQuestions bs) (question 6 room ∷ question 7 (allSound (decode bs)) ∷ []) refl
+pub all_asked : (bs : List ℕ) (room : Bool) → run_refusal bs room ≡ cond (eqb (asked (file_questions bs)) 0) (cond room (sound_refusal bs) 6) (asked (file_questions bs))
+unfolding run_refusal sound_refusal
+all_asked bs room = asked-append (file_questions bs) (question 6 room ∷ question 7 (all_sound (decode bs)) ∷ []) refl
 
-module _ (bs : List ℕ) (e : asked (fileQuestions bs) ≡ 0) where
+module _ (bs : List ℕ) (e : asked (file_questions bs) ≡ 0) where
   abbrev f : Frame
   f = decode bs
 
   -- where questions 1 to 6 are passed, 7 is left
-  run-refusal : runRefusal bs true ≡ soundRefusal bs
-  run-refusal = all_asked bs true ∙ rw e
+  run_refusal_lem : run_refusal bs true ≡ sound_refusal bs
+  run_refusal_lem = all_asked bs true ∙ rw e
 
   -- ---- the room for all endpoints and counts
 
-  pub entries-few : 2 * countM bs + length (jointEndsIn bs) ≤ entriesFor (second bs) (countM bs) (countJ bs)
+  pub entries-few : 2 * count_m bs + length (joint_ends_in bs) ≤ entries_for (second bs) (count_m bs) (count_j bs)
   entries-few = by_cases (second bs)
-      (λ v. omega (arith, ap (λ (b : Bool). entriesFor b (countM bs) (countJ bs)) v, (file-ends bs e).1))
-      (λ v. omega (arith, ap (λ (b : Bool). entriesFor b (countM bs) (countJ bs)) v, ends-first-long bs v))
+      (λ v. omega (arith, ap (λ (b : Bool). entries_for b (count_m bs) (count_j bs)) v, (file-ends bs e).1))
+      (λ v. omega (arith, ap (λ (b : Bool). entries_for b (count_m bs) (count_j bs)) v, ends-first_long bs v))
 
-  counts-few : (length (allCounts bs) ≤ 8192) × (2 * length (allCounts bs) ≤ entriesFor (second bs) (countM bs) (countJ bs))
+  counts-few : (length (all_counts bs) ≤ 8192) × (2 * length (all_counts bs) ≤ entries_for (second bs) (count_m bs) (count_j bs))
   counts-few = by_cases (second bs)
       (λ v.
-      let s = file-sized bs e in
-      let x = ap (λ (b : Bool). entriesFor b (countM bs) (countJ bs)) v in
-      (omega (arith, all-counts-long bs v, s.manifolds, s.joints), omega (arith, all-counts-long bs v, x)))
-      (λ v. (omega (arith, ap length (all-counts-first bs v)), omega (arith, ap length (all-counts-first bs v))))
+      let s = file_sized bs e in
+      let x = ap (λ (b : Bool). entries_for b (count_m bs) (count_j bs)) v in
+      (omega (arith, all_counts_long bs v, s.manifolds, s.joints), omega (arith, all_counts_long bs v, x)))
+      (λ v. (omega (arith, ap length (all_counts-first bs v)), omega (arith, ap length (all_counts-first bs v))))
 
   -- those of the sorted numbers can be collected
-  module _ (islands : ℕ) (labels : List ℕ) (long : length labels ≡ countM bs + countJ bs) (bounds ip ic : List ℕ)
-      (room : entriesFor (second bs) (countM bs) (countJ bs) ≤ length bounds) (le : length ip ≡ 2 * countM bs + length (jointEndsIn bs)) (lc : length ic ≡ length (allCounts bs)) where
+  module _ (islands : ℕ) (labels : List ℕ) (long : length labels ≡ count_m bs + count_j bs) (bounds ip ic : List ℕ)
+      (room : entries_for (second bs) (count_m bs) (count_j bs) ≤ length bounds) (le : length ip ≡ 2 * count_m bs + length (joint_ends_in bs)) (lc : length ic ≡ length (all_counts bs)) where
     abbrev counts : List ℕ
-    counts = allCounts bs
+    counts = all_counts bs
 
     abbrev ends : List ℕ
     ends = all_ends bs
 
     many : (length counts ≡ 0 → ⊥) → length counts ≡ length labels
-    many n = all-counts-long bs (some-counts bs n) ∙ sym long
+    many n = all_counts_long bs (some_counts bs n) ∙ sym long
 
-    all-listed : length (endsAmong counts ends (byIsland islands labels)) ≡ length ends
-    all-listed = by_cases (eqb (length counts) 0)
-        (λ z. let o = eqb-true (length counts) 0 z in all-pairs islands labels counts ends o (pairs-long bs o ∙ ap (λ (n : ℕ). 2 * n) (sym long)))
-        (λ z. let n = eqb-false (length counts) 0 z in all-ends islands labels counts ends n (many n) (counts-whole bs (some-counts bs n)))
+    all_listed : length (ends_among counts ends (by_island islands labels)) ≡ length ends
+    all_listed = by_cases (eqb (length counts) 0)
+        (λ z. let o = eqb-true (length counts) 0 z in all_pairs islands labels counts ends o (pairs_long bs o ∙ ap (λ (n : ℕ). 2 * n) (sym long)))
+        (λ z. let n = eqb-false (length counts) 0 z in all-ends islands labels counts ends n (many n) (counts_whole bs (some_counts bs n)))
 
-    collectable : Collectable counts ends (byIsland islands labels) bounds ip ic
+    collectable : Collectable counts ends (by_island islands labels) bounds ip ic
     collectable = record {
-      pairs = λ z. sorted-all islands labels (λ n. ltb (2 * n + 1) (length ends)) (λ n h. lt-ltb (2 * n + 1) (length ends) (omega (arith, pairs-long bs z, long)));
+      pairs = λ z. sorted-all islands labels (λ n. ltb (2 * n + 1) (length ends)) (λ n h. lt-ltb (2 * n + 1) (length ends) (omega (arith, pairs_long bs z, long)));
       counted = λ n. sorted-all islands labels (λ k. ltb k (length counts)) (λ k h. lt-ltb k (length counts) (omega (arith, many n)));
       few = counts-few.0;
       known = all-known bs e;
-      whole = λ n. counts-whole bs (some-counts bs n);
-      bounds-room = omega (arith, counts-few.1);
-      ends-long = le ∙ sym (ends-long bs) ∙ sym all-listed;
-      counts-long = lc ∙ sym (all-counts islands labels counts ends many);
+      whole = λ n. counts_whole bs (some_counts bs n);
+      bounds_room = omega (arith, counts-few.1);
+      ends_long = le ∙ sym (ends_long bs) ∙ sym all_listed;
+      counts_long = lc ∙ sym (all-counts islands labels counts ends many);
     }
 
   -- ---- the tables, filled
 
   module _ (ts fs ps cs es : List ℕ) (is is' : IslandTables) (ns : List ℕ) (r : Filling) (h : Fills bs ts fs ps cs es is is' ns r) where
     abbrev mi : List ℕ
-    mi = is'.manifold-islands
+    mi = is'.manifold_islands
 
     abbrev ji : List ℕ
-    ji = is'.joint-islands
+    ji = is'.joint_islands
 
     abbrev labels : List ℕ
-    labels = labelsIn bs mi ji
+    labels = labels_in bs mi ji
 
-    sound-labels : allSound f ≡ true → labels ≡ map (label f) (constraints f)
-    sound-labels t = labels-are bs e is is' r.refusal r.islands h.islands ∙ rw t
+    sound-labels : all_sound f ≡ true → labels ≡ map (label f) (constraints f)
+    sound-labels t = labels_are bs e is is' r.refusal r.islands h.islands ∙ rw t
 
-    sound-islands : allSound f ≡ true → r.islands ≡ islandCount f
-    unfolding soundRefusal
+    sound-islands : all_sound f ≡ true → r.islands ≡ island_count f
+    unfolding sound_refusal
     sound-islands t = rw t at h.islands.count
 
-    no-islands : allSound f ≡ false → r.islands ≡ 0
-    unfolding soundRefusal
-    no-islands t = rw t at h.islands.count
+    no_islands : all_sound f ≡ false → r.islands ≡ 0
+    unfolding sound_refusal
+    no_islands t = rw t at h.islands.count
 
-    calls-of : calls_of ts fs cs ps labels r.islands ≡ cond (allSound f) (runCalls (second bs) f) []
+    calls_of_lem : calls_of ts fs cs ps labels r.islands ≡ cond (all_sound f) (run_calls (second bs) f) []
     unfolding calls_of
-    calls-of = rw (h.decoded.types, h.decoded.flags, h.decoded.ends, h.decoded.counts) (by_cases (allSound f)
+    calls_of_lem = rw (h.decoded.types, h.decoded.flags, h.decoded.ends, h.decoded.counts) (by_cases (all_sound f)
         (λ t. rw (t, sound-labels t, sound-islands t) (calls_are bs))
-        (λ t. rw (t, no-islands t)))
+        (λ t. rw (t, no_islands t)))
 
-    room_for : (tt : List ℕ) → 3 * (countM bs + countJ bs) ≤ length tt → Room (addedBy (calls_of ts fs cs ps labels r.islands)) tt none
-    unfolding turnsOf takesOf
-    room_for tt l = rw calls-of (by_cases (allSound f)
-        (λ t. rw t (run_room bs (file-accepted bs e t) tt l))
+    room_for : (tt : List ℕ) → 3 * (count_m bs + count_j bs) ≤ length tt → Room (added_by (calls_of ts fs cs ps labels r.islands)) tt none
+    unfolding turns_of takes_of
+    room_for tt l = rw calls_of_lem (by_cases (all_sound f)
+        (λ t. rw t (run_room bs (file_accepted bs e t) tt l))
         (λ t. rw t (record { places = omega arith; count = omega arith })))
 
-    all-accepted : (i : ℕ) → i < r.islands → freshRefusal fs (countsAmong cs (members labels i)) (endsAmong cs ps (members labels i)) ≡ 0
-    all-accepted i l = by_cases (allSound f)
-        (λ t. rw (h.decoded.flags, h.decoded.ends, h.decoded.counts, sound-labels t) (updates-accepted bs (file-accepted bs e t) i (omega (arith, sound-islands t))))
-        (λ t. absurd (omega (arith, no-islands t)))
+    all_accepted : (i : ℕ) → i < r.islands → fresh_refusal fs (counts_among cs (members labels i)) (ends_among cs ps (members labels i)) ≡ 0
+    all_accepted i l = by_cases (all_sound f)
+        (λ t. rw (h.decoded.flags, h.decoded.ends, h.decoded.counts, sound-labels t) (updates_accepted bs (file_accepted bs e t) i (omega (arith, sound-islands t))))
+        (λ t. absurd (omega (arith, no_islands t)))
 
-    labels-long : countM bs ≤ length mi → countJ bs ≤ length ji → length labels ≡ countM bs + countJ bs
-    labels-long a b = length_paste_head mi (countM bs) ji (countJ bs) a b
+    labels_long : count_m bs ≤ length mi → count_j bs ≤ length ji → length labels ≡ count_m bs + count_j bs
+    labels_long a b = length_paste_head mi (count_m bs) ji (count_j bs) a b
 
     -- the tables of labels, cut as the code cuts them
-    fronts : (m : ℕ) → m ≡ countM bs → take m mi ++ take (length es) ji ≡ labels
-    fronts m em = rw (em, ap length h.decoded.enabled ∙ live-in-long bs)
+    fronts : (m : ℕ) → m ≡ count_m bs → take m mi ++ take (length es) ji ≡ labels
+    fronts m em = rw (em, ap length h.decoded.enabled ∙ live_in_long bs)
 
-    pub joints-inside : countJ bs ≤ length ji → length es ≤ length ji
-    joints-inside l = omega (arith, ap length h.decoded.enabled ∙ live-in-long bs)
+    pub joints_inside : count_j bs ≤ length ji → length es ≤ length ji
+    joints_inside l = omega (arith, ap length h.decoded.enabled ∙ live_in_long bs)
 
-    flags_long : length fs ≡ countB bs
-    flags_long = ap length h.decoded.flags ∙ length-map (types_in bs) flagOf ∙ types-long bs e
+    flags_long : length fs ≡ count_b bs
+    flags_long = ap length h.decoded.flags ∙ length-map (types_in bs) flag_of ∙ types_long bs e
 
     module _ (is0 : IslandTables) (tt ip ic n0 : List ℕ) (t u : Tables) (pc : List ℕ) (q : RoomySized bs is0 tt ip ic n0 t pc) (same : SameLengths t u)
-        (a : countM bs ≤ length mi) (b : countJ bs ≤ length ji) where
+        (a : count_m bs ≤ length mi) (b : count_j bs ≤ length ji) where
       prepared : Prepared r.islands fs cs ps labels ns ip ic u pc
       prepared =
-          let l = labels-long a b in
-          let w = fitted-with (countB bs) (countM bs + countJ bs) (entriesFor (second bs) (countM bs) (countJ bs)) t q.tables in
+          let l = labels_long a b in
+          let w = fitted_with (count_b bs) (count_m bs + count_j bs) (entries_for (second bs) (count_m bs) (count_j bs)) t q.tables in
           record {
-            labels-are = labels-sortable bs e is is' r.refusal r.islands h.islands;
-            numbers-are = h.numbers;
-            collectable = rw (h.decoded.ends, h.decoded.counts, h.numbers) (collectable r.islands labels l u.body-constraints ip ic (omega (arith, w.1.1.1.0, same.body-constraints)) q.island-pairs q.island-counts);
-            accepted = all-accepted;
+            labels_are = labels_sortable bs e is is' r.refusal r.islands h.islands;
+            numbers_are = h.numbers;
+            collectable = rw (h.decoded.ends, h.decoded.counts, h.numbers) (collectable r.islands labels l u.body_constraints ip ic (omega (arith, w.1.1.1.0, same.body_constraints)) q.island_pairs q.island_counts);
+            accepted = all_accepted;
             ranked = λ i k. ranked cs ps (members labels i);
-            tables = rw (flags_long, l) (room-kept (countB bs) (countM bs + countJ bs) (countM bs + countJ bs) (entriesFor (second bs) (countM bs) (countJ bs)) (length ip) t u (omega arith) (omega (arith, q.island-pairs, entries-few)) same q.tables);
-            counts-room = omega (arith, q.island-counts, q.plan-counts);
+            tables = rw (flags_long, l) (room_kept (count_b bs) (count_m bs + count_j bs) (count_m bs + count_j bs) (entries_for (second bs) (count_m bs) (count_j bs)) (length ip) t u (omega arith) (omega (arith, q.island_pairs, entries-few)) same q.tables);
+            counts_room_lem = omega (arith, q.island_counts, q.plan_counts);
           }
 
-      pub prepared-cut : (m : ℕ) → m ≡ countM bs → Prepared r.islands fs cs ps (take m mi ++ take (length es) ji) ns ip ic u pc
-      prepared-cut m em = rw (fronts m em) prepared
+      pub prepared_cut : (m : ℕ) → m ≡ count_m bs → Prepared r.islands fs cs ps (take m mi ++ take (length es) ji) ns ip ic u pc
+      prepared_cut m em = rw (fronts m em) prepared
 
-    module _ (m : ℕ) (em : m ≡ countM bs) where
+    module _ (m : ℕ) (em : m ≡ count_m bs) where
       abbrev cut : List ℕ
       cut = take m mi ++ take (length es) ji
 
-      pub room_cut : (tt : List ℕ) → 3 * (countM bs + countJ bs) ≤ length tt → Room (addedBy (calls_of ts fs cs ps cut r.islands)) tt none
+      pub room_cut : (tt : List ℕ) → 3 * (count_m bs + count_j bs) ≤ length tt → Room (added_by (calls_of ts fs cs ps cut r.islands)) tt none
       room_cut tt l = rw (fronts m em) (room_for tt l)
 
     -- questions 3 and 5 of a bind are the file's
-    pub types-known : Known ts
-    types-known = rw h.decoded.types (omega (arith, types-long bs e, (file-sized bs e).bodies), file-types bs e)
+    pub types_are_known : Known ts
+    types_are_known = rw h.decoded.types (omega (arith, types_long bs e, (file_sized bs e).bodies), file-types bs e)
 
     -- ---- the answer
 
-    module _ (m : ℕ) (em : m ≡ countM bs) (tt tt' : List ℕ) (tally : Tally) (answer : Answer)
-        (added : Appended (addedBy (calls_of ts fs cs ps (take m mi ++ take (length es) ji) r.islands)) tt none tt' tally) (told : AnswerOf r tally answer) where
-      done : Appended (addedBy (cond (allSound f) (runCalls (second bs) f) [])) tt none tt' tally
-      done = rw (fronts m em, calls-of) at added
+    module _ (m : ℕ) (em : m ≡ count_m bs) (tt tt' : List ℕ) (tally : Tally) (answer : Answer)
+        (added : Appended (added_by (calls_of ts fs cs ps (take m mi ++ take (length es) ji) r.islands)) tt none tt' tally) (told : AnswerOf r tally answer) where
+      done : Appended (added_by (cond (all_sound f) (run_calls (second bs) f) [])) tt none tt' tally
+      done = rw (fronts m em, calls_of_lem) at added
 
-      refusal_is : r.refusal ≡ soundRefusal bs
+      refusal_is : r.refusal ≡ sound_refusal bs
       refusal_is = h.islands.refusal
 
-      sound-ran : allSound f ≡ true → RanSized bs is tt is' tt' answer
-      unfolding soundRefusal run_of
-      sound-ran t =
-          let d : Appended (addedBy (runCalls (second bs) f)) tt none tt' tally = rw t at done in
+      sound_ran : all_sound f ≡ true → RanSized bs is tt is' tt' answer
+      unfolding sound_refusal run_of
+      sound_ran t =
+          let d : Appended (added_by (run_calls (second bs) f)) tt none tt' tally = rw t at done in
           let z : r.refusal ≡ 0 = rw t at refusal_is in
-          let q : runRefusal bs true ≡ 0 = rw t at run-refusal in
-          let p : tally.place / 3 ≡ length (turnsOf (runCalls (second bs) f)) = omega (arith, d.place, turns-long (turnsOf (runCalls (second bs) f))) in
-          let k : tally.takes ≡ takesOf (runCalls (second bs) f) = omega (arith, d.takes) in
-          let rep : runReport answer ≡ record { islands = r.islands; turns = tally.place / 3; takes = tally.takes; degree = r.degree } = rw z at told.report in
+          let q : run_refusal bs true ≡ 0 = rw t at run_refusal_lem in
+          let p : tally.place / 3 ≡ length (turns_of (run_calls (second bs) f)) = omega (arith, d.place, turns_long (turns_of (run_calls (second bs) f))) in
+          let k : tally.takes ≡ takes_of (run_calls (second bs) f) = omega (arith, d.takes) in
+          let rep : run_report answer ≡ record { islands = r.islands; turns = tally.place / 3; takes = tally.takes; degree = r.degree } = rw z at told.report in
           record {
             refusal = told.refusal ∙ refusal_is;
             refused = told.refused ∙ rw refusal_is;
             report = rep ∙ rw (q, p, k, sound-islands t, rw t at h.degree);
-            turns = d.table ∙ put_first (joinMap turn_of (turnsOf (runCalls (second bs) f))) tt ∙ rw q;
-            islands = built-as (sym told.refusal) (sym (ap (λ (x : Report). x.islands) rep)) h.islands;
+            turns = d.table ∙ put_first (join_map turn_of (turns_of (run_calls (second bs) f))) tt ∙ rw q;
+            islands = built_as (sym told.refusal) (sym (ap (λ (x : Report). x.islands) rep)) h.islands;
           }
 
-      refused-ran : allSound f ≡ false → RanSized bs is tt is' tt' answer
-      unfolding soundRefusal run_of turnsOf
-      refused-ran t =
-          let d : Appended (addedBy []) tt none tt' tally = rw t at done in
+      refused_ran : all_sound f ≡ false → RanSized bs is tt is' tt' answer
+      unfolding sound_refusal run_of turns_of
+      refused_ran t =
+          let d : Appended (added_by []) tt none tt' tally = rw t at done in
           let z : r.refusal ≡ 7 = rw t at refusal_is in
-          let q : runRefusal bs true ≡ 7 = rw t at run-refusal in
-          let rep : runReport answer ≡ record { islands = 0; turns = 0; takes = 0; degree = 0 } = rw z at told.report in
+          let q : run_refusal bs true ≡ 7 = rw t at run_refusal_lem in
+          let rep : run_report answer ≡ record { islands = 0; turns = 0; takes = 0; degree = 0 } = rw z at told.report in
           record {
             refusal = told.refusal ∙ refusal_is;
             refused = told.refused ∙ rw refusal_is;
             report = rep ∙ rw q;
             turns = d.table ∙ put_first [] tt ∙ rw q;
-            islands = built-as (sym told.refusal) (no-islands t ∙ sym (ap (λ (x : Report). x.islands) rep)) h.islands;
+            islands = built_as (sym told.refusal) (no_islands t ∙ sym (ap (λ (x : Report). x.islands) rep)) h.islands;
           }
 
       pub ran : RanSized bs is tt is' tt' answer
-      ran = by_cases (allSound f) sound-ran refused-ran
+      ran = by_cases (all_sound f) sound_ran refused_ran

@@ -3,9 +3,9 @@ use Rattle.std.specs.Prelude.{ℕ, ◌<◌, ◌≡◌, List}
 use Rattle.frame.specs.Files.{decode}
 use Rattle.schedules.specs.Lanes.{ApartIn}
 use Rattle.run_answer.specs.declared.Answer.{Answer}
-use Rattle.run_answer.specs.Answers.{runReport}
-use Rattle.frame_run.specs.Calls.{Lent, refusalIn, Ran}
+use Rattle.run_answer.specs.Answers.{run_report}
+use Rattle.frame_run.specs.Calls.{Lent, refusal_in, Ran}
 
 -- two different turns of one island and group have no body that makes conflicts on both constraints
 abbrev pub RunApart : Type 0
-RunApart = (bs : List ℕ) (l m : Lent) (r : Answer) (a b : ℕ) → refusalIn bs l ≡ 0 → Ran bs l m r → a < b → b < (runReport r).turns → ApartIn (decode bs) m.turns a b
+RunApart = (bs : List ℕ) (l m : Lent) (r : Answer) (a b : ℕ) → refusal_in bs l ≡ 0 → Ran bs l m r → a < b → b < (run_report r).turns → ApartIn (decode bs) m.turns a b

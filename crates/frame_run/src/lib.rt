@@ -3,10 +3,10 @@
 #![tactic(auto)]
 
 ghost use Rattle.frame.specs.Decodes.{Decodable};
-ghost use Rattle.island.specs.Calls.{islandTablesOf};
+ghost use Rattle.island.specs.Calls.{island_tables_of};
 ghost use Rattle.plan_questions.specs.Plans.{tables_of};
 ghost use Rattle.run_answer.specs.Answers.{Asks};
-ghost use Rattle.frame_run.specs.Calls.{lent_of, roomyFor, Ran};
+ghost use Rattle.frame_run.specs.Calls.{lent_of, roomy_for, Ran};
 ghost use Rattle.frame_run.specs.Sized.{RoomySized, RanSized};
 
 use run_answer::{Answer, Asked};
@@ -46,15 +46,15 @@ fn run_sized(
     constraint_body_positions: &mut [u16],
 ) -> Answer
     requires decodable { Decodable frame.now manifolds types.old flags.old pairs.old counts.old enabled.old }
-    requires roomy_sized { RoomySized frame.now (islandTablesOf parents.old sizes.old body_islands.old manifold_islands.old joint_islands.old)
+    requires roomy_sized { RoomySized frame.now (island_tables_of parents.old sizes.old body_islands.old manifold_islands.old joint_islands.old)
         turns.old island_pairs.old island_counts.old numbers.old
         (tables_of dynamic_bodies.old endpoints.old body_offsets.old
         body_constraints.old scratch_offsets.old constraint_colors.old
         color_stamps.old body_stamps.old color_offsets.old
         colored_constraints.old color_body_offsets.old color_bodies.old constraint_body_positions.old) plan_counts.old }
     ensures { RanSized frame.now
-        (islandTablesOf parents.old sizes.old body_islands.old manifold_islands.old joint_islands.old) turns.old
-        (islandTablesOf parents.new sizes.new body_islands.new manifold_islands.new joint_islands.new) turns.new result }
+        (island_tables_of parents.old sizes.old body_islands.old manifold_islands.old joint_islands.old) turns.old
+        (island_tables_of parents.new sizes.new body_islands.new manifold_islands.new joint_islands.new) turns.new result }
 {
     let filling = frame_tables::fill(
         frame,
@@ -139,8 +139,8 @@ fn run_asked(
     color_bodies: &mut [u16],
     constraint_body_positions: &mut [u16],
 ) -> Answer
-    requires { Asks frame.now (λ v b m j. roomyFor v b m j
-        (lent_of (islandTablesOf parents.old sizes.old body_islands.old manifold_islands.old joint_islands.old)
+    requires { Asks frame.now (λ v b m j. roomy_for v b m j
+        (lent_of (island_tables_of parents.old sizes.old body_islands.old manifold_islands.old joint_islands.old)
         turns.old types.old flags.old pairs.old
         island_pairs.old counts.old island_counts.old enabled.old numbers.old
         (tables_of dynamic_bodies.old endpoints.old body_offsets.old
@@ -148,14 +148,14 @@ fn run_asked(
         color_stamps.old body_stamps.old color_offsets.old
         colored_constraints.old color_body_offsets.old color_bodies.old constraint_body_positions.old) plan_counts.old)) asked }
     ensures { Ran frame.now
-        (lent_of (islandTablesOf parents.old sizes.old body_islands.old manifold_islands.old joint_islands.old)
+        (lent_of (island_tables_of parents.old sizes.old body_islands.old manifold_islands.old joint_islands.old)
         turns.old types.old flags.old pairs.old
         island_pairs.old counts.old island_counts.old enabled.old numbers.old
         (tables_of dynamic_bodies.old endpoints.old body_offsets.old
         body_constraints.old scratch_offsets.old constraint_colors.old
         color_stamps.old body_stamps.old color_offsets.old
         colored_constraints.old color_body_offsets.old color_bodies.old constraint_body_positions.old) plan_counts.old)
-        (lent_of (islandTablesOf parents.new sizes.new body_islands.new manifold_islands.new joint_islands.new)
+        (lent_of (island_tables_of parents.new sizes.new body_islands.new manifold_islands.new joint_islands.new)
         turns.new types.new flags.new pairs.new
         island_pairs.new counts.new island_counts.new enabled.new numbers.new
         (tables_of dynamic_bodies.new endpoints.new body_offsets.new
@@ -240,14 +240,14 @@ pub fn run(
     constraint_body_positions: &mut [u16],
 ) -> Answer
     ensures { Ran frame.now
-        (lent_of (islandTablesOf parents.old sizes.old body_islands.old manifold_islands.old joint_islands.old)
+        (lent_of (island_tables_of parents.old sizes.old body_islands.old manifold_islands.old joint_islands.old)
         turns.old types.old flags.old pairs.old
         island_pairs.old counts.old island_counts.old enabled.old numbers.old
         (tables_of dynamic_bodies.old endpoints.old body_offsets.old
         body_constraints.old scratch_offsets.old constraint_colors.old
         color_stamps.old body_stamps.old color_offsets.old
         colored_constraints.old color_body_offsets.old color_bodies.old constraint_body_positions.old) plan_counts.old)
-        (lent_of (islandTablesOf parents.new sizes.new body_islands.new manifold_islands.new joint_islands.new)
+        (lent_of (island_tables_of parents.new sizes.new body_islands.new manifold_islands.new joint_islands.new)
         turns.new types.new flags.new pairs.new
         island_pairs.new counts.new island_counts.new enabled.new numbers.new
         (tables_of dynamic_bodies.new endpoints.new body_offsets.new

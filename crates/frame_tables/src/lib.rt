@@ -3,7 +3,7 @@
 #![tactic(auto)]
 
 ghost use Rattle.frame.specs.Decodes.{Decodable};
-ghost use Rattle.island.specs.Calls.{islandTablesOf};
+ghost use Rattle.island.specs.Calls.{island_tables_of};
 ghost use Rattle.frame_tables.specs.Filled.{Roomy, Fills};
 
 // The refusal or 0, the island count, and D; all 0 after a refusal but its number.
@@ -36,10 +36,10 @@ pub fn fill(
     on_bodies: &mut [u16],
 ) -> Filling
     requires decodable { Decodable frame.now manifolds types.old flags.old pairs.old counts.old enabled.old }
-    requires roomy { Roomy frame.now (islandTablesOf parents.old sizes.old body_islands.old manifold_islands.old joint_islands.old) numbers.old keys.old scratch_offsets.old offsets.old on_bodies.old }
+    requires roomy { Roomy frame.now (island_tables_of parents.old sizes.old body_islands.old manifold_islands.old joint_islands.old) numbers.old keys.old scratch_offsets.old offsets.old on_bodies.old }
     ensures { Fills frame.now types.new flags.new pairs.new counts.new enabled.new
-        (islandTablesOf parents.old sizes.old body_islands.old manifold_islands.old joint_islands.old)
-        (islandTablesOf parents.new sizes.new body_islands.new manifold_islands.new joint_islands.new) numbers.new result }
+        (island_tables_of parents.old sizes.old body_islands.old manifold_islands.old joint_islands.old)
+        (island_tables_of parents.new sizes.new body_islands.new manifold_islands.new joint_islands.new) numbers.new result }
 {
     frame::decode(frame, manifolds, types, flags, pairs, counts, enabled);
     let answer = frame_parts::build(

@@ -9,18 +9,18 @@ use lib.Dec.{eqb, ltb}
 use lib.ListN.{length, get_or, set, length-append}
 use borrow.Author.Tests.{ltb-true}
 use mir.Val.{bool_byte}
-use Rattle.lists.proofs.Laws.{by_cases, and_left, all_in, all-intro}
-use Rattle.gathering.specs.Gathers.{lacking, stampAll, Stampable, Counted}
-use Rattle.gathering.proofs.Stamps.{length-stampAll, stampAll-append, lacking-append, length-lacking}
+use Rattle.lists.proofs.Laws.{by_cases, and_left, all_in, all_intro}
+use Rattle.gathering.specs.Gathers.{lacking, stamp_all, Stampable, Counted}
+use Rattle.gathering.proofs.Stamps.{length-stamp_all, stamp_all-append, lacking-append, length-lacking}
 use Rattle.gathering.proofs.Ends.{Next}
 
 module _ (stamp : ℕ) (st : List ℕ) where
   pub counted_none : (start : ℕ) → Counted stamp [] start st st start
-  unfolding lacking stampAll
+  unfolding lacking stamp_all
   counted_none start = record { stamps = refl; counted = omega arith }
 
   pub counted-one : (b : ℕ) → Counted stamp (b ∷ []) 0 st (set st b stamp) (bool_byte (not (eqb (get_or st b 0) stamp)))
-  unfolding lacking stampAll
+  unfolding lacking stamp_all
   counted-one b = record { stamps = refl; counted = by_cases (eqb (get_or st b 0) stamp) (λ e. rw e) (λ e. rw e) }
 
 -- counted from 0, it can be added
@@ -28,29 +28,29 @@ pub counted-add : {stamp count : ℕ} {bs st st' : List ℕ} (start : ℕ) → C
 counted-add start v = record { stamps = v.stamps; counted = omega (arith, v.counted) }
 
 module _ {stamp start mid : ℕ} {front st st₁ : List ℕ} (v : Counted stamp front start st st₁ mid) where
-  pub counted-size : length st₁ ≡ length st
-  counted-size = ap length v.stamps ∙ length-stampAll stamp st front
+  pub counted_size : length st₁ ≡ length st
+  counted_size = ap length v.stamps ∙ length-stamp_all stamp st front
 
-  pub counted-low : mid ≤ start + length front
-  counted-low = omega (arith, v.counted, length-lacking stamp st front)
+  pub counted_low : mid ≤ start + length front
+  counted_low = omega (arith, v.counted, length-lacking stamp st front)
 
-  counted-then : {this st₂ : List ℕ} {end : ℕ} → Counted stamp this mid st₁ st₂ end → Counted stamp (front ++ this) start st st₂ end
-  counted-then {this} w =
+  counted_then : {this st₂ : List ℕ} {end : ℕ} → Counted stamp this mid st₁ st₂ end → Counted stamp (front ++ this) start st st₂ end
+  counted_then {this} w =
       record {
-        stamps = w.stamps ∙ rw v.stamps (sym (stampAll-append stamp st front this));
-        counted = w.counted ∙ rw (v.counted, v.stamps, lacking-append stamp st front this) (omega (arith, length-append (lacking stamp st front) (lacking stamp (stampAll stamp st front) this)));
+        stamps = w.stamps ∙ rw v.stamps (sym (stamp_all-append stamp st front this));
+        counted = w.counted ∙ rw (v.counted, v.stamps, lacking-append stamp st front this) (omega (arith, length-append (lacking stamp st front) (lacking stamp (stamp_all stamp st front) this)));
       }
 
   module _ {whole this more : List ℕ} (n : Next whole front this more) where
-    pub stampable-next : Stampable whole st → Stampable this st₁
-    stampable-next s =
+    pub stampable_next : Stampable whole st → Stampable this st₁
+    stampable_next s =
         record {
-          below = rw counted-size (all-intro (λ b. ltb b (length st)) this (λ b m. all_in (λ b. ltb b (length st)) b whole (n.inside b m) s.below));
+          below = rw counted_size (all_intro (λ b. ltb b (length st)) this (λ b m. all_in (λ b. ltb b (length st)) b whole (n.inside b m) s.below));
           small = omega (arith, s.small, n.short, ap length n.joined, length-append front this);
         }
 
     pub counted_next : {st₂ : List ℕ} {end : ℕ} → Counted stamp this mid st₁ st₂ end → Counted stamp more start st st₂ end
-    counted_next w = rw n.joined (counted-then w)
+    counted_next w = rw n.joined (counted_then w)
 
 -- one body
 pub body_below : {b : ℕ} {st : List ℕ} → Stampable (b ∷ []) st → b < length st
@@ -58,4 +58,4 @@ body_below {b} {st} s = ltb-true b (length st) (and_left (ltb b (length st)) tru
 
 -- the sum fits
 pub counted-fits : {stamp count more : ℕ} {whole front this after st st₁ st₂ : List ℕ} → Stampable whole st → Next whole front this after → Counted stamp front 0 st st₁ count → Counted stamp this 0 st₁ st₂ more → count + more ≤ 65535
-counted-fits {count = count} s n v w = omega (arith, counted-low (counted_next v n (counted-add count w)), n.short, s.small)
+counted-fits {count = count} s n v w = omega (arith, counted_low (counted_next v n (counted-add count w)), n.short, s.small)

@@ -10,16 +10,16 @@ use lib.Dec.{eqb}
 use lib.ListN.{length, get_or, take, drop, length-append, take-append-drop}
 use lib.Seq.{take-suc, length-take-le}
 use borrow.Author.Tests.{eqb-true}
-use Rattle.lists.specs.Basics.{one, sum_of, count, range, mem, joinMap}
-use Rattle.lists.proofs.Sums.{sum-le, sum-swap, length-filter}
-use Rattle.lists.proofs.Laws.{any-in, getD-mem, one-any, at_most_one, sum_one}
-use Rattle.lists.proofs.Ranges.{joinMap-append, filter-ext-in, any-joinMap}
-use Rattle.groups.specs.Groups.{members, groupBodies}
+use Rattle.lists.specs.Basics.{one, sum_of, count, range, mem, join_map}
+use Rattle.lists.proofs.Sums.{sum_le, sum_swap, length-filter}
+use Rattle.lists.proofs.Laws.{any_in, get_or-mem, one-any, at_most_one, sum_one}
+use Rattle.lists.proofs.Ranges.{join_map-append, filter_ext_in, any-join_map}
+use Rattle.groups.specs.Groups.{members, group_bodies}
 use Rattle.gathering.specs.Gathers.{among}
 
-pub group-bodies : (nb : ℕ) (cs : List (List ℕ)) (colors : List ℕ) (k : ℕ) → groupBodies nb cs colors k ≡ among nb (joinMap (λ r. get_or cs r []) (members colors k))
-unfolding groupBodies among
-group-bodies nb cs colors k = filter-ext-in _ (λ b. mem b (joinMap (λ r. get_or cs r []) (members colors k))) (range nb) (λ b m. sym (any-joinMap (eqb b) (λ r. get_or cs r []) (members colors k)))
+pub group_bodies_lem : (nb : ℕ) (cs : List (List ℕ)) (colors : List ℕ) (k : ℕ) → group_bodies nb cs colors k ≡ among nb (join_map (λ r. get_or cs r []) (members colors k))
+unfolding group_bodies among
+group_bodies_lem nb cs colors k = filter_ext_in _ (λ b. mem b (join_map (λ r. get_or cs r []) (members colors k))) (range nb) (λ b m. sym (any-join_map (eqb b) (λ r. get_or cs r []) (members colors k)))
 
 pub among-few : (nb : ℕ) (bs : List ℕ) → length (among nb bs) ≤ length bs
 unfolding among
@@ -27,9 +27,9 @@ among-few nb bs =
     omega (
       arith,
       length-filter (λ b. mem b bs) (range nb),
-      sum-le (λ b. one (mem b bs)) (λ b. count (eqb b) bs) (range nb) (λ b. one-any (eqb b) bs),
-      sum-swap (λ b x. one (eqb b x)) (range nb) bs,
-      sum-le (λ x. sum_of (λ b. one (eqb b x)) (range nb)) (λ x. 1) bs (λ x. at_most_one x 0 nb),
+      sum_le (λ b. one (mem b bs)) (λ b. count (eqb b) bs) (range nb) (λ b. one-any (eqb b) bs),
+      sum_swap (λ b x. one (eqb b x)) (range nb) bs,
+      sum_le (λ x. sum_of (λ b. one (eqb b x)) (range nb)) (λ x. 1) bs (λ x. at_most_one x 0 nb),
       sum_one bs,
     )
 
@@ -45,15 +45,15 @@ next-body bs i h =
     record {
       joined = rw (add-one i) (take-suc bs i 0 h);
       short = omega (arith, length-take-le (i + 1) bs (omega arith));
-      inside = λ b m. let e : b ≡ get_or bs i 0 = eqb-true b (get_or bs i 0) (sym (or-false (eqb b (get_or bs i 0))) ∙ m) in rw e (getD-mem bs i h);
+      inside = λ b m. let e : b ≡ get_or bs i 0 = eqb-true b (get_or bs i 0) (sym (or-false (eqb b (get_or bs i 0))) ∙ m) in rw e (get_or-mem bs i h);
     }
 
 -- constraint by constraint
-pub next-part : (ends : ℕ → List ℕ) (ms : List ℕ) (i : ℕ) → i < length ms → Next (joinMap ends ms) (joinMap ends (take i ms)) (ends (get_or ms i 0)) (joinMap ends (take (i + 1) ms))
+pub next-part : (ends : ℕ → List ℕ) (ms : List ℕ) (i : ℕ) → i < length ms → Next (join_map ends ms) (join_map ends (take i ms)) (ends (get_or ms i 0)) (join_map ends (take (i + 1) ms))
 next-part ends ms i h =
-    let whole : joinMap ends ms ≡ joinMap ends (take (i + 1) ms) ++ joinMap ends (drop (i + 1) ms) = ap (joinMap ends) (sym (take-append-drop (i + 1) ms)) ∙ joinMap-append ends (take (i + 1) ms) (drop (i + 1) ms) in
+    let whole : join_map ends ms ≡ join_map ends (take (i + 1) ms) ++ join_map ends (drop (i + 1) ms) = ap (join_map ends) (sym (take-append-drop (i + 1) ms)) ∙ join_map-append ends (take (i + 1) ms) (drop (i + 1) ms) in
     record {
-      joined = rw (add-one i, take-suc ms i 0 h, joinMap-append ends (take i ms) (get_or ms i 0 ∷ []), append-nil);
-      short = omega (arith, ap length whole, length-append (joinMap ends (take (i + 1) ms)) (joinMap ends (drop (i + 1) ms)));
-      inside = λ b m. any-joinMap (eqb b) ends ms ∙ any-in (λ r. mem b (ends r)) (get_or ms i 0) ms (getD-mem ms i h) m;
+      joined = rw (add-one i, take-suc ms i 0 h, join_map-append ends (take i ms) (get_or ms i 0 ∷ []), append-nil);
+      short = omega (arith, ap length whole, length-append (join_map ends (take (i + 1) ms)) (join_map ends (drop (i + 1) ms)));
+      inside = λ b m. any-join_map (eqb b) ends ms ∙ any_in (λ r. mem b (ends r)) (get_or ms i 0) ms (get_or-mem ms i h) m;
     }

@@ -3,7 +3,7 @@ use Rattle.std.specs.Prelude.{ℕ, ◌+◌, ◌≤◌, ◌<◌, ◌≡◌, true,
 use Rattle.std.proofs.lemmas.List.Edits.{sets}
 use Rattle.lists.specs.Basics.{filter, all, sum_of, range, mem, over}
 use Rattle.parts.specs.Parts.{Present}
-use Rattle.groups.specs.Groups.{members, groupBodies, flatten, offsets}
+use Rattle.groups.specs.Groups.{members, group_bodies, flatten, offsets}
 
 -- the bodies bs, once each, rising
 unfoldable pub among : ℕ → List ℕ → List ℕ
@@ -14,9 +14,9 @@ unfoldable pub lacking : ℕ → List ℕ → List ℕ → List ℕ
 lacking stamp st [] = []
 lacking stamp st (b ∷ bs) = cond (eqb (get_or st b 0) stamp) (lacking stamp st bs) (b ∷ lacking stamp (set st b stamp) bs)
 
-unfoldable pub stampAll : ℕ → List ℕ → List ℕ → List ℕ
-stampAll stamp st [] = st
-stampAll stamp st (b ∷ bs) = stampAll stamp (set st b stamp) bs
+unfoldable pub stamp_all : ℕ → List ℕ → List ℕ → List ℕ
+stamp_all stamp st [] = st
+stamp_all stamp st (b ∷ bs) = stamp_all stamp (set st b stamp) bs
 
 -- the bodies that have the stamp, rising
 unfoldable pub stamped : ℕ → List ℕ → List ℕ
@@ -33,7 +33,7 @@ pub record Stampable (bs st : List ℕ) : Type 0 where
 
 -- they are stamped, and those that did not have the stamp are counted, from `start` up to `end`
 pub record Counted (stamp : ℕ) (bs : List ℕ) (start : ℕ) (st st' : List ℕ) (end : ℕ) : Type 0 where
-  pub stamps : st' ≡ stampAll stamp st bs
+  pub stamps : st' ≡ stamp_all stamp st bs
   pub counted : end ≡ start + length (lacking stamp st bs)
 
 -- the bodies bs can be noted: there is room for all of them too
@@ -59,21 +59,21 @@ pub record Listed (bs : List ℕ) (stamp : ℕ) (st' bodies bodies' : List ℕ) 
   pub low : (b : ℕ) → get_or st' b 0 ≤ stamp
 
 -- what `gather` needs: constraints cs on bodies that exist, with the members of all groups; no body stamped; tables of these lengths
-pub record Gatherable (body-count : ℕ) (cs : List (List ℕ)) (colors : List ℕ) (color-count : ℕ) (color-offsets colored-constraints body-stamps scratch-offsets color-body-offsets color-bodies : List ℕ) : Type 0 where
-  pub few-bodies : body-count ≤ 4096
+pub record Gatherable (body_count : ℕ) (cs : List (List ℕ)) (colors : List ℕ) (color_count : ℕ) (color_offsets colored_constraints body_stamps scratch_offsets color_body_offsets color_bodies : List ℕ) : Type 0 where
+  pub few_bodies : body_count ≤ 4096
   pub few : length colors ≤ 8192
-  pub low : color-count ≤ length colors
-  pub below : all (λ bs. all (λ b. ltb b body-count) bs) cs ≡ true
+  pub low : color_count ≤ length colors
+  pub below : all (λ bs. all (λ b. ltb b body_count) bs) cs ≡ true
   pub small : sum_of length cs ≤ 65535
-  pub starts : color-offsets ≡ offsets (members colors) color-count
-  pub constraints : colored-constraints ≡ flatten (members colors) color-count
-  pub stamps : length body-stamps ≡ body-count
-  pub unstamped : (b : ℕ) → b < body-count → get_or body-stamps b 0 ≡ 0
-  pub scratch : body-count ≤ length scratch-offsets
-  pub ends : length color-body-offsets ≡ color-count + 1
-  pub room : sum_of length cs ≤ length color-bodies
+  pub starts : color_offsets ≡ offsets (members colors) color_count
+  pub constraints : colored_constraints ≡ flatten (members colors) color_count
+  pub stamps : length body_stamps ≡ body_count
+  pub unstamped : (b : ℕ) → b < body_count → get_or body_stamps b 0 ≡ 0
+  pub scratch : body_count ≤ length scratch_offsets
+  pub ends : length color_body_offsets ≡ color_count + 1
+  pub room : sum_of length cs ≤ length color_bodies
 
 -- what it leaves: the bodies of all groups, group after group, and where each starts, with the end
-pub record Gathered (body-count : ℕ) (cs : List (List ℕ)) (colors : List ℕ) (color-count : ℕ) (color-body-offsets' color-bodies color-bodies' : List ℕ) : Type 0 where
-  pub starts : color-body-offsets' ≡ offsets (groupBodies body-count cs colors) color-count
-  pub bodies : color-bodies' ≡ over (flatten (groupBodies body-count cs colors) color-count) color-bodies
+pub record Gathered (body_count : ℕ) (cs : List (List ℕ)) (colors : List ℕ) (color_count : ℕ) (color_body_offsets' color_bodies color_bodies' : List ℕ) : Type 0 where
+  pub starts : color_body_offsets' ≡ offsets (group_bodies body_count cs colors) color_count
+  pub bodies : color_bodies' ≡ over (flatten (group_bodies body_count cs colors) color_count) color_bodies

@@ -3,7 +3,7 @@
 #![tactic(auto)]
 
 ghost use Rattle.std.specs.Prelude.{◌≡◌, [], ◌∷◌, ◌≤◌, ◌<◌, length};
-ghost use Rattle.lists.specs.Basics.{joinMap};
+ghost use Rattle.lists.specs.Basics.{join_map};
 ghost use Rattle.parts.specs.Parts.{part_at, parts_at, Bounded};
 ghost use Rattle.gathering.specs.Gathers.{stamped, Stampable, Counted, Notable, Noted, AllPresent, Fresh, Listed, Gatherable, Gathered};
 
@@ -47,8 +47,8 @@ fn stamp_members(
     body_stamps: &mut [u16],
 ) -> usize
     requires all_present { AllPresent endpoints.now bounds.now members.now }
-    requires stampable { Stampable (joinMap (part_at bounds.now endpoints.now) members.now) body_stamps.old }
-    ensures { Counted stamp (joinMap (part_at bounds.now endpoints.now) members.now) 0 body_stamps.old body_stamps.new result }
+    requires stampable { Stampable (join_map (part_at bounds.now endpoints.now) members.now) body_stamps.old }
+    ensures { Counted stamp (join_map (part_at bounds.now endpoints.now) members.now) 0 body_stamps.old body_stamps.new result }
 {
     let mut count = 0;
     let mut i = 0;
@@ -88,8 +88,8 @@ fn list_many(
     start: usize,
 ) -> usize
     requires all_present { AllPresent endpoints.now bounds.now members.now }
-    requires fresh { Fresh (joinMap (part_at bounds.now endpoints.now) members.now) stamp body_stamps.old color_bodies.old start }
-    ensures { Listed (joinMap (part_at bounds.now endpoints.now) members.now) stamp body_stamps.new color_bodies.old color_bodies.new start result }
+    requires fresh { Fresh (join_map (part_at bounds.now endpoints.now) members.now) stamp body_stamps.old color_bodies.old start }
+    ensures { Listed (join_map (part_at bounds.now endpoints.now) members.now) stamp body_stamps.new color_bodies.old color_bodies.new start result }
 {
     let count = stamp_members(endpoints, bounds, members, stamp, body_stamps);
     let end = start + count;
@@ -148,8 +148,8 @@ fn note_members(
     start: usize,
 ) -> usize
     requires all_present { AllPresent endpoints.now bounds.now members.now }
-    requires notable { Notable (joinMap (part_at bounds.now endpoints.now) members.now) body_stamps.old color_bodies.old start }
-    ensures { Noted stamp (joinMap (part_at bounds.now endpoints.now) members.now) start body_stamps.old color_bodies.old body_stamps.new color_bodies.new result }
+    requires notable { Notable (join_map (part_at bounds.now endpoints.now) members.now) body_stamps.old color_bodies.old start }
+    ensures { Noted stamp (join_map (part_at bounds.now endpoints.now) members.now) start body_stamps.old color_bodies.old body_stamps.new color_bodies.new result }
 {
     let mut end = start;
     let mut i = 0;
@@ -175,9 +175,9 @@ fn list_few(
     start: usize,
 ) -> usize
     requires all_present { AllPresent endpoints.now bounds.now members.now }
-    requires fresh { Fresh (joinMap (part_at bounds.now endpoints.now) members.now) stamp body_stamps.old color_bodies.old start }
+    requires fresh { Fresh (join_map (part_at bounds.now endpoints.now) members.now) stamp body_stamps.old color_bodies.old start }
     requires body_stamps_in_bounds { length body_stamps.old ≤ length scratch_offsets.old }
-    ensures { Listed (joinMap (part_at bounds.now endpoints.now) members.now) stamp body_stamps.new color_bodies.old color_bodies.new start result }
+    ensures { Listed (join_map (part_at bounds.now endpoints.now) members.now) stamp body_stamps.new color_bodies.old color_bodies.new start result }
 {
     let end = note_members(
         endpoints,
@@ -205,9 +205,9 @@ fn list_bodies(
     start: usize,
 ) -> usize
     requires all_present { AllPresent endpoints.now bounds.now members.now }
-    requires fresh { Fresh (joinMap (part_at bounds.now endpoints.now) members.now) stamp body_stamps.old color_bodies.old start }
+    requires fresh { Fresh (join_map (part_at bounds.now endpoints.now) members.now) stamp body_stamps.old color_bodies.old start }
     requires body_stamps_in_bounds { length body_stamps.old ≤ length scratch_offsets.old }
-    ensures { Listed (joinMap (part_at bounds.now endpoints.now) members.now) stamp body_stamps.new color_bodies.old color_bodies.new start result }
+    ensures { Listed (join_map (part_at bounds.now endpoints.now) members.now) stamp body_stamps.new color_bodies.old color_bodies.new start result }
 {
     if members.len() >= body_stamps.len() / BODIES_PER_CONSTRAINT {
         return list_many(

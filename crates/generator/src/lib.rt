@@ -5,10 +5,10 @@
 
 ghost use Rattle.std.specs.Prelude.{◌≡◌, ◌+◌, ◌*◌, ◌/◌, ◌%◌, ◌^◌, ◌<◌, ◌≤◌, true, [], ◌∷◌, ◌++◌, length};
 ghost use Rattle.lists.specs.Basics.{put, over};
-ghost use Rattle.frame.specs.Questions.{fewEach};
-ghost use Rattle.frame_file.specs.Written.{fileLength, pairBytes, jointBytes};
-ghost use Rattle.generator.specs.Draws.{nextState, stateAfter, draw, pairDrawn, typesDrawn, pairsDrawn, enabledDrawn, generatedBytes};
-ghost use Rattle.generator.specs.Calls.{pairsPossible, generateRefusal, generatedNumber, generatedLength, Makes};
+ghost use Rattle.frame.specs.Questions.{few_each};
+ghost use Rattle.frame_file.specs.Written.{file_length, pair_bytes, joint_bytes};
+ghost use Rattle.generator.specs.Draws.{next_state, state_after, draw, pair_drawn, types_drawn, pairs_drawn, enabled_drawn, generated_bytes};
+ghost use Rattle.generator.specs.Calls.{pairs_possible, generate_refusal, generated_number, generated_length, Makes};
 
 use frame::{HEADER, JOINT, PAIR};
 
@@ -24,7 +24,7 @@ pub enum Generated {
 
 // What was answered: the refusal or 0, and the length.
 pub fn refusal_of(answer: Generated) -> u8
-    ensures { result ≡ generatedNumber answer }
+    ensures { result ≡ generated_number answer }
 {
     match answer {
         Generated::Frame(_) => 0,
@@ -33,7 +33,7 @@ pub fn refusal_of(answer: Generated) -> u8
 }
 
 pub fn length_of(answer: Generated) -> usize
-    ensures { result ≡ generatedLength answer }
+    ensures { result ≡ generated_length answer }
 {
     match answer {
         Generated::Frame(length) => length,
@@ -50,7 +50,7 @@ pub fn wrapping_mul(a: u32, b: u32) -> u32
 
 // The state after s.
 fn next_state(s: u32) -> u32
-    ensures { result ≡ nextState s }
+    ensures { result ≡ next_state s }
 {
     std::num::wrapping_add_u32(wrapping_mul(1664525, s), 1013904223)
 }
@@ -65,7 +65,7 @@ fn upper(s: u32) -> u32
 // Draws types into the `count` bytes from `at` on; answers the state after them.
 fn draw_types(out: &mut [u8], at: usize, count: usize, seed: u32) -> u32
     requires { at + count ≤ length out.old }
-    ensures { (out.new ≡ put at (typesDrawn count seed) out.old) × (result ≡ stateAfter count seed) }
+    ensures { (out.new ≡ put at (types_drawn count seed) out.old) × (result ≡ state_after count seed) }
 {
     let mut state = seed;
     let mut i = 0;
@@ -81,7 +81,7 @@ fn draw_types(out: &mut [u8], at: usize, count: usize, seed: u32) -> u32
 // Draws two different bodies and writes the pair at a place; answers the state after it.
 fn draw_pair(out: &mut [u8], at: usize, bodies: u32, before: u32) -> u32
     requires { (at + 4 ≤ length out.old) × (2 ≤ bodies) × (bodies ≤ 4096) }
-    ensures { (out.new ≡ put at (pairBytes (pairDrawn bodies 0 before)) out.old) × (result ≡ stateAfter 2 before) }
+    ensures { (out.new ≡ put at (pair_bytes (pair_drawn bodies 0 before)) out.old) × (result ≡ state_after 2 before) }
 {
     let between = next_state(before);
     let after = next_state(between);
@@ -94,7 +94,7 @@ fn draw_pair(out: &mut [u8], at: usize, bodies: u32, before: u32) -> u32
 // Draws a joint at a place: its pair, then its enabled byte; answers the state after it.
 fn draw_joint(out: &mut [u8], at: usize, bodies: u32, before: u32) -> u32
     requires { (at + 5 ≤ length out.old) × (2 ≤ bodies) × (bodies ≤ 4096) }
-    ensures { (out.new ≡ put at (pairBytes (pairDrawn bodies 0 before) ++ (draw 2 before % 2) ∷ []) out.old) × (result ≡ stateAfter 3 before) }
+    ensures { (out.new ≡ put at (pair_bytes (pair_drawn bodies 0 before) ++ (draw 2 before % 2) ∷ []) out.old) × (result ≡ state_after 3 before) }
 {
     let paired = draw_pair(out, at, bodies, before);
     let after = next_state(paired);
@@ -104,8 +104,8 @@ fn draw_joint(out: &mut [u8], at: usize, bodies: u32, before: u32) -> u32
 
 // Draws manifolds from `at` on; answers the state after them.
 fn draw_manifolds(out: &mut [u8], at: usize, bodies: u32, count: usize, before: u32) -> u32
-    requires { (at + 4 * count ≤ length out.old) × (pairsPossible bodies count 0 ≡ true) × (bodies ≤ 4096) }
-    ensures { (out.new ≡ put at (pairBytes (pairsDrawn bodies 0 2 count before)) out.old) × (result ≡ stateAfter (2 * count) before) }
+    requires { (at + 4 * count ≤ length out.old) × (pairs_possible bodies count 0 ≡ true) × (bodies ≤ 4096) }
+    ensures { (out.new ≡ put at (pair_bytes (pairs_drawn bodies 0 2 count before)) out.old) × (result ≡ state_after (2 * count) before) }
 {
     let mut state = before;
     let mut i = 0;
@@ -119,8 +119,8 @@ fn draw_manifolds(out: &mut [u8], at: usize, bodies: u32, count: usize, before: 
 
 // Draws joints from `at` on.
 fn draw_joints(out: &mut [u8], at: usize, bodies: u32, count: usize, before: u32)
-    requires { (at + 5 * count ≤ length out.old) × (pairsPossible bodies 0 count ≡ true) × (bodies ≤ 4096) }
-    ensures { out.new ≡ put at (jointBytes (pairsDrawn bodies 0 3 count before) (enabledDrawn 0 count before)) out.old }
+    requires { (at + 5 * count ≤ length out.old) × (pairs_possible bodies 0 count ≡ true) × (bodies ≤ 4096) }
+    ensures { out.new ≡ put at (joint_bytes (pairs_drawn bodies 0 3 count before) (enabled_drawn 0 count before)) out.old }
 {
     let mut state = before;
     let mut i = 0;
@@ -133,8 +133,8 @@ fn draw_joints(out: &mut [u8], at: usize, bodies: u32, count: usize, before: u32
 
 // Writes the file of a seed from place 0 on.
 fn write_lift(out: &mut [u8], seed: u32, bodies: usize, manifolds: usize, joints: usize)
-    requires { (fewEach bodies manifolds joints ≡ true) × (pairsPossible bodies manifolds joints ≡ true) × (fileLength bodies manifolds joints ≤ length out.old) }
-    ensures { out.new ≡ over (generatedBytes seed bodies manifolds joints) out.old }
+    requires { (few_each bodies manifolds joints ≡ true) × (pairs_possible bodies manifolds joints ≡ true) × (file_length bodies manifolds joints ≤ length out.old) }
+    ensures { out.new ≡ over (generated_bytes seed bodies manifolds joints) out.old }
 {
     frame_file::put_header(out, bodies, manifolds, joints);
     let after_types = draw_types(out, HEADER, bodies, seed);
@@ -146,15 +146,15 @@ fn write_lift(out: &mut [u8], seed: u32, bodies: usize, manifolds: usize, joints
 
 // Question 13: no pair is wanted, or there are two bodies for it.
 fn pairs_possible(bodies: usize, manifolds: usize, joints: usize) -> bool
-    requires { fewEach bodies manifolds joints ≡ true }
-    ensures { result ≡ pairsPossible bodies manifolds joints }
+    requires { few_each bodies manifolds joints ≡ true }
+    ensures { result ≡ pairs_possible bodies manifolds joints }
 {
     (2 <= bodies) | (manifolds + joints == 0)
 }
 
 // Questions 3, 13 and 6; 0 where all get a "yes".
 fn first_refusal(bodies: usize, manifolds: usize, joints: usize, room: usize) -> u8
-    ensures { result ≡ generateRefusal bodies manifolds joints room }
+    ensures { result ≡ generate_refusal bodies manifolds joints room }
 {
     if !frame::few_each(bodies, manifolds, joints) {
         return 3;

@@ -2,23 +2,23 @@
 -- are read at the positions, and a turn and its takes depend on the refusal and on how many are "dynamic" alone.
 use mathlib.Core.Path.{refl, sym}
 use mathlib.Core.List.{[], ◌∷◌}
-use Rattle.colored_bodies.specs.Answers.{withBodies}
-use Rattle.colored_bodies.proofs.Pairs.{takes-by}
+use Rattle.colored_bodies.specs.Answers.{with_bodies}
+use Rattle.colored_bodies.proofs.Pairs.{takes_by}
 use Rattle.colored_bodies.proofs.Positions.{takes_at}
 use Rattle.group_run.specs.ByValue.{MarksAreTakes, CountedMarksAreTakes, GroupsByMarks}
-use Rattle.group_run.proofs.Takes.{none-taken, dynamic-two, dynamic-several, call-added, bodies-apart}
+use Rattle.group_run.proofs.Takes.{none_taken, dynamic-two, dynamic-several, call_added, bodies_apart}
 
-pub marks-are-takes : MarksAreTakes
-marks-are-takes b x y r left h = record {
-  taken = takes-by b x y r left h (withBodies b.bodies x y r) refl;
-  added = λ i k n. sym (call-added _ _ h.refusal (dynamic-two _ r h.dynamic) (none-taken b (x ∷ y ∷ [])));
+pub marks_are_takes : MarksAreTakes
+marks_are_takes b x y r left h = record {
+  taken = takes_by b x y r left h (with_bodies b.bodies x y r) refl;
+  added = λ i k n. sym (call_added _ _ h.refusal (dynamic-two _ r h.dynamic) (none_taken b (x ∷ y ∷ [])));
 }
 
-pub counted-marks-are-takes : CountedMarksAreTakes
-counted-marks-are-takes b ps r left h = record {
+pub counted_marks_are_takes : CountedMarksAreTakes
+counted_marks_are_takes b ps r left h = record {
   taken = takes_at b ps r left h _ refl _ refl;
-  added = λ i k n. sym (call-added _ _ h.refusal (dynamic-several _ r h.dynamic) (none-taken b ps));
+  added = λ i k n. sym (call_added _ _ h.refusal (dynamic-several _ r h.dynamic) (none_taken b ps));
 }
 
-pub groups-by-marks : GroupsByMarks
-groups-by-marks = bodies-apart
+pub groups_by_marks : GroupsByMarks
+groups_by_marks = bodies_apart

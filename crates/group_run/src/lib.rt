@@ -3,10 +3,10 @@
 #![tactic(auto)]
 
 ghost use Rattle.std.specs.Prelude.{◌≡◌, [], ◌∷◌, ◌≤◌, length, get_or};
-ghost use Rattle.colored_bodies.specs.Bindings.{bindOf, Known};
-ghost use Rattle.schedules.specs.Runs.{callsFrom};
+ghost use Rattle.colored_bodies.specs.Bindings.{bind_of, Known};
+ghost use Rattle.schedules.specs.Runs.{calls_from};
 ghost use Rattle.turn_table.specs.Turns.{Room, Appended};
-ghost use Rattle.group_run.specs.Appends.{seen, planCalls, addedBy, marksOnly, Countable, pairTaken, countedTaken, RankTaken, MemberTaken};
+ghost use Rattle.group_run.specs.Appends.{seen, plan_calls, added_by, marks_only, Countable, pair_taken, counted_taken, RankTaken, MemberTaken};
 
 use colored_bodies::Marked;
 use colored_bodies::multi::MarkedAt;
@@ -16,7 +16,7 @@ use turn_table::{Taken, Tally};
 
 // What a take of two marks says to the turn table.
 fn pair_taken(marked: Marked) -> Taken
-    ensures { result ≡ pairTaken marked }
+    ensures { result ≡ pair_taken marked }
 {
     match marked {
         Marked::Taken {
@@ -35,7 +35,7 @@ fn pair_taken(marked: Marked) -> Taken
 
 // And what a take of two to four says: each of its flags is 1 or 0.
 fn counted_taken(marked: MarkedAt) -> Taken
-    ensures { result ≡ countedTaken marked }
+    ensures { result ≡ counted_taken marked }
 {
     let flags = marked.dynamic;
     Taken {
@@ -134,7 +134,7 @@ fn take_member(
     tally: Tally,
 ) -> Tally
     requires countable { Countable plan counts.now bounds.now positions.now }
-    requires room { Room (addedBy (callsFrom (seen plan counts.now [] [] [] [] positions.now) numbers.now island group (marksOnly marks.old count) (rank ∷ []))) turns.old tally }
+    requires room { Room (added_by (calls_from (seen plan counts.now [] [] [] [] positions.now) numbers.now island group (marks_only marks.old count) (rank ∷ []))) turns.old tally }
     ensures { MemberTaken (seen plan counts.now [] [] [] [] positions.now) numbers.now island group marks.old count rank turns.old tally marks.new turns.new result }
 {
     let taken = take_rank(plan, counts, bounds, positions, rank, marks, count);
@@ -157,8 +157,8 @@ fn take_members(
     tally: Tally,
 ) -> Tally
     requires countable { Countable plan counts.now bounds.now positions.now }
-    requires room { Room (addedBy (callsFrom (seen plan counts.now [] [] [] [] positions.now) numbers.now island group (marksOnly marks.old count) members.now)) turns.old tally }
-    ensures { Appended (addedBy (callsFrom (seen plan counts.now [] [] [] [] positions.now) numbers.now island group (marksOnly marks.old count) members.now)) turns.old tally turns.new result }
+    requires room { Room (added_by (calls_from (seen plan counts.now [] [] [] [] positions.now) numbers.now island group (marks_only marks.old count) members.now)) turns.old tally }
+    ensures { Appended (added_by (calls_from (seen plan counts.now [] [] [] [] positions.now) numbers.now island group (marks_only marks.old count) members.now)) turns.old tally turns.new result }
 {
     let mut sum = tally;
     let mut m = 0;
@@ -190,9 +190,9 @@ fn run_group(
     tally: Tally,
 ) -> Tally
     requires countable { Countable plan counts.now bounds.now positions.now }
-    requires room { Room (addedBy (callsFrom (seen plan counts.now [] [] [] [] positions.now) numbers.now island group (bindOf types.now bodies.now) members.now)) turns.old tally }
+    requires room { Room (added_by (calls_from (seen plan counts.now [] [] [] [] positions.now) numbers.now island group (bind_of types.now bodies.now) members.now)) turns.old tally }
     requires known { Known types.now }
-    ensures { Appended (addedBy (callsFrom (seen plan counts.now [] [] [] [] positions.now) numbers.now island group (bindOf types.now bodies.now) members.now)) turns.old tally turns.new result }
+    ensures { Appended (added_by (calls_from (seen plan counts.now [] [] [] [] positions.now) numbers.now island group (bind_of types.now bodies.now) members.now)) turns.old tally turns.new result }
 {
     let count = colored_bodies::bind_marks(types, bodies, marks);
     take_members(
@@ -219,9 +219,9 @@ pub fn run_groups(
 ) -> Tally
     requires countable { Countable plan counts.now bounds.now positions.now }
     requires color_count_bound { plan.color_count ≤ 8192 }
-    requires room { Room (addedBy (planCalls (seen plan counts.now color_offsets.now colored_constraints.now color_body_offsets.now color_bodies.now positions.now) types.now numbers.now island)) turns.old tally }
+    requires room { Room (added_by (plan_calls (seen plan counts.now color_offsets.now colored_constraints.now color_body_offsets.now color_bodies.now positions.now) types.now numbers.now island)) turns.old tally }
     requires known { Known types.now }
-    ensures { Appended (addedBy (planCalls (seen plan counts.now color_offsets.now colored_constraints.now color_body_offsets.now color_bodies.now positions.now) types.now numbers.now island)) turns.old tally turns.new result }
+    ensures { Appended (added_by (plan_calls (seen plan counts.now color_offsets.now colored_constraints.now color_body_offsets.now color_bodies.now positions.now) types.now numbers.now island)) turns.old tally turns.new result }
 {
     let mut marks = [0u8; Frame::MAX_BODIES];
     let mut sum = tally;

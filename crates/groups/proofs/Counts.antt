@@ -6,14 +6,14 @@ use mathlib.Core.List.{List, [], ◌∷◌, ◌++◌, map, append_assoc}
 use native.Mathlib.Omega.{arith}
 use lib.ListN.{length, drop, length-drop}
 use lib.Seq.{take-append_seam, drop-append_seam, length-take-le}
-use Rattle.lists.specs.Basics.{sum_of, joinMap}
+use Rattle.lists.specs.Basics.{sum_of, join_map}
 use Rattle.groups.specs.Groups.{counted_parts}
 
-pub parts_apart : (cs : List (List ℕ)) (rest : List ℕ) → counted_parts (map length cs) (joinMap (λ c. c) cs ++ rest) ≡ cs
+pub parts_apart : (cs : List (List ℕ)) (rest : List ℕ) → counted_parts (map length cs) (join_map (λ c. c) cs ++ rest) ≡ cs
 parts_apart [] rest = refl
 parts_apart (c ∷ cs) rest =
-    let behind = joinMap (λ d. d) cs ++ rest in
-    rw (append_assoc c (joinMap (λ d. d) cs) rest, take-append_seam c behind, drop-append_seam c behind, parts_apart cs rest)
+    let behind = join_map (λ d. d) cs ++ rest in
+    rw (append_assoc c (join_map (λ d. d) cs) rest, take-append_seam c behind, drop-append_seam c behind, parts_apart cs rest)
 
 pub parts_long : (counts bs : List ℕ) → sum_of (λ c. c) counts ≤ length bs → map length (counted_parts counts bs) ≡ counts
 parts_long [] bs h = refl

@@ -4,5 +4,5 @@ use mathlib.Core.Path.{◌≡◌}
 use Rattle.frame.specs.Frames.{Frame}
 use Rattle.island.specs.Calls.{IslandTables, Built}
 
-pub built-as : {f : Frame} {k : ℕ} {t u : IslandTables} {x y n i : ℕ} → x ≡ y → n ≡ i → Built f k t u x n → Built f k t u y i
-built-as e g h = rw (e, g) at h
+pub built_as : {f : Frame} {k : ℕ} {t u : IslandTables} {x y n i : ℕ} → x ≡ y → n ≡ i → Built f k t u x n → Built f k t u y i
+built_as e g h = rw (e, g) at h

@@ -27,8 +27,8 @@ module _ (q3 q4 q5 q6 q7 : Bool) where
     pub five : q5 ≡ true
     pub six : q6 ≡ true
 
-  pub all-yes : early ≡ 0 → AllYes
-  all-yes e =
+  pub all_yes : early ≡ 0 → AllYes
+  all_yes e =
       let a = passed q3 _ 2 e in
       let b = passed q4 _ 3 a.1 in
       let c = passed q5 _ 4 b.1 in
@@ -42,8 +42,8 @@ module _ (q3 q4 q5 q6 q7 : Bool) where
   first_of true true true false = omega arith
   first_of true true true true = omega arith
 
-  pub early-below : early ≡ 7 → ⊥
-  early-below e = omega (arith, first_of q3 q4 q5 q6)
+  pub early_below : early ≡ 7 → ⊥
+  early_below e = omega (arith, first_of q3 q4 q5 q6)
 
   -- ---- and then question 7
   in_order : refused ≡ cond (eqb early 0) (cond q7 0 7) early
@@ -52,5 +52,5 @@ module _ (q3 q4 q5 q6 q7 : Bool) where
   pub refused-early : (k : ℕ) → k ≡ early → (k ≡ 0 → ⊥) → k ≡ refused
   refused-early k e n = e ∙ sym (in_order ∙ ap (λ (t : Bool). cond t (cond q7 0 7) early) (ne_eqb early 0 (λ z. n (e ∙ z))))
 
-  pub refused-late : early ≡ 0 → cond q7 0 7 ≡ refused
-  refused-late e = sym (in_order ∙ ap (λ (t : Bool). cond t (cond q7 0 7) early) (eq-eqb early 0 e))
+  pub refused_late : early ≡ 0 → cond q7 0 7 ≡ refused
+  refused_late e = sym (in_order ∙ ap (λ (t : Bool). cond t (cond q7 0 7) early) (eq-eqb early 0 e))

@@ -4,16 +4,16 @@ use Rattle.island.specs.declared.Answer.{Answer}
 use Rattle.island.specs.declared.Answer.TheVariants.{Islands, Refused}
 
 -- the refusal; 0 is acceptance
-abbrev pub answerNumber : Answer → ℕ
-answerNumber (Islands n) = 0
-answerNumber (Refused k) = k
+abbrev pub answer_number : Answer → ℕ
+answer_number (Islands n) = 0
+answer_number (Refused k) = k
 
 -- whether it is a refusal: that has a number, never 0
-abbrev pub answerRefused : Answer → Bool
-answerRefused (Islands n) = false
-answerRefused (Refused k) = true
+abbrev pub answer_refused : Answer → Bool
+answer_refused (Islands n) = false
+answer_refused (Refused k) = true
 
 -- how many islands; 0 where refused
-abbrev pub answerIslands : Answer → ℕ
-answerIslands (Islands n) = n
-answerIslands (Refused k) = 0
+abbrev pub answer_islands : Answer → ℕ
+answer_islands (Islands n) = n
+answer_islands (Refused k) = 0

@@ -1,50 +1,50 @@
 -- What the steps of a build leave: only the private functions' contracts cite these.
 use Rattle.std.specs.Prelude.{ℕ, ◌≤◌, ◌≡◌, true, false, not, cond, List, map, length, get_or, replicate}
 use Rattle.lists.specs.Basics.{any}
-use Rattle.frame.specs.Frames.{Frame, constraints, bodies, on, allSound, none}
-use Rattle.island_sets.specs.Sets.{rootOf}
+use Rattle.frame.specs.Frames.{Frame, constraints, bodies, on, all_sound, none}
+use Rattle.island_sets.specs.Sets.{root_of}
 use Rattle.island_sets.specs.Steps.{Balanced}
-use Rattle.connected_sets.specs.Islands.{heaviest, islandCount, bodyLabel, label}
+use Rattle.connected_sets.specs.Islands.{heaviest, island_count, body_label, label}
 use Rattle.island.specs.declared.Answer.{Answer}
-use Rattle.island.specs.Answers.{answerNumber, answerRefused, answerIslands}
+use Rattle.island.specs.Answers.{answer_number, answer_refused, answer_islands}
 use Rattle.island.specs.Calls.{WeighedSets}
 
 -- ---- a frame on tables of just its sizes
 
 pub record Sized (f : Frame) (p b m j : List ℕ) : Type 0 where
   pub few : length f.types ≤ 4096
-  pub long-parents : length p ≡ length f.types
-  pub long-bodies : length b ≡ length f.types
-  pub long-manifolds : length m ≡ length f.manifolds
-  pub long-joints : length j ≡ length f.joints
+  pub long_parents : length p ≡ length f.types
+  pub long_bodies : length b ≡ length f.types
+  pub long_manifolds : length m ≡ length f.manifolds
+  pub long_joints : length j ≡ length f.joints
 
 -- its constraints are sound and joined, and label 0 tells which bodies they are on
 pub record Ready (f : Frame) (p b m j : List ℕ) : Type 0 where
   pub sized : Sized f p b m j
-  pub passed : allSound f ≡ true
+  pub passed : all_sound f ≡ true
   pub balanced : Balanced p
-  pub roots : rootOf p ≡ heaviest f
+  pub roots : root_of p ≡ heaviest f
   pub constrained : (x : ℕ) → get_or b x none ≡ cond (any (on x) (constraints f)) 0 none
 
 -- its labels
 pub record Labelled (f : Frame) (b m j : List ℕ) (islands : ℕ) : Type 0 where
-  pub count : islands ≡ islandCount f
-  pub body-labels : b ≡ map (bodyLabel f) (bodies f)
-  pub manifold-labels : m ≡ map (label f) f.manifolds
-  pub joint-labels : j ≡ map (label f) f.joints
+  pub count : islands ≡ island_count f
+  pub body_labels : b ≡ map (body_label f) (bodies f)
+  pub manifold_labels : m ≡ map (label f) f.manifolds
+  pub joint_labels : j ≡ map (label f) f.joints
 
 -- no labels, and each body alone
 pub record Blank (f : Frame) (p s b m j : List ℕ) (islands : ℕ) : Type 0 where
   pub count : islands ≡ 0
   pub parents : p ≡ bodies f
   pub sizes : s ≡ replicate (length f.types) 1
-  pub body-labels : b ≡ replicate (length f.types) none
-  pub manifold-labels : m ≡ replicate (length f.manifolds) none
-  pub joint-labels : j ≡ replicate (length f.joints) none
+  pub body_labels : b ≡ replicate (length f.types) none
+  pub manifold_labels : m ≡ replicate (length f.manifolds) none
+  pub joint_labels : j ≡ replicate (length f.joints) none
 
 -- question 7 decides between the two
 pub record BuiltSized (f : Frame) (p s b m j : List ℕ) (r : Answer) : Type 0 where
-  pub refusal : answerNumber r ≡ cond (allSound f) 0 7
-  pub refused : answerRefused r ≡ not (allSound f)
-  pub accepted : allSound f ≡ true → WeighedSets f p s × Labelled f b m j (answerIslands r)
-  pub blank : allSound f ≡ false → Blank f p s b m j (answerIslands r)
+  pub refusal : answer_number r ≡ cond (all_sound f) 0 7
+  pub refused : answer_refused r ≡ not (all_sound f)
+  pub accepted : all_sound f ≡ true → WeighedSets f p s × Labelled f b m j (answer_islands r)
+  pub blank : all_sound f ≡ false → Blank f p s b m j (answer_islands r)

@@ -7,10 +7,10 @@
 
 ghost use Rattle.std.specs.Prelude.{◌≡◌, ◌&&◌, [], ◌/◌, ◌%◌, ◌≤◌, eqb, length, replicate};
 ghost use Rattle.lists.specs.Basics.{range};
-ghost use Rattle.frame.specs.Frames.{frame_of, frame_with, endCount, none};
+ghost use Rattle.frame.specs.Frames.{frame_of, frame_with, end_count, none};
 ghost use Rattle.frame.specs.Questions.{asked};
-ghost use Rattle.island.specs.Calls.{islandTablesOf, rooms_of, roomy, earlyQuestions, islandRefusal, multiEarlyQuestions, multiIslandRefusal, Builds};
-ghost use Rattle.island.specs.Answers.{answerNumber, answerIslands};
+ghost use Rattle.island.specs.Calls.{island_tables_of, rooms_of, roomy, early_questions, island_refusal, multi_early_questions, multi_island_refusal, Builds};
+ghost use Rattle.island.specs.Answers.{answer_number, answer_islands};
 ghost use Rattle.island.specs.Steps.{Sized, Ready, Labelled, BuiltSized};
 
 use island_labels::NONE;
@@ -24,7 +24,7 @@ pub enum Answer {
 
 // Its number: the refusal, or 0.
 pub fn refusal_of(answer: Answer) -> u8
-    ensures { result ≡ answerNumber answer }
+    ensures { result ≡ answer_number answer }
 {
     match answer {
         Answer::Islands(_) => 0,
@@ -34,7 +34,7 @@ pub fn refusal_of(answer: Answer) -> u8
 
 // How many islands; 0 where refused.
 pub fn islands_of(answer: Answer) -> u16
-    ensures { result ≡ answerIslands answer }
+    ensures { result ≡ answer_islands answer }
 {
     match answer {
         Answer::Islands(count) => count,
@@ -66,7 +66,7 @@ fn label_frame(
 ) -> u16
     requires ready { Ready (frame_with body_types.now manifolds.now joint_ends.now joint_counts.now enabled.now)
         parents.now body_islands.old manifold_islands.old joint_islands.old }
-    requires ends_len { endCount joint_counts.now ≤ length joint_ends.now }
+    requires ends_len { end_count joint_counts.now ≤ length joint_ends.now }
     ensures { Labelled (frame_with body_types.now manifolds.now joint_ends.now joint_counts.now enabled.now)
         body_islands.new manifold_islands.new joint_islands.new result }
 {
@@ -97,7 +97,7 @@ fn build_sized(
 ) -> Answer
     requires sized { Sized (frame_with body_types.now manifolds.now joint_ends.now joint_counts.now enabled.now)
         parents.old body_islands.old manifold_islands.old joint_islands.old }
-    requires ends_len { endCount joint_counts.now ≤ length joint_ends.now }
+    requires ends_len { end_count joint_counts.now ≤ length joint_ends.now }
     requires sizes_len { length sizes.old ≡ length parents.old }
     ensures { BuiltSized (frame_with body_types.now manifolds.now joint_ends.now joint_counts.now enabled.now)
         parents.new sizes.new body_islands.new manifold_islands.new joint_islands.new result }
@@ -141,7 +141,7 @@ fn lengths_agree(manifolds: usize, joints: usize, enabled: usize) -> bool
 // Question 4 of joints with a count each.
 fn counts_agree(manifolds: usize, ends: usize, counts: &[u8], enabled: usize) -> bool
     requires { length counts.now ≤ 4096 }
-    ensures { result ≡ (eqb (manifolds % 2) 0 && eqb (endCount counts.now) ends && eqb enabled (length counts.now)) }
+    ensures { result ≡ (eqb (manifolds % 2) 0 && eqb (end_count counts.now) ends && eqb enabled (length counts.now)) }
 {
     (manifolds % 2 == 0) & (frame::multi::sum_counts(counts) == ends) & (enabled == counts.len())
 }
@@ -179,7 +179,7 @@ fn early_refusal(
     manifold_islands: usize,
     joint_islands: usize,
 ) -> u8
-    ensures { result ≡ asked (earlyQuestions body_types.now manifolds.now joints.now enabled.now
+    ensures { result ≡ asked (early_questions body_types.now manifolds.now joints.now enabled.now
         (record { parents = parents; sizes = sizes; bodies = body_islands; manifolds = manifold_islands; joints = joint_islands })) }
 {
     let bodies = body_types.len();
@@ -223,7 +223,7 @@ fn multi_early_refusal(
     manifold_islands: usize,
     joint_islands: usize,
 ) -> u8
-    ensures { result ≡ asked (multiEarlyQuestions body_types.now manifolds.now joint_ends.now joint_counts.now enabled.now
+    ensures { result ≡ asked (multi_early_questions body_types.now manifolds.now joint_ends.now joint_counts.now enabled.now
         (record { parents = parents; sizes = sizes; bodies = body_islands; manifolds = manifold_islands; joints = joint_islands })) }
 {
     let bodies = body_types.len();
@@ -273,10 +273,10 @@ pub fn build_with_joints(
     joint_islands: &mut [u16],
 ) -> Answer
     ensures { Builds (frame_of body_types.now manifolds.now joints.now enabled.now)
-        (islandRefusal body_types.now manifolds.now joints.now enabled.now
-        (rooms_of (islandTablesOf parents.old sizes.old body_islands.old manifold_islands.old joint_islands.old)))
-        (islandTablesOf parents.old sizes.old body_islands.old manifold_islands.old joint_islands.old)
-        (islandTablesOf parents.new sizes.new body_islands.new manifold_islands.new joint_islands.new) result }
+        (island_refusal body_types.now manifolds.now joints.now enabled.now
+        (rooms_of (island_tables_of parents.old sizes.old body_islands.old manifold_islands.old joint_islands.old)))
+        (island_tables_of parents.old sizes.old body_islands.old manifold_islands.old joint_islands.old)
+        (island_tables_of parents.new sizes.new body_islands.new manifold_islands.new joint_islands.new) result }
 {
     let refusal = early_refusal(
         body_types,
@@ -322,10 +322,10 @@ pub fn build_with_multi_joints(
     joint_islands: &mut [u16],
 ) -> Answer
     ensures { Builds (frame_with body_types.now manifolds.now joint_ends.now joint_counts.now enabled.now)
-        (multiIslandRefusal body_types.now manifolds.now joint_ends.now joint_counts.now enabled.now
-        (rooms_of (islandTablesOf parents.old sizes.old body_islands.old manifold_islands.old joint_islands.old)))
-        (islandTablesOf parents.old sizes.old body_islands.old manifold_islands.old joint_islands.old)
-        (islandTablesOf parents.new sizes.new body_islands.new manifold_islands.new joint_islands.new) result }
+        (multi_island_refusal body_types.now manifolds.now joint_ends.now joint_counts.now enabled.now
+        (rooms_of (island_tables_of parents.old sizes.old body_islands.old manifold_islands.old joint_islands.old)))
+        (island_tables_of parents.old sizes.old body_islands.old manifold_islands.old joint_islands.old)
+        (island_tables_of parents.new sizes.new body_islands.new manifold_islands.new joint_islands.new) result }
 {
     let refusal = multi_early_refusal(
         body_types,
@@ -367,10 +367,10 @@ pub fn build(
     manifold_islands: &mut [u16],
 ) -> Answer
     ensures { Builds (frame_of body_types.now manifolds.now [] [])
-        (islandRefusal body_types.now manifolds.now [] []
-        (rooms_of (islandTablesOf parents.old sizes.old body_islands.old manifold_islands.old [])))
-        (islandTablesOf parents.old sizes.old body_islands.old manifold_islands.old [])
-        (islandTablesOf parents.new sizes.new body_islands.new manifold_islands.new []) result }
+        (island_refusal body_types.now manifolds.now [] []
+        (rooms_of (island_tables_of parents.old sizes.old body_islands.old manifold_islands.old [])))
+        (island_tables_of parents.old sizes.old body_islands.old manifold_islands.old [])
+        (island_tables_of parents.new sizes.new body_islands.new manifold_islands.new []) result }
 {
     let mut joint_islands = [0; 1];
     build_with_joints(

@@ -14,16 +14,16 @@ use lib.Seq.{get_or-set_same, get_or-set_other, drop-cons, take_all}
 use borrow.Author.Tests.{eqb-true, eq-eqb, ne_eqb}
 use Rattle.lists.specs.Basics.{filter, any, all, mem}
 use Rattle.lists.proofs.Laws.{and_left, and_right, and_both, clashes, not-true-false, any_append, all_append, cond-or}
-use Rattle.lists.proofs.Ranges.{joinMap-append}
+use Rattle.lists.proofs.Ranges.{join_map-append}
 use Rattle.lists.proofs.Scans.{any_next}
 use Rattle.frame.specs.Frames.{Constraint, Frame, constraint, dynamic, on, sound, none}
-use Rattle.island_sets.specs.Sets.{rootOf, hang}
+use Rattle.island_sets.specs.Sets.{root_of, hang}
 use Rattle.island_sets.specs.Steps.{Sets}
 use Rattle.island_labels.specs.Labels.{bare}
 use Rattle.island_labels.proofs.Labelling.{tied}
-use Rattle.connected_sets.specs.Islands.{Edge, star, edgesOf, edges, hangAll}
+use Rattle.connected_sets.specs.Islands.{Edge, star, edges_of, edges, hang_all}
 use Rattle.island_joins.specs.Joins.{FirstDynamic, Joined, JoinedOrRefused}
-use Rattle.connected_sets.proofs.Weights.{hangAll-append}
+use Rattle.connected_sets.proofs.Weights.{hang_all-append}
 
 -- ---- what one pair joins
 abbrev pub edge : ℕ → ℕ → Edge
@@ -39,19 +39,19 @@ module _ (n : ℕ) (g : ℕ → ℕ) (ts : List ℕ) (a b : ℕ) where
   abbrev both : Bool
   both = eqb (get_or ts a 0) 2 && eqb (get_or ts b 0) 2
 
-  joined : hangAll n g (edgesOf (bare ts) (constraint true a b)) ≡ hangAll n g (cond both (edge a b ∷ []) [])
-  unfolding edgesOf dynamic
-  joined = ap (hangAll n g) (pairs (eqb (get_or ts a 0) 2) (eqb (get_or ts b 0) 2) a b)
+  joined : hang_all n g (edges_of (bare ts) (constraint true a b)) ≡ hang_all n g (cond both (edge a b ∷ []) [])
+  unfolding edges_of dynamic
+  joined = ap (hang_all n g) (pairs (eqb (get_or ts a 0) 2) (eqb (get_or ts b 0) 2) a b)
 
   -- the code tests the two types, u and v, as one number
   module _ (u v : ℕ) (eu : u ≡ get_or ts a 0) (ev : v ≡ get_or ts b 0) (small : v < 256) where
-    pub join-off : (u * 256 + v ≡ 514 → ⊥) → g ≡ hangAll n g (edgesOf (bare ts) (constraint true a b))
-    join-off e = sym (joined ∙ rw off)
+    pub join_off : (u * 256 + v ≡ 514 → ⊥) → g ≡ hang_all n g (edges_of (bare ts) (constraint true a b))
+    join_off e = sym (joined ∙ rw off)
       where
         off : both ≡ false
         off = not-true-false both (λ t. e (omega (arith, eqb-true (get_or ts a 0) 2 (and_left (eqb (get_or ts a 0) 2) (eqb (get_or ts b 0) 2) t), eqb-true (get_or ts b 0) 2 (and_right (eqb (get_or ts a 0) 2) (eqb (get_or ts b 0) 2) t))))
 
-    pub join-on : u * 256 + v ≡ 514 → hang n g a b ≡ hangAll n g (edgesOf (bare ts) (constraint true a b))
+    pub join-on : u * 256 + v ≡ 514 → hang n g a b ≡ hang_all n g (edges_of (bare ts) (constraint true a b))
     join-on e = sym (joined ∙ rw (eq-eqb (get_or ts a 0) 2 (omega arith), eq-eqb (get_or ts b 0) 2 (omega arith)))
 
 -- ---- what bodies bs join: the first dynamic one is at place r
@@ -69,23 +69,23 @@ module _ (ts bs : List ℕ) where
   dynamics_end i h = ap (filter (dynamic (bare ts))) (drop_of_length-le bs {i = i} h)
 
   -- the search for it, at place i
-  pub first-turns : (i : ℕ) → dynamics i ≡ dynamics 0 → i < length bs → (get_or ts (at i) 0 ≡ 2 → ⊥) → dynamics (i + 1) ≡ dynamics 0
+  pub first_turns : (i : ℕ) → dynamics i ≡ dynamics 0 → i < length bs → (get_or ts (at i) 0 ≡ 2 → ⊥) → dynamics (i + 1) ≡ dynamics 0
   unfolding dynamic
-  first-turns i e h n = sym (dynamics_next i h ∙ rw (ne_eqb (get_or ts (at i) 0) 2 n)) ∙ e
+  first_turns i e h n = sym (dynamics_next i h ∙ rw (ne_eqb (get_or ts (at i) 0) 2 n)) ∙ e
 
-  pub first-found : (i : ℕ) → dynamics i ≡ dynamics 0 → i < length bs → get_or ts (at i) 0 ≡ 2 → FirstDynamic ts bs i
+  pub first_found : (i : ℕ) → dynamics i ≡ dynamics 0 → i < length bs → get_or ts (at i) 0 ≡ 2 → FirstDynamic ts bs i
   unfolding dynamic
-  first-found i e k t = record { inside = omega (arith, k); skipped = e; here = λ h. eq-eqb (get_or ts (at i) 0) 2 t }
+  first_found i e k t = record { inside = omega (arith, k); skipped = e; here = λ h. eq-eqb (get_or ts (at i) 0) 2 t }
 
-  pub first-nowhere : (i : ℕ) → dynamics i ≡ dynamics 0 → length bs ≡ i → FirstDynamic ts bs i
-  first-nowhere i e h = record { inside = omega (arith, h); skipped = e; here = λ k. absurd (omega arith) }
+  pub first_nowhere : (i : ℕ) → dynamics i ≡ dynamics 0 → length bs ≡ i → FirstDynamic ts bs i
+  first_nowhere i e h = record { inside = omega (arith, h); skipped = e; here = λ k. absurd (omega arith) }
 
   -- it is joined with each later one: the loop, at place i
   pub record Starring (r : ℕ) (p₀ p s : List ℕ) (i : ℕ) : Type 0 where
     pub above : r < i
     pub sets : Sets p s
     pub long : length p ≡ length ts
-    pub roots : hangAll (length ts) (rootOf p) (map (edge (at r)) (dynamics i)) ≡ hangAll (length ts) (rootOf p₀) (edgesOf (bare ts) (tied true bs))
+    pub roots : hang_all (length ts) (root_of p) (map (edge (at r)) (dynamics i)) ≡ hang_all (length ts) (root_of p₀) (edges_of (bare ts) (tied true bs))
 
   module _ (r : ℕ) (f : FirstDynamic ts bs r) where
     star_is : star (dynamics 0) ≡ map (edge (at r)) (dynamics (r + 1))
@@ -95,44 +95,44 @@ module _ (ts bs : List ℕ) where
         go (yes h) = ap star (sym f.skipped ∙ dynamics_next r h) ∙ rw (f.here h)
         go (no n) = ap star (sym f.skipped ∙ dynamics_end r (omega arith)) ∙ ap (map (edge (at r))) (sym (dynamics_end (r + 1) (omega arith)))
 
-    pub starring-starts : (p s : List ℕ) → Sets p s → length p ≡ length ts → Starring r p p s (r + 1)
-    unfolding edgesOf
-    starring-starts p s h e = record { above = omega arith; sets = h; long = e; roots = ap (hangAll (length ts) (rootOf p)) (sym star_is) }
+    pub starring_starts : (p s : List ℕ) → Sets p s → length p ≡ length ts → Starring r p p s (r + 1)
+    unfolding edges_of
+    starring_starts p s h e = record { above = omega arith; sets = h; long = e; roots = ap (hang_all (length ts) (root_of p)) (sym star_is) }
 
     module _ (p₀ p s : List ℕ) (i : ℕ) (w : Starring r p₀ p s i) where
-      step : (t u : Bool) (g : ℕ → ℕ) (b : ℕ) (ds : List ℕ) → t ≡ true → hangAll (length ts) (hangAll (length ts) g (star (cond t (at r ∷ cond u (b ∷ []) []) (cond u (b ∷ []) [])))) (map (edge (at r)) ds) ≡ hangAll (length ts) g (map (edge (at r)) (cond u (b ∷ ds) ds))
+      step : (t u : Bool) (g : ℕ → ℕ) (b : ℕ) (ds : List ℕ) → t ≡ true → hang_all (length ts) (hang_all (length ts) g (star (cond t (at r ∷ cond u (b ∷ []) []) (cond u (b ∷ []) [])))) (map (edge (at r)) ds) ≡ hang_all (length ts) g (map (edge (at r)) (cond u (b ∷ ds) ds))
       step t true g b ds e = rw e
       step t false g b ds e = rw e
 
-      pub starring-turns : (p' s' : List ℕ) → i < length bs → Sets p' s' → length p' ≡ length p → rootOf p' ≡ hangAll (length ts) (rootOf p) (edgesOf (bare ts) (constraint true (at r) (at i))) → Starring r p₀ p' s' (i + 1)
-      unfolding edgesOf
-      starring-turns p' s' h k e q = record {
+      pub starring_turns : (p' s' : List ℕ) → i < length bs → Sets p' s' → length p' ≡ length p → root_of p' ≡ hang_all (length ts) (root_of p) (edges_of (bare ts) (constraint true (at r) (at i))) → Starring r p₀ p' s' (i + 1)
+      unfolding edges_of
+      starring_turns p' s' h k e q = record {
         above = omega (arith, w.above);
         sets = k;
         long = e ∙ w.long;
         roots =
-            ap (λ (g : ℕ → ℕ). hangAll (length ts) g (map (edge (at r)) (dynamics (i + 1)))) q
-            ∙ step (dynamic (bare ts) (at r)) (dynamic (bare ts) (at i)) (rootOf p) (at i) (dynamics (i + 1)) (f.here (omega (arith, w.above)))
-            ∙ ap (λ (ds : List ℕ). hangAll (length ts) (rootOf p) (map (edge (at r)) ds)) (sym (dynamics_next i h))
+            ap (λ (g : ℕ → ℕ). hang_all (length ts) g (map (edge (at r)) (dynamics (i + 1)))) q
+            ∙ step (dynamic (bare ts) (at r)) (dynamic (bare ts) (at i)) (root_of p) (at i) (dynamics (i + 1)) (f.here (omega (arith, w.above)))
+            ∙ ap (λ (ds : List ℕ). hang_all (length ts) (root_of p) (map (edge (at r)) ds)) (sym (dynamics_next i h))
             ∙ w.roots;
       }
 
-      pub starring-ends : length bs ≤ i → rootOf p ≡ hangAll (length ts) (rootOf p₀) (edgesOf (bare ts) (tied true bs))
-      starring-ends h = ap (λ (ds : List ℕ). hangAll (length ts) (rootOf p) (map (edge (at r)) ds)) (sym (dynamics_end i h)) ∙ w.roots
+      pub starring_ends : length bs ≤ i → root_of p ≡ hang_all (length ts) (root_of p₀) (edges_of (bare ts) (tied true bs))
+      starring_ends h = ap (λ (ds : List ℕ). hang_all (length ts) (root_of p) (map (edge (at r)) ds)) (sym (dynamics_end i h)) ∙ w.roots
 
 -- ---- which bodies are constrained
-constrain-one : (l : List ℕ) (a x : ℕ) → a < length l → get_or (set l a 0) x none ≡ cond (eqb x a) 0 (get_or l x none)
-constrain-one l a x h = go (ℕ_discrete x a)
+constrain_one : (l : List ℕ) (a x : ℕ) → a < length l → get_or (set l a 0) x none ≡ cond (eqb x a) 0 (get_or l x none)
+constrain_one l a x h = go (ℕ_discrete x a)
   where
     go : Dec (x ≡ a) → get_or (set l a 0) x none ≡ cond (eqb x a) 0 (get_or l x none)
     go (yes e) = rw (e, eq-eqb a a refl) (get_or-set_same l a 0 none h)
     go (no n) = rw (ne_eqb x a n) (get_or-set_other l a x 0 none n)
 
 -- two of them
-pub constrain-two : (l : List ℕ) (a b x : ℕ) → a < length l → b < length l → get_or (set (set l a 0) b 0) x none ≡ cond (mem x (a ∷ b ∷ [])) 0 (get_or l x none)
-constrain-two l a b x h k =
-    constrain-one (set l a 0) b x (rw length-set k)
-    ∙ ap (λ (n : ℕ). cond (eqb x b) 0 n) (constrain-one l a x h)
+pub constrain_two : (l : List ℕ) (a b x : ℕ) → a < length l → b < length l → get_or (set (set l a 0) b 0) x none ≡ cond (mem x (a ∷ b ∷ [])) 0 (get_or l x none)
+constrain_two l a b x h k =
+    constrain_one (set l a 0) b x (rw length-set k)
+    ∙ ap (λ (n : ℕ). cond (eqb x b) 0 n) (constrain_one l a x h)
     ∙ cond-or (eqb x a) (eqb x b) 0 (get_or l x none)
     ∙ ap (λ (t : Bool). cond (eqb x a || t) 0 (get_or l x none)) (sym (or-false (eqb x b)))
 
@@ -141,52 +141,52 @@ pub record Constraining (bs l₀ l : List ℕ) (i : ℕ) : Type 0 where
   pub long : length l ≡ length l₀
   pub labels : (x : ℕ) → get_or l x none ≡ cond (mem x (take i bs)) 0 (get_or l₀ x none)
 
-pub constraining-turns : (bs l₀ l : List ℕ) (i : ℕ) → Constraining bs l₀ l i → i < length bs → get_or bs i 0 < length l → Constraining bs l₀ (set l (get_or bs i 0) 0) (i + 1)
-constraining-turns bs l₀ l i w h k = record {
+pub constraining_turns : (bs l₀ l : List ℕ) (i : ℕ) → Constraining bs l₀ l i → i < length bs → get_or bs i 0 < length l → Constraining bs l₀ (set l (get_or bs i 0) 0) (i + 1)
+constraining_turns bs l₀ l i w h k = record {
   long = length-set l (get_or bs i 0) 0 ∙ w.long;
   labels = λ x.
-      constrain-one l (get_or bs i 0) x k
+      constrain_one l (get_or bs i 0) x k
       ∙ ap (λ (n : ℕ). cond (eqb x (get_or bs i 0)) 0 n) (w.labels x)
       ∙ cond-or (mem x (take i bs)) (eqb x (get_or bs i 0)) 0 (get_or l₀ x none)
       ∙ ap (λ (t : Bool). cond t 0 (get_or l₀ x none)) (sym (any_next (eqb x) bs i h));
 }
 
-pub constraining-ends : (bs l₀ l : List ℕ) (i : ℕ) → Constraining bs l₀ l i → length bs ≤ i → (x : ℕ) → get_or l x none ≡ cond (mem x bs) 0 (get_or l₀ x none)
-constraining-ends bs l₀ l i w h x = w.labels x ∙ ap (λ (ys : List ℕ). cond (mem x ys) 0 (get_or l₀ x none)) (take_all i bs h)
+pub constraining_ends : (bs l₀ l : List ℕ) (i : ℕ) → Constraining bs l₀ l i → length bs ≤ i → (x : ℕ) → get_or l x none ≡ cond (mem x bs) 0 (get_or l₀ x none)
+constraining_ends bs l₀ l i w h x = w.labels x ∙ ap (λ (ys : List ℕ). cond (mem x ys) 0 (get_or l₀ x none)) (take_all i bs h)
 
 -- ---- one constraint
 module _ (ts p l : List ℕ) (t : Bool) (bs : List ℕ) where
-  pub joined-dead : (s : List ℕ) → Sets p s → t ≡ false → Joined ts (tied t bs ∷ []) p l p s l
-  unfolding edges edgesOf on
-  joined-dead s h e = record { sets = h; roots = rw e; constrained = λ x. rw e }
+  pub joined_dead : (s : List ℕ) → Sets p s → t ≡ false → Joined ts (tied t bs ∷ []) p l p s l
+  unfolding edges edges_of on
+  joined_dead s h e = record { sets = h; roots = rw e; constrained = λ x. rw e }
 
-  pub joined-live : (p' s' l' : List ℕ) → Sets p' s' → t ≡ true
-      → rootOf p' ≡ hangAll (length ts) (rootOf p) (edgesOf (bare ts) (tied true bs)) → ((x : ℕ) → get_or l' x none ≡ cond (mem x bs) 0 (get_or l x none))
+  pub joined_live : (p' s' l' : List ℕ) → Sets p' s' → t ≡ true
+      → root_of p' ≡ hang_all (length ts) (root_of p) (edges_of (bare ts) (tied true bs)) → ((x : ℕ) → get_or l' x none ≡ cond (mem x bs) 0 (get_or l x none))
       → Joined ts (tied t bs ∷ []) p l p' s' l'
   unfolding edges on
-  joined-live p' s' l' h e r m = record {
+  joined_live p' s' l' h e r m = record {
     sets = h;
-    roots = rw e (r ∙ ap (hangAll (length ts) (rootOf p)) (sym (append-nil (edgesOf (bare ts) (tied true bs)))));
+    roots = rw e (r ∙ ap (hang_all (length ts) (root_of p)) (sym (append-nil (edges_of (bare ts) (tied true bs)))));
     constrained = λ x. rw e (m x ∙ ap (λ (u : Bool). cond u 0 (get_or l x none)) (sym (or-false (mem x bs))));
   }
 
 -- ---- two lists of constraints together
 edges-append : (f : Frame) (cs ds : List Constraint) → edges f (cs ++ ds) ≡ edges f cs ++ edges f ds
 unfolding edges
-edges-append f cs ds = joinMap-append (edgesOf f) cs ds
+edges-append f cs ds = join_map-append (edges_of f) cs ds
 
-pub joined-none : (ts p s l : List ℕ) → Sets p s → Joined ts [] p l p s l
+pub joined_none : (ts p s l : List ℕ) → Sets p s → Joined ts [] p l p s l
 unfolding edges
-joined-none ts p s l h = record { sets = h; roots = refl; constrained = λ x. refl }
+joined_none ts p s l h = record { sets = h; roots = refl; constrained = λ x. refl }
 
-pub joined-append : (ts : List ℕ) (cs ds : List Constraint) (p₀ l₀ p₁ s₁ l₁ p₂ s₂ l₂ : List ℕ) → Joined ts cs p₀ l₀ p₁ s₁ l₁ → Joined ts ds p₁ l₁ p₂ s₂ l₂ → Joined ts (cs ++ ds) p₀ l₀ p₂ s₂ l₂
-joined-append ts cs ds p₀ l₀ p₁ s₁ l₁ p₂ s₂ l₂ u v = record {
+pub joined_append : (ts : List ℕ) (cs ds : List Constraint) (p₀ l₀ p₁ s₁ l₁ p₂ s₂ l₂ : List ℕ) → Joined ts cs p₀ l₀ p₁ s₁ l₁ → Joined ts ds p₁ l₁ p₂ s₂ l₂ → Joined ts (cs ++ ds) p₀ l₀ p₂ s₂ l₂
+joined_append ts cs ds p₀ l₀ p₁ s₁ l₁ p₂ s₂ l₂ u v = record {
   sets = v.sets;
   roots =
       v.roots
-      ∙ ap (λ (g : ℕ → ℕ). hangAll (length ts) g (edges (bare ts) ds)) u.roots
-      ∙ sym (hangAll-append (length ts) (rootOf p₀) (edges (bare ts) cs) (edges (bare ts) ds))
-      ∙ ap (hangAll (length ts) (rootOf p₀)) (sym (edges-append (bare ts) cs ds));
+      ∙ ap (λ (g : ℕ → ℕ). hang_all (length ts) g (edges (bare ts) ds)) u.roots
+      ∙ sym (hang_all-append (length ts) (root_of p₀) (edges (bare ts) cs) (edges (bare ts) ds))
+      ∙ ap (hang_all (length ts) (root_of p₀)) (sym (edges-append (bare ts) cs ds));
   constrained = λ x.
       v.constrained x
       ∙ ap (λ (n : ℕ). cond (any (on x) ds) 0 n) (u.constrained x)
@@ -199,23 +199,23 @@ module _ (ts : List ℕ) (cs ds : List Constraint) (p₀ l₀ p₁ s₁ l₁ : L
   abbrev passes : Constraint → Bool
   passes = sound (length ts)
 
-  both-lists : (t : Bool) → r ≡ t → all passes (cs ++ ds) ≡ (t && all passes ds)
-  both-lists t e = all_append passes cs ds ∙ ap (λ (x : Bool). x && all passes ds) (sym u.answer ∙ e)
+  both_lists : (t : Bool) → r ≡ t → all passes (cs ++ ds) ≡ (t && all passes ds)
+  both_lists t e = all_append passes cs ds ∙ ap (λ (x : Bool). x && all passes ds) (sym u.answer ∙ e)
 
-  pub tried-both : r ≡ true → (p₂ s₂ l₂ : List ℕ) (r₂ : Bool) → JoinedOrRefused ts ds p₁ l₁ p₂ s₂ l₂ r₂ → JoinedOrRefused ts (cs ++ ds) p₀ l₀ p₂ s₂ l₂ r₂
-  tried-both e p₂ s₂ l₂ r₂ v = record { answer = v.answer ∙ sym (both-lists true e); joined = λ t. joined-append ts cs ds p₀ l₀ p₁ s₁ l₁ p₂ s₂ l₂ (u.joined e) (v.joined t) }
+  pub tried_both : r ≡ true → (p₂ s₂ l₂ : List ℕ) (r₂ : Bool) → JoinedOrRefused ts ds p₁ l₁ p₂ s₂ l₂ r₂ → JoinedOrRefused ts (cs ++ ds) p₀ l₀ p₂ s₂ l₂ r₂
+  tried_both e p₂ s₂ l₂ r₂ v = record { answer = v.answer ∙ sym (both_lists true e); joined = λ t. joined_append ts cs ds p₀ l₀ p₁ s₁ l₁ p₂ s₂ l₂ (u.joined e) (v.joined t) }
 
 -- ---- the loop over constraints cs, of which these are left: those before are done, and passed question 7
 pub record Joining (ts : List ℕ) (cs left : List Constraint) (p₀ l₀ p s l : List ℕ) : Type 0 where
-  pub long-p : length p ≡ length p₀
-  pub long-l : length l ≡ length l₀
+  pub long_p : length p ≡ length p₀
+  pub long_l : length l ≡ length l₀
   pub done : List Constraint
   pub whole : done ++ left ≡ cs
   pub passed : all (sound (length ts)) done ≡ true
   pub joined : Joined ts done p₀ l₀ p s l
 
-pub joining-starts : (ts : List ℕ) (cs : List Constraint) (p s l : List ℕ) → Sets p s → Joining ts cs cs p l p s l
-joining-starts ts cs p s l h = record { long-p = refl; long-l = refl; done = []; whole = refl; passed = refl; joined = joined-none ts p s l h }
+pub joining_starts : (ts : List ℕ) (cs : List Constraint) (p s l : List ℕ) → Sets p s → Joining ts cs cs p l p s l
+joining_starts ts cs p s l h = record { long_p = refl; long_l = refl; done = []; whole = refl; passed = refl; joined = joined_none ts p s l h }
 
 module _ (ts : List ℕ) (cs left : List Constraint) (p₀ l₀ p s l : List ℕ) (w : Joining ts cs left p₀ l₀ p s l) where
   asked-both : all (sound (length ts)) cs ≡ all (sound (length ts)) left
@@ -223,24 +223,24 @@ module _ (ts : List ℕ) (cs left : List Constraint) (p₀ l₀ p s l : List ℕ
 
   -- the next of them, c, is tried
   module _ (c : Constraint) (rest : List Constraint) (e : left ≡ c ∷ rest) (p' s' l' : List ℕ) (r : Bool) (j : JoinedOrRefused ts (c ∷ []) p l p' s' l' r) where
-    pub joining-turns : r ≡ true → length p' ≡ length p → length l' ≡ length l → Joining ts cs rest p₀ l₀ p' s' l'
-    joining-turns ok ep el = record {
-      long-p = ep ∙ w.long-p;
-      long-l = el ∙ w.long-l;
+    pub joining_turns : r ≡ true → length p' ≡ length p → length l' ≡ length l → Joining ts cs rest p₀ l₀ p' s' l'
+    joining_turns ok ep el = record {
+      long_p = ep ∙ w.long_p;
+      long_l = el ∙ w.long_l;
       done = w.done ++ (c ∷ []);
       whole = append_assoc w.done (c ∷ []) rest ∙ ap (λ (ds : List Constraint). w.done ++ ds) (sym e) ∙ w.whole;
       passed = all_append (sound (length ts)) w.done (c ∷ []) ∙ and_both (all (sound (length ts)) w.done) (all (sound (length ts)) (c ∷ [])) w.passed (sym j.answer ∙ ok);
-      joined = joined-append ts w.done (c ∷ []) p₀ l₀ p s l p' s' l' w.joined (j.joined ok);
+      joined = joined_append ts w.done (c ∷ []) p₀ l₀ p s l p' s' l' w.joined (j.joined ok);
     }
 
-    pub joining-stops : r ≡ false → JoinedOrRefused ts cs p₀ l₀ p' s' l' false
-    joining-stops bad = record {
+    pub joining_stops : r ≡ false → JoinedOrRefused ts cs p₀ l₀ p' s' l' false
+    joining_stops bad = record {
       answer = sym (asked-both ∙ ap (all (sound (length ts))) e ∙ ap (λ (t : Bool). t && all (sound (length ts)) rest) (sym (and-true (sound (length ts) c)) ∙ sym j.answer ∙ bad));
       joined = λ t. clashes false t refl;
     }
 
-  pub joining-ends : left ≡ [] → JoinedOrRefused ts cs p₀ l₀ p s l true
-  joining-ends e =
+  pub joining_ends : left ≡ [] → JoinedOrRefused ts cs p₀ l₀ p s l true
+  joining_ends e =
       let all_done : w.done ≡ cs = sym (append-nil w.done) ∙ ap (λ (ds : List Constraint). w.done ++ ds) (sym e) ∙ w.whole in
       record {
         answer = sym (ap (all (sound (length ts))) (sym all_done) ∙ w.passed);

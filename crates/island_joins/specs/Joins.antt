@@ -2,16 +2,16 @@
 use Rattle.std.specs.Prelude.{ℕ, ◌≡◌, ◌<◌, ◌≤◌, Bool, true, cond, List, length, get_or, drop}
 use Rattle.lists.specs.Basics.{filter, any, all}
 use Rattle.frame.specs.Frames.{Constraint, dynamic, on, sound, none}
-use Rattle.connected_sets.specs.Islands.{edges, hangAll}
-use Rattle.island_sets.specs.Sets.{rootOf}
+use Rattle.connected_sets.specs.Islands.{edges, hang_all}
+use Rattle.island_sets.specs.Sets.{root_of}
 use Rattle.island_sets.specs.Steps.{Sets}
 use Rattle.island_labels.specs.Labels.{bare}
 
 -- parents, sizes and labels, as many of each as bodies
 pub record Fit (ts p s l : List ℕ) : Type 0 where
   pub sets : Sets p s
-  pub long-parents : length p ≡ length ts
-  pub long-bodies : length l ≡ length ts
+  pub long_parents : length p ≡ length ts
+  pub long_bodies : length l ≡ length ts
 
 -- r is the place of the first dynamic body in bs, or its length where none is: the dynamic ones stand from there on
 pub record FirstDynamic (ts bs : List ℕ) (r : ℕ) : Type 0 where
@@ -22,7 +22,7 @@ pub record FirstDynamic (ts bs : List ℕ) (r : ℕ) : Type 0 where
 -- the constraints cs join the sets of p₀, in order, and constrain the bodies that they are on in l₀
 pub record Joined (ts : List ℕ) (cs : List Constraint) (p₀ l₀ p s l : List ℕ) : Type 0 where
   pub sets : Sets p s
-  pub roots : rootOf p ≡ hangAll (length ts) (rootOf p₀) (edges (bare ts) cs)
+  pub roots : root_of p ≡ hang_all (length ts) (root_of p₀) (edges (bare ts) cs)
   pub constrained : (x : ℕ) → get_or l x none ≡ cond (any (on x) cs) 0 (get_or l₀ x none)
 
 -- r says whether all of them pass question 7; where one does not, the tables are left anyhow

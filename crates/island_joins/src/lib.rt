@@ -3,9 +3,9 @@
 
 ghost use Rattle.std.specs.Prelude.{ℕ, ◌≡◌, true, cond, ◌∷◌, [], ◌<◌, ◌≤◌, ltb, length, get_or, set};
 ghost use Rattle.lists.specs.Basics.{all, mem};
-ghost use Rattle.frame.specs.Frames.{constraint, constraints, constraintsOf, counted_of, endCount, joints_of, frame_with, none};
-ghost use Rattle.connected_sets.specs.Islands.{edgesOf, hangAll};
-ghost use Rattle.island_sets.specs.Sets.{rootOf};
+ghost use Rattle.frame.specs.Frames.{constraint, constraints, constraints_of, counted_of, end_count, joints_of, frame_with, none};
+ghost use Rattle.connected_sets.specs.Islands.{edges_of, hang_all};
+ghost use Rattle.island_sets.specs.Sets.{root_of};
 ghost use Rattle.island_sets.specs.Steps.{Sets};
 ghost use Rattle.island_labels.specs.Labels.{bare};
 ghost use Rattle.island_joins.specs.Joins.{Fit, FirstDynamic, JoinedOrRefused};
@@ -22,7 +22,7 @@ const DYNAMIC: u8 = 2;
 fn join_dynamic(body_types: &[u8], parents: &mut [u16], sizes: &mut [u16], a: u16, b: u16)
     requires { Sets parents.old sizes.old × (length parents.old ≡ length body_types.now) × (a < length body_types.now) × (b < length body_types.now) }
     ensures { Sets parents.new sizes.new
-        × (rootOf parents.new ≡ hangAll (length body_types.now) (rootOf parents.old) (edgesOf (bare body_types.now) (constraint true a b))) }
+        × (root_of parents.new ≡ hang_all (length body_types.now) (root_of parents.old) (edges_of (bare body_types.now) (constraint true a b))) }
 {
     let types = frame::wide(body_types[a as usize]) * 256 + frame::wide(body_types[b as usize]);
     if types != BOTH_DYNAMIC {
@@ -74,7 +74,7 @@ fn join_all(
     body_islands: &mut [u16],
 ) -> bool
     requires { Fit body_types.now parents.old sizes.old body_islands.old }
-    ensures { JoinedOrRefused body_types.now (constraintsOf pairs.now enabled.now)
+    ensures { JoinedOrRefused body_types.now (constraints_of pairs.now enabled.now)
         parents.old body_islands.old parents.new sizes.new body_islands.new result }
 {
     let mut k: usize = 0;
@@ -118,8 +118,8 @@ fn join_dynamics(body_types: &[u8], parents: &mut [u16], sizes: &mut [u16], ends
     requires { Sets parents.old sizes.old × (length parents.old ≡ length body_types.now)
         × (all (λ b. ltb b (length body_types.now)) ends.now ≡ true) }
     ensures { Sets parents.new sizes.new
-        × (rootOf parents.new ≡ hangAll (length body_types.now) (rootOf parents.old)
-        (edgesOf (bare body_types.now) (record { ends = ends.now; live = true }))) }
+        × (root_of parents.new ≡ hang_all (length body_types.now) (root_of parents.old)
+        (edges_of (bare body_types.now) (record { ends = ends.now; live = true }))) }
 {
     let first = first_dynamic(body_types, ends);
     let mut place = first + 1;
@@ -177,7 +177,7 @@ fn join_counted(
     body_islands: &mut [u16],
 ) -> bool
     requires fit { Fit body_types.now parents.old sizes.old body_islands.old }
-    requires ends_len { endCount counts.now ≤ length ends.now }
+    requires ends_len { end_count counts.now ≤ length ends.now }
     ensures { JoinedOrRefused body_types.now (counted_of counts.now ends.now enabled.now)
         parents.old body_islands.old parents.new sizes.new body_islands.new result }
 {
@@ -214,7 +214,7 @@ fn join_joints(
     body_islands: &mut [u16],
 ) -> bool
     requires fit { Fit body_types.now parents.old sizes.old body_islands.old }
-    requires ends_len { endCount counts.now ≤ length ends.now }
+    requires ends_len { end_count counts.now ≤ length ends.now }
     ensures { JoinedOrRefused body_types.now (joints_of counts.now ends.now enabled.now)
         parents.old body_islands.old parents.new sizes.new body_islands.new result }
 {
@@ -244,7 +244,7 @@ pub fn join_frame(
     body_islands: &mut [u16],
 ) -> bool
     requires fit { Fit body_types.now parents.old sizes.old body_islands.old }
-    requires ends_len { endCount joint_counts.now ≤ length joint_ends.now }
+    requires ends_len { end_count joint_counts.now ≤ length joint_ends.now }
     ensures { JoinedOrRefused body_types.now
         (constraints (frame_with body_types.now manifolds.now joint_ends.now joint_counts.now enabled.now))
         parents.old body_islands.old parents.new sizes.new body_islands.new result }

@@ -3,9 +3,9 @@
 
 ghost use Rattle.std.specs.Prelude.{◌≡◌, true, cond, map, min, ◌<◌, ◌≤◌, length};
 ghost use Rattle.lists.specs.Basics.{all};
-ghost use Rattle.frame.specs.Frames.{constraint, constraintsOf, counted_of, endCount, joints_of, sound};
+ghost use Rattle.frame.specs.Frames.{constraint, constraints_of, counted_of, end_count, joints_of, sound};
 ghost use Rattle.island_sets.specs.Steps.{Balanced};
-ghost use Rattle.island_labels.specs.Labels.{inIslandBy, Numberable, Flagged, Stepped, NumberedByLowest, labelBy};
+ghost use Rattle.island_labels.specs.Labels.{in_island_by, Numberable, Flagged, Stepped, NumberedByLowest, label_by};
 
 // The label of what has no island.
 pub const NONE: u16 = 65535;
@@ -26,7 +26,7 @@ fn pick_place(test: bool, yes: usize, no: usize) -> usize
 // The bodies in islands, dynamic and constrained, have no number yet; any other has none. A loop of wide compares.
 fn flag_bodies(body_types: &[u8], body_islands: &mut [u16])
     requires { length body_islands.old ≡ length body_types.now }
-    ensures { Flagged (inIslandBy body_types.now body_islands.old) body_islands.new }
+    ensures { Flagged (in_island_by body_types.now body_islands.old) body_islands.new }
 {
     let mut body = 0;
     // The bodies passed are flagged, and the others have the labels that they had.
@@ -85,7 +85,7 @@ fn lower(a: u16, b: u16) -> u16
 // same, and any other body has none, above every label.
 fn label_one(body_islands: &[u16], live: bool, a: u16, b: u16) -> u16
     requires { sound (length body_islands.now) (constraint live a b) ≡ true }
-    ensures { result ≡ labelBy body_islands.now (constraint live a b) }
+    ensures { result ≡ label_by body_islands.now (constraint live a b) }
 {
     if !live {
         return NONE;
@@ -95,9 +95,9 @@ fn label_one(body_islands: &[u16], live: bool, a: u16, b: u16) -> u16
 
 // The label of each constraint of a list.
 pub fn label_all(pairs: &[u16], enabled: &[u8], body_islands: &[u16], labels: &mut [u16])
-    requires { (length labels.old ≡ length (constraintsOf pairs.now enabled.now))
-        × (all (sound (length body_islands.now)) (constraintsOf pairs.now enabled.now) ≡ true) }
-    ensures { labels.new ≡ map (labelBy body_islands.now) (constraintsOf pairs.now enabled.now) }
+    requires { (length labels.old ≡ length (constraints_of pairs.now enabled.now))
+        × (all (sound (length body_islands.now)) (constraints_of pairs.now enabled.now) ≡ true) }
+    ensures { labels.new ≡ map (label_by body_islands.now) (constraints_of pairs.now enabled.now) }
 {
     let mut k: usize = 0;
     let mut i: usize = 0;
@@ -113,7 +113,7 @@ pub fn label_all(pairs: &[u16], enabled: &[u8], body_islands: &[u16], labels: &m
 // The label of one constraint on any number of bodies: none if it is not live, else the least of its bodies' labels, as `label_one`.
 fn label_ends(body_islands: &[u16], live: bool, ends: &[u16]) -> u16
     requires { sound (length body_islands.now) (record { ends = ends.now; live = live }) ≡ true }
-    ensures { result ≡ labelBy body_islands.now (record { ends = ends.now; live = live }) }
+    ensures { result ≡ label_by body_islands.now (record { ends = ends.now; live = live }) }
 {
     if !live {
         return NONE;
@@ -134,10 +134,10 @@ fn label_counted(
     body_islands: &[u16],
     labels: &mut [u16],
 )
-    requires { (endCount counts.now ≤ length ends.now)
+    requires { (end_count counts.now ≤ length ends.now)
         × (length labels.old ≡ length (counted_of counts.now ends.now enabled.now))
         × (all (sound (length body_islands.now)) (counted_of counts.now ends.now enabled.now) ≡ true) }
-    ensures { labels.new ≡ map (labelBy body_islands.now) (counted_of counts.now ends.now enabled.now) }
+    ensures { labels.new ≡ map (label_by body_islands.now) (counted_of counts.now ends.now enabled.now) }
 {
     let mut start: usize = 0;
     let mut i: usize = 0;
@@ -160,10 +160,10 @@ pub fn label_joints(
     body_islands: &[u16],
     labels: &mut [u16],
 )
-    requires { (endCount counts.now ≤ length ends.now)
+    requires { (end_count counts.now ≤ length ends.now)
         × (length labels.old ≡ length (joints_of counts.now ends.now enabled.now))
         × (all (sound (length body_islands.now)) (joints_of counts.now ends.now enabled.now) ≡ true) }
-    ensures { labels.new ≡ map (labelBy body_islands.now) (joints_of counts.now ends.now enabled.now) }
+    ensures { labels.new ≡ map (label_by body_islands.now) (joints_of counts.now ends.now enabled.now) }
 {
     if counts.len() == 0 {
         label_all(ends, enabled, body_islands, labels);

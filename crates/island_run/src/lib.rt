@@ -2,11 +2,11 @@
 #![tactic(auto)]
 
 ghost use Rattle.std.specs.Prelude.{◌≡◌, ◌≤◌, ◌-◌, ◌*◌, ◌++◌, cond, eqb, length, take, drop};
-ghost use Rattle.frame.specs.Frames.{endCount};
+ghost use Rattle.frame.specs.Frames.{end_count};
 ghost use Rattle.plan_questions.specs.Plans.{tables_of};
 ghost use Rattle.colored_bodies.specs.Bindings.{Known};
 ghost use Rattle.turn_table.specs.Turns.{none, Room, Appended};
-ghost use Rattle.group_run.specs.Appends.{addedBy};
+ghost use Rattle.group_run.specs.Appends.{added_by};
 ghost use Rattle.island_run.specs.Islands.{calls_of, Prepared};
 
 use turn_table::Tally;
@@ -25,7 +25,7 @@ fn counts_between(counts: &[u8], start: usize, end: usize) -> &[u8]
 // How many endpoints so many constraints have: as their counts say, or two each without counts.
 fn count_ends(counts: &[u8], constraints: usize) -> usize
     requires { (constraints ≤ 8192) × (length counts.now ≤ 8192) }
-    ensures { result ≡ cond (eqb (length counts.now) 0) (2 * constraints) (endCount counts.now) }
+    ensures { result ≡ cond (eqb (length counts.now) 0) (2 * constraints) (end_count counts.now) }
 {
     if counts.len() == 0 {
         return 2 * constraints;
@@ -67,9 +67,9 @@ pub fn run_islands(
         body_constraints.old scratch_offsets.old constraint_colors.old
         color_stamps.old body_stamps.old color_offsets.old
         colored_constraints.old color_body_offsets.old color_bodies.old constraint_body_positions.old) plan_counts.old }
-    requires room { Room (addedBy (calls_of types.now flags.now counts.now ends.now (manifold_islands.now ++ joint_islands.now) islands)) turns.old none }
+    requires room { Room (added_by (calls_of types.now flags.now counts.now ends.now (manifold_islands.now ++ joint_islands.now) islands)) turns.old none }
     requires known { Known types.now }
-    ensures { Appended (addedBy (calls_of types.now flags.now counts.now ends.now (manifold_islands.now ++ joint_islands.now) islands)) turns.old none turns.new result }
+    ensures { Appended (added_by (calls_of types.now flags.now counts.now ends.now (manifold_islands.now ++ joint_islands.now) islands)) turns.old none turns.new result }
 {
     island_numbers::collect(
         ends,

@@ -12,10 +12,10 @@ use lib.Seq.{get_or-set_same, get_or-set_other}
 use borrow.Author.Tests.{eqb-true, eq-eqb, ne_eqb}
 use Rattle.lists.specs.Basics.{one, range}
 use Rattle.lists.proofs.Laws.{by_cases, length-range, sum_one}
-use Rattle.lists.proofs.Sums.{sum-ext, sum-add, sum-le}
-use Rattle.island_sets.specs.Sets.{link, rootOf, sizeIn}
+use Rattle.lists.proofs.Sums.{sum_ext, sum_add, sum_le}
+use Rattle.island_sets.specs.Sets.{link, root_of, size_in}
 use Rattle.island_sets.specs.Steps.{Weighed, Told, Sets}
-use Rattle.island_sets.proofs.Links.{root-here, root-end, root-step, roots-are, link-same, link-other}
+use Rattle.island_sets.proofs.Links.{root_here, root_end, root_step, roots_are, link-same, link_other}
 use Rattle.island_sets.proofs.Weights.{ends, told_at, told_same}
 
 -- ---- l becomes w, and any other number stays
@@ -28,120 +28,120 @@ moved_here w l z e = rw (eq-eqb z l e)
 moved_other : (w l z : ℕ) → (z ≡ l → ⊥) → moved w l z ≡ z
 moved_other w l z n = rw (ne_eqb z l n)
 
-one-joined : (w l z : ℕ) → (w ≡ l → ⊥) → one (eqb (moved w l z) w) ≡ one (eqb z w) + one (eqb z l)
-one-joined w l z n = by_cases (eqb z l)
+one_joined : (w l z : ℕ) → (w ≡ l → ⊥) → one (eqb (moved w l z) w) ≡ one (eqb z w) + one (eqb z l)
+one_joined w l z n = by_cases (eqb z l)
     (λ e. rw (e, eq-eqb w w refl, ne_eqb z w (λ q. n (sym q ∙ eqb-true z l e))))
     (λ e. rw e (omega arith))
 
-one-other : (w l r z : ℕ) → (r ≡ w → ⊥) → (r ≡ l → ⊥) → one (eqb (moved w l z) r) ≡ one (eqb z r)
-one-other w l r z nw nl = by_cases (eqb z l)
+one_other : (w l r z : ℕ) → (r ≡ w → ⊥) → (r ≡ l → ⊥) → one (eqb (moved w l z) r) ≡ one (eqb z r)
+one_other w l r z nw nl = by_cases (eqb z l)
     (λ e. rw (e, ne_eqb w r (λ q. nw (sym q)), ne_eqb z r (λ q. nl (sym q ∙ eqb-true z l e))))
     (λ e. rw e)
 
 -- ---- sizes of sets
 module _ (n : ℕ) (f : ℕ → ℕ) where
-  size-joined : (w l : ℕ) → (w ≡ l → ⊥) → sizeIn n (λ x. moved w l (f x)) w ≡ sizeIn n f w + sizeIn n f l
-  unfolding sizeIn
-  size-joined w l e = sum-ext (λ y. one (eqb (moved w l (f y)) w)) (λ y. one (eqb (f y) w) + one (eqb (f y) l)) (range n) (λ y. one-joined w l (f y) e)
-      ∙ sum-add (λ y. one (eqb (f y) w)) (λ y. one (eqb (f y) l)) (range n)
+  size_joined : (w l : ℕ) → (w ≡ l → ⊥) → size_in n (λ x. moved w l (f x)) w ≡ size_in n f w + size_in n f l
+  unfolding size_in
+  size_joined w l e = sum_ext (λ y. one (eqb (moved w l (f y)) w)) (λ y. one (eqb (f y) w) + one (eqb (f y) l)) (range n) (λ y. one_joined w l (f y) e)
+      ∙ sum_add (λ y. one (eqb (f y) w)) (λ y. one (eqb (f y) l)) (range n)
 
-  size-other : (w l r : ℕ) → (r ≡ w → ⊥) → (r ≡ l → ⊥) → sizeIn n (λ x. moved w l (f x)) r ≡ sizeIn n f r
-  unfolding sizeIn
-  size-other w l r nw nl = sum-ext (λ y. one (eqb (moved w l (f y)) r)) (λ y. one (eqb (f y) r)) (range n) (λ y. one-other w l r (f y) nw nl)
+  size_other : (w l r : ℕ) → (r ≡ w → ⊥) → (r ≡ l → ⊥) → size_in n (λ x. moved w l (f x)) r ≡ size_in n f r
+  unfolding size_in
+  size_other w l r nw nl = sum_ext (λ y. one (eqb (moved w l (f y)) r)) (λ y. one (eqb (f y) r)) (range n) (λ y. one_other w l r (f y) nw nl)
 
-  pub size-most : (r : ℕ) → sizeIn n f r ≤ n
-  unfolding sizeIn
-  size-most r = omega (arith, sum-le (λ y. one (eqb (f y) r)) (λ y. 1) (range n) (λ y. most (eqb (f y) r)), sum_one (range n), length-range 0 n)
+  pub size_most : (r : ℕ) → size_in n f r ≤ n
+  unfolding size_in
+  size_most r = omega (arith, sum_le (λ y. one (eqb (f y) r)) (λ y. 1) (range n) (λ y. most (eqb (f y) r)), sum_one (range n), length-range 0 n)
     where
       most : (t : Bool) → one t ≤ 1
       most true = omega arith
       most false = omega arith
 
 -- ---- one root under another
-module _ (p s : List ℕ) (h : Sets p s) (w l : ℕ) (kw : w < length p) (kl : l < length p) (ew : rootOf p w ≡ w) (el : rootOf p l ≡ l)
+module _ (p s : List ℕ) (h : Sets p s) (w l : ℕ) (kw : w < length p) (kl : l < length p) (ew : root_of p w ≡ w) (el : root_of p l ≡ l)
     (ne : w ≡ l → ⊥) (le : get_or s l 0 ≤ get_or s w 0) where
   abbrev total : ℕ
   total = get_or s w 0 + get_or s l 0
 
-  told-root : (r : ℕ) → r < length p → rootOf p r ≡ r → get_or s r 0 ≡ sizeIn (length p) (rootOf p) r
-  told-root r k e = subst (λ (x : ℕ). get_or s x 0 ≡ sizeIn (length p) (rootOf p) x) e (told_at p s h r k)
+  told_root : (r : ℕ) → r < length p → root_of p r ≡ r → get_or s r 0 ≡ size_in (length p) (root_of p) r
+  told_root r k e = subst (λ (x : ℕ). get_or s x 0 ≡ size_in (length p) (root_of p) x) e (told_at p s h r k)
 
-  total-is : total ≡ sizeIn (length p) (λ x. moved w l (rootOf p x)) w
-  total-is = omega (arith, told-root w kw ew, told-root l kl el, size-joined (length p) (rootOf p) w l ne)
+  total_is : total ≡ size_in (length p) (λ x. moved w l (root_of p x)) w
+  total_is = omega (arith, told_root w kw ew, told_root l kl el, size_joined (length p) (root_of p) w l ne)
 
   pub total-most : total ≤ length p
-  total-most = omega (arith, total-is, size-most (length p) (λ x. moved w l (rootOf p x)) w)
+  total-most = omega (arith, total_is, size_most (length p) (λ x. moved w l (root_of p x)) w)
 
-  weight-top : get_or (set s w total) w 0 ≡ total
-  weight-top = get_or-set_same s w total 0 (omega (arith, h.weighed.long))
+  weight_top : get_or (set s w total) w 0 ≡ total
+  weight_top = get_or-set_same s w total 0 (omega (arith, h.weighed.long))
 
-  weight-other : (x : ℕ) → (x ≡ w → ⊥) → get_or (set s w total) x 0 ≡ get_or s x 0
-  weight-other x n = get_or-set_other s w x total 0 n
+  weight_other : (x : ℕ) → (x ≡ w → ⊥) → get_or (set s w total) x 0 ≡ get_or s x 0
+  weight_other x n = get_or-set_other s w x total 0 n
 
-  weight-grows : (x : ℕ) → get_or s x 0 ≤ get_or (set s w total) x 0
-  weight-grows x = go (ℕ_discrete x w)
+  weight_grows : (x : ℕ) → get_or s x 0 ≤ get_or (set s w total) x 0
+  weight_grows x = go (ℕ_discrete x w)
     where
       go : Dec (x ≡ w) → get_or s x 0 ≤ get_or (set s w total) x 0
-      go (yes e) = subst (λ (y : ℕ). get_or s y 0 ≤ get_or (set s w total) y 0) (sym e) (omega (arith, weight-top))
-      go (no n) = omega (arith, weight-other x n)
+      go (yes e) = subst (λ (y : ℕ). get_or s y 0 ≤ get_or (set s w total) y 0) (sym e) (omega (arith, weight_top))
+      go (no n) = omega (arith, weight_other x n)
 
-  link-top : link p w ≡ w
-  link-top = subst (λ (x : ℕ). link p x ≡ x) ew (root-end p (ends p s h.weighed) w)
+  link_top : link p w ≡ w
+  link_top = subst (λ (x : ℕ). link p x ≡ x) ew (root_end p (ends p s h.weighed) w)
 
-  halves-at : (x : ℕ) → (link (set p l w) x ≡ x → ⊥) → Dec (x ≡ l) → 2 * get_or (set s w total) x 0 ≤ get_or (set s w total) (link (set p l w) x) 0
-  halves-at x n (yes e) = subst (λ (y : ℕ). 2 * get_or (set s w total) y 0 ≤ get_or (set s w total) (link (set p l w) y) 0) (sym e)
-      (omega (arith, ap (λ (y : ℕ). get_or (set s w total) y 0) (link-same p l w kl), weight-top, weight-other l (λ q. ne (sym q)), le))
-  halves-at x n (no m) =
-      let moves : link p x ≡ x → ⊥ = λ e. n (link-other p l w x m ∙ e) in
-      let low : x ≡ w → ⊥ = λ e. moves (ap (link p) e ∙ link-top ∙ sym e) in
-      omega (arith, ap (λ (y : ℕ). get_or (set s w total) y 0) (link-other p l w x m), weight-other x low, h.weighed.halves x moves, weight-grows (link p x))
+  halves_at : (x : ℕ) → (link (set p l w) x ≡ x → ⊥) → Dec (x ≡ l) → 2 * get_or (set s w total) x 0 ≤ get_or (set s w total) (link (set p l w) x) 0
+  halves_at x n (yes e) = subst (λ (y : ℕ). 2 * get_or (set s w total) y 0 ≤ get_or (set s w total) (link (set p l w) y) 0) (sym e)
+      (omega (arith, ap (λ (y : ℕ). get_or (set s w total) y 0) (link-same p l w kl), weight_top, weight_other l (λ q. ne (sym q)), le))
+  halves_at x n (no m) =
+      let moves : link p x ≡ x → ⊥ = λ e. n (link_other p l w x m ∙ e) in
+      let low : x ≡ w → ⊥ = λ e. moves (ap (link p) e ∙ link_top ∙ sym e) in
+      omega (arith, ap (λ (y : ℕ). get_or (set s w total) y 0) (link_other p l w x m), weight_other x low, h.weighed.halves x moves, weight_grows (link p x))
 
-  inside-at : (x : ℕ) → x < length p → Dec (x ≡ l) → link (set p l w) x < length (set p l w)
-  inside-at x k (yes e) = omega (arith, length-set p l w, ap (link (set p l w)) e, link-same p l w kl)
-  inside-at x k (no n) = omega (arith, length-set p l w, link-other p l w x n, h.weighed.inside x k)
+  inside_at : (x : ℕ) → x < length p → Dec (x ≡ l) → link (set p l w) x < length (set p l w)
+  inside_at x k (yes e) = omega (arith, length-set p l w, ap (link (set p l w)) e, link-same p l w kl)
+  inside_at x k (no n) = omega (arith, length-set p l w, link_other p l w x n, h.weighed.inside x k)
 
   most-at : (x : ℕ) → Dec (x ≡ w) → get_or (set s w total) x 0 ≤ length p
-  most-at x (yes e) = omega (arith, ap (λ (y : ℕ). get_or (set s w total) y 0) e, weight-top, total-most)
-  most-at x (no n) = omega (arith, weight-other x n, h.weighed.most x)
+  most-at x (yes e) = omega (arith, ap (λ (y : ℕ). get_or (set s w total) y 0) e, weight_top, total-most)
+  most-at x (no n) = omega (arith, weight_other x n, h.weighed.most x)
 
-  weighed-hung : Weighed (set p l w) (set s w total)
-  weighed-hung = record {
+  weighed_hung : Weighed (set p l w) (set s w total)
+  weighed_hung = record {
     long = length-set s w total ∙ h.weighed.long ∙ sym (length-set p l w);
-    inside = λ x k. inside-at x (omega (arith, k, length-set p l w)) (ℕ_discrete x l);
-    some = λ x k. omega (arith, weight-grows x, h.weighed.some x (omega (arith, k, length-set p l w)));
+    inside = λ x k. inside_at x (omega (arith, k, length-set p l w)) (ℕ_discrete x l);
+    some = λ x k. omega (arith, weight_grows x, h.weighed.some x (omega (arith, k, length-set p l w)));
     most = λ x. omega (arith, most-at x (ℕ_discrete x w), length-set p l w);
-    halves = λ x n. halves-at x n (ℕ_discrete x l);
+    halves = λ x n. halves_at x n (ℕ_discrete x l);
   }
 
-  pub roots-hung : rootOf (set p l w) ≡ (λ x. moved w l (rootOf p x))
-  roots-hung = roots-are (set p l w) (ends (set p l w) (set s w total) weighed-hung) (λ x. moved w l (rootOf p x))
+  pub roots_hung : root_of (set p l w) ≡ (λ x. moved w l (root_of p x))
+  roots_hung = roots_are (set p l w) (ends (set p l w) (set s w total) weighed_hung) (λ x. moved w l (root_of p x))
       (λ x e. fixed x e (ℕ_discrete x l)) (λ x. kept x (ℕ_discrete x l))
     where
-      fixed : (x : ℕ) → link (set p l w) x ≡ x → Dec (x ≡ l) → moved w l (rootOf p x) ≡ x
+      fixed : (x : ℕ) → link (set p l w) x ≡ x → Dec (x ≡ l) → moved w l (root_of p x) ≡ x
       fixed x e (yes q) = absurd (ne (sym (link-same p l w kl) ∙ ap (link (set p l w)) (sym q) ∙ e ∙ q))
-      fixed x e (no n) = ap (moved w l) (root-here p x (sym (link-other p l w x n) ∙ e)) ∙ moved_other w l x n
+      fixed x e (no n) = ap (moved w l) (root_here p x (sym (link_other p l w x n) ∙ e)) ∙ moved_other w l x n
 
-      kept : (x : ℕ) → Dec (x ≡ l) → moved w l (rootOf p (link (set p l w) x)) ≡ moved w l (rootOf p x)
-      kept x (yes q) = subst (λ (y : ℕ). moved w l (rootOf p (link (set p l w) y)) ≡ moved w l (rootOf p y)) (sym q)
-          (ap (λ (y : ℕ). moved w l (rootOf p y)) (link-same p l w kl) ∙ moved_other w l (rootOf p w) (λ e. ne (sym ew ∙ e)) ∙ ew ∙ sym (moved_here w l (rootOf p l) el))
-      kept x (no n) = ap (moved w l) (ap (rootOf p) (link-other p l w x n) ∙ root-step p (ends p s h.weighed) x)
+      kept : (x : ℕ) → Dec (x ≡ l) → moved w l (root_of p (link (set p l w) x)) ≡ moved w l (root_of p x)
+      kept x (yes q) = subst (λ (y : ℕ). moved w l (root_of p (link (set p l w) y)) ≡ moved w l (root_of p y)) (sym q)
+          (ap (λ (y : ℕ). moved w l (root_of p y)) (link-same p l w kl) ∙ moved_other w l (root_of p w) (λ e. ne (sym ew ∙ e)) ∙ ew ∙ sym (moved_here w l (root_of p l) el))
+      kept x (no n) = ap (moved w l) (ap (root_of p) (link_other p l w x n) ∙ root_step p (ends p s h.weighed) x)
 
-  told-hung : Told (length p) (λ x. moved w l (rootOf p x)) (set s w total)
+  told_hung : Told (length p) (λ x. moved w l (root_of p x)) (set s w total)
   unfolding Told
-  told-hung b k = go (ℕ_discrete (rootOf p b) l) (ℕ_discrete (rootOf p b) w)
+  told_hung b k = go (ℕ_discrete (root_of p b) l) (ℕ_discrete (root_of p b) w)
     where
       at : ℕ → Type 0
-      at z = get_or (set s w total) z 0 ≡ sizeIn (length p) (λ x. moved w l (rootOf p x)) z
+      at z = get_or (set s w total) z 0 ≡ size_in (length p) (λ x. moved w l (root_of p x)) z
 
-      go : Dec (rootOf p b ≡ l) → Dec (rootOf p b ≡ w) → at (moved w l (rootOf p b))
-      go (yes e) d = subst at (sym (moved_here w l (rootOf p b) e)) (weight-top ∙ total-is)
-      go (no n) (yes e) = subst at (sym (moved_other w l (rootOf p b) n ∙ e)) (weight-top ∙ total-is)
-      go (no n) (no m) = subst at (sym (moved_other w l (rootOf p b) n))
-          (weight-other (rootOf p b) m ∙ told_at p s h b k ∙ sym (size-other (length p) (rootOf p) w l (rootOf p b) m n))
+      go : Dec (root_of p b ≡ l) → Dec (root_of p b ≡ w) → at (moved w l (root_of p b))
+      go (yes e) d = subst at (sym (moved_here w l (root_of p b) e)) (weight_top ∙ total_is)
+      go (no n) (yes e) = subst at (sym (moved_other w l (root_of p b) n ∙ e)) (weight_top ∙ total_is)
+      go (no n) (no m) = subst at (sym (moved_other w l (root_of p b) n))
+          (weight_other (root_of p b) m ∙ told_at p s h b k ∙ sym (size_other (length p) (root_of p) w l (root_of p b) m n))
 
-  pub sets-hung : Sets (set p l w) (set s w total)
-  sets-hung = record {
+  pub sets_hung : Sets (set p l w) (set s w total)
+  sets_hung = record {
     few = omega (arith, h.few, length-set p l w);
-    weighed = weighed-hung;
-    told = told_same (length p) (length (set p l w)) (λ x. moved w l (rootOf p x)) (rootOf (set p l w)) (set s w total) (length-set p l w) roots-hung told-hung;
+    weighed = weighed_hung;
+    told = told_same (length p) (length (set p l w)) (λ x. moved w l (root_of p x)) (root_of (set p l w)) (set s w total) (length-set p l w) roots_hung told_hung;
   }

@@ -1,6 +1,6 @@
 -- What the lookups and the union keep and leave: only the contracts of internal functions cite these.
 use Rattle.std.specs.Prelude.{ℕ, ◌*◌, ◌^◌, ◌≤◌, ◌<◌, ◌≡◌, List, eqb, length, get_or}
-use Rattle.island_sets.specs.Sets.{link, rootOf, linksOf, sizeIn}
+use Rattle.island_sets.specs.Sets.{link, root_of, links_of, size_in}
 use Rattle.island_sets.specs.declared.Found.{Found}
 
 -- ---- the invariant of parents p and sizes s
@@ -15,12 +15,12 @@ pub record Weighed (p s : List ℕ) : Type 0 where
 
 -- a root's size is its set's number of bodies
 unfoldable pub Told : ℕ → (ℕ → ℕ) → List ℕ → Type 0
-Told nb root s = (b : ℕ) → b < nb → get_or s (root b) 0 ≡ sizeIn nb root (root b)
+Told nb root s = (b : ℕ) → b < nb → get_or s (root b) 0 ≡ size_in nb root (root b)
 
 pub record Sets (p s : List ℕ) : Type 0 where
   pub few : length p ≤ 4096
   pub weighed : Weighed p s
-  pub told : Told (length p) (rootOf p) s
+  pub told : Told (length p) (root_of p) s
 
 -- parents that some sizes belong to
 abbrev pub Balanced : List ℕ → Type 0
@@ -30,14 +30,14 @@ Balanced p = (s : List ℕ) × Sets p s
 
 -- what a lookup answers: the root of b and the links that lead to it; 2 to that power is at most the number of bodies in the set
 pub record LookedUp (p : List ℕ) (b : ℕ) (r : Found) : Type 0 where
-  pub root : r.root ≡ rootOf p b
-  pub links : r.links ≡ linksOf p b
-  pub bound : 2 ^ r.links ≤ sizeIn (length p) (rootOf p) (rootOf p b)
+  pub root : r.root ≡ root_of p b
+  pub links : r.links ≡ links_of p b
+  pub bound : 2 ^ r.links ≤ size_in (length p) (root_of p) (root_of p b)
 
 -- what a lookup may change: the sets stay, and the sizes, whatever they are, belong to the parents still
 pub record Shortened (p p' : List ℕ) : Type 0 where
   pub long : length p' ≡ length p
-  pub roots : rootOf p' ≡ rootOf p
+  pub roots : root_of p' ≡ root_of p
   pub sets : (s : List ℕ) → Sets p s → Sets p' s
 
 -- ---- one and the same sets

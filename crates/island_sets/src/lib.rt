@@ -5,7 +5,7 @@
 
 ghost use Rattle.std.specs.Prelude.{◌≡◌, ◌+◌, ◌<◌, ◌≤◌, length, get_or, set, replicate};
 ghost use Rattle.lists.specs.Basics.{range};
-ghost use Rattle.island_sets.specs.Sets.{rootOf, winnerOf, hang};
+ghost use Rattle.island_sets.specs.Sets.{root_of, winner_of, hang};
 ghost use Rattle.island_sets.specs.Steps.{Sets, Balanced, LookedUp, Shortened};
 
 // Of fewer bodies than this, two sets are joined without a branch on their sizes.
@@ -43,7 +43,7 @@ pub fn root_of(parents: &[u16], body: usize) -> Found
 // Every body on the way from `start` to its root is linked to that root: `start` without a branch, as it is linked already if it has
 // no more than one link.
 fn compress(parents: &mut [u16], start: u16, root: u16)
-    requires { Balanced parents.old × (start < length parents.old) × (root ≡ rootOf parents.old start) }
+    requires { Balanced parents.old × (start < length parents.old) × (root ≡ root_of parents.old start) }
     ensures { Shortened parents.old parents.new }
 {
     let mut body = parents[start as usize];
@@ -68,7 +68,7 @@ fn find(parents: &mut [u16], body: u16) -> Found
 
 // Which of two roots stays one: that of the larger set, and on equal sizes the lower.
 fn winner(size_left: u16, size_right: u16, left: u16, right: u16) -> u16
-    ensures { result ≡ winnerOf size_left size_right left right }
+    ensures { result ≡ winner_of size_left size_right left right }
 {
     if size_left < size_right {
         return right;
@@ -84,7 +84,7 @@ fn winner(size_left: u16, size_right: u16, left: u16, right: u16) -> u16
 
 // The same without a branch.
 fn pick_winner(size_left: u16, size_right: u16, left: u16, right: u16) -> u16
-    ensures { result ≡ winnerOf size_left size_right left right }
+    ensures { result ≡ winner_of size_left size_right left right }
 {
     let lower = tables::pick(left < right, left, right);
     let not_right = tables::pick(size_right < size_left, left, lower);
@@ -106,9 +106,9 @@ fn link_under(parents: &mut [u16], sizes: &mut [u16], top: u16, under: u16)
 // the one before.
 fn join_roots(parents: &mut [u16], sizes: &mut [u16], left: u16, right: u16)
     requires { Sets parents.old sizes.old × (left < length parents.old) × (right < length parents.old)
-        × (rootOf parents.old left ≡ left) × (rootOf parents.old right ≡ right) × (left ≡ right → ⊥) }
+        × (root_of parents.old left ≡ left) × (root_of parents.old right ≡ right) × (left ≡ right → ⊥) }
     ensures { Sets parents.new sizes.new
-        × (rootOf parents.new ≡ hang (length parents.old) (rootOf parents.old) left right) }
+        × (root_of parents.new ≡ hang (length parents.old) (root_of parents.old) left right) }
 {
     let size_left = sizes[left as usize];
     let size_right = sizes[right as usize];
@@ -130,7 +130,7 @@ fn join_roots(parents: &mut [u16], sizes: &mut [u16], left: u16, right: u16)
 pub fn union(parents: &mut [u16], sizes: &mut [u16], left: u16, right: u16)
     requires { Sets parents.old sizes.old × (left < length parents.old) × (right < length parents.old) }
     ensures { Sets parents.new sizes.new
-        × (rootOf parents.new ≡ hang (length parents.old) (rootOf parents.old) left right) }
+        × (root_of parents.new ≡ hang (length parents.old) (root_of parents.old) left right) }
 {
     let found_left = find(parents, left);
     let found_right = find(parents, right);

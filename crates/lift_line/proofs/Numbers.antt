@@ -7,8 +7,8 @@ use native.Mathlib.Omega.{arith}
 use native.Mathlib.Numerals.{add-one}
 use lib.ListN.{length, get_or, drop}
 use lib.Seq.{drop-cons}
-use Rattle.lift_line.specs.Lines.{digit, digitsOf, value_of, field_at, end_of, numberAt}
-use Rattle.lift_line.proofs.Tests.{digit_low, digit-high, inside}
+use Rattle.lift_line.specs.Lines.{digit, digits_of, value_of, field_at, end_of, number_at}
+use Rattle.lift_line.proofs.Tests.{digit_low, digit_high, inside}
 
 -- the numbers below it have at most d digits
 abbrev enough : ℕ → ℕ
@@ -22,33 +22,33 @@ enough-le (suc d) zero h = absurd (omega arith)
 enough-le (suc d) (suc e) h = omega (arith, enough-le d e (omega arith))
 
 -- the digits left at a place: none without a digit there; else that one, and those after it
-digits-off : (n : ℕ) (xs : List ℕ) (i : ℕ) → digit (get_or xs i 0) ≡ false → digitsOf n (drop i xs) ≡ []
-digits-off zero xs i h = refl
-digits-off (suc n) [] zero h = refl
-digits-off (suc n) [] (suc i) h = refl
-digits-off (suc n) (x ∷ xs) zero h = rw h
-digits-off (suc n) (x ∷ xs) (suc i) h = digits-off (suc n) xs i h
+digits_off : (n : ℕ) (xs : List ℕ) (i : ℕ) → digit (get_or xs i 0) ≡ false → digits_of n (drop i xs) ≡ []
+digits_off zero xs i h = refl
+digits_off (suc n) [] zero h = refl
+digits_off (suc n) [] (suc i) h = refl
+digits_off (suc n) (x ∷ xs) zero h = rw h
+digits_off (suc n) (x ∷ xs) (suc i) h = digits_off (suc n) xs i h
 
-digits-on : (n : ℕ) (xs : List ℕ) (i : ℕ) → digit (get_or xs i 0) ≡ true → digitsOf (suc n) (drop i xs) ≡ get_or xs i 0 ∷ digitsOf n (drop (suc i) xs)
+digits-on : (n : ℕ) (xs : List ℕ) (i : ℕ) → digit (get_or xs i 0) ≡ true → digits_of (suc n) (drop i xs) ≡ get_or xs i 0 ∷ digits_of n (drop (suc i) xs)
 digits-on n xs i h = rw (drop-cons xs i 0 (inside xs i (omega (arith, digit_low (get_or xs i 0) h))), h)
 
 pub record NumberRead (text : List ℕ) (at value end read : ℕ) : Type 0 where
-  pub number : value_of value (digitsOf (19 - read) (drop end text)) ≡ numberAt text at
-  pub stop : end + length (digitsOf (19 - read) (drop end text)) ≡ end_of text at
+  pub number : value_of value (digits_of (19 - read) (drop end text)) ≡ number_at text at
+  pub stop : end + length (digits_of (19 - read) (drop end text)) ≡ end_of text at
   pub small : value < enough read
 
 pub read_first : (text : List ℕ) (at : ℕ) → NumberRead text at 0 at 0
-unfolding field_at end_of numberAt
+unfolding field_at end_of number_at
 read_first text at = record { number = refl; stop = refl; small = omega arith }
 
 module _ (text : List ℕ) (at value end read : ℕ) (s : NumberRead text at value end read) where
-  at-end : digitsOf (19 - read) (drop end text) ≡ [] → (value ≡ numberAt text at) × (end ≡ end_of text at)
+  at-end : digits_of (19 - read) (drop end text) ≡ [] → (value ≡ number_at text at) × (end ≡ end_of text at)
   at-end e = (ap (value_of value) (sym e) ∙ s.number, omega (arith, ap length e, s.stop))
 
   module _ (byte : ℕ) (b : byte ≡ get_or text end 0) where
     -- no digit is left
-    pub read_none : digit byte ≡ false → (value ≡ numberAt text at) × (end ≡ end_of text at)
-    read_none h = at-end (digits-off (19 - read) text end (ap digit (sym b) ∙ h))
+    pub read_none : digit byte ≡ false → (value ≡ number_at text at) × (end ≡ end_of text at)
+    read_none h = at-end (digits_off (19 - read) text end (ap digit (sym b) ∙ h))
 
     module _ (h : digit byte ≡ true) (k : read < 19) where
       -- one more digit fits
@@ -56,18 +56,18 @@ module _ (text : List ℕ) (at value end read : ℕ) (s : NumberRead text at val
       read_fits = (
         digit_low byte h,
         inside text end (omega (arith, digit_low byte h)),
-        omega (arith, digit-high byte h, enough-le read 18 (omega arith), s.small),
+        omega (arith, digit_high byte h, enough-le read 18 (omega arith), s.small),
       )
 
-      next : digitsOf (19 - read) (drop end text) ≡ byte ∷ digitsOf (19 - (read + 1)) (drop (end + 1) text)
+      next : digits_of (19 - read) (drop end text) ≡ byte ∷ digits_of (19 - (read + 1)) (drop (end + 1) text)
       next =
           let p : 19 - read ≡ suc (18 - read) = omega arith in
           let q : 19 - (read + 1) ≡ 18 - read = omega arith in
           rw (p, q, add-one end, b) (digits-on (18 - read) text end (ap digit (sym b) ∙ h))
 
-      pub read-turn : NumberRead text at (10 * value + (byte - 48)) (end + 1) (read + 1)
-      read-turn = record {
+      pub read_turn : NumberRead text at (10 * value + (byte - 48)) (end + 1) (read + 1)
+      read_turn = record {
         number = ap (value_of value) (sym next) ∙ s.number;
         stop = omega (arith, ap length next, s.stop);
-        small = rw (add-one read) (omega (arith, digit-high byte h, s.small));
+        small = rw (add-one read) (omega (arith, digit_high byte h, s.small));
       }

@@ -2,43 +2,43 @@
 use mathlib.Core.Path.{◌≡◌, refl}
 use mathlib.Core.List.{[], ◌∷◌}
 use Rattle.lift_line.specs.declared.Line.TheVariants.{Wanted, Unreadable}
-use Rattle.lift_line.specs.Lines.{field_at, end_of, numberAt, readable, line_of}
+use Rattle.lift_line.specs.Lines.{field_at, end_of, number_at, readable, line_of}
 
 -- "7 12 0 3" and a newline; without the newline; with a second line
 pub four-numbers : line_of (55 ∷ 32 ∷ 49 ∷ 50 ∷ 32 ∷ 48 ∷ 32 ∷ 51 ∷ 10 ∷ []) ≡ Wanted 7 12 0 3
-unfolding line_of readable numberAt end_of field_at
+unfolding line_of readable number_at end_of field_at
 four-numbers = refl
 
-pub no-newline : line_of (55 ∷ 32 ∷ 49 ∷ 50 ∷ 32 ∷ 48 ∷ 32 ∷ 51 ∷ []) ≡ Wanted 7 12 0 3
-unfolding line_of readable numberAt end_of field_at
-no-newline = refl
+pub no_newline : line_of (55 ∷ 32 ∷ 49 ∷ 50 ∷ 32 ∷ 48 ∷ 32 ∷ 51 ∷ []) ≡ Wanted 7 12 0 3
+unfolding line_of readable number_at end_of field_at
+no_newline = refl
 
 pub second-line : line_of (55 ∷ 32 ∷ 49 ∷ 50 ∷ 32 ∷ 48 ∷ 32 ∷ 51 ∷ 10 ∷ 120 ∷ []) ≡ Wanted 7 12 0 3
-unfolding line_of readable numberAt end_of field_at
+unfolding line_of readable number_at end_of field_at
 second-line = refl
 
 -- "7  2 0 3": two spaces; "7 2 0": three numbers; "7 2 0 3 " and "-7 2 0 3": a space at the end, a sign
-pub two-spaces : line_of (55 ∷ 32 ∷ 32 ∷ 50 ∷ 32 ∷ 48 ∷ 32 ∷ 51 ∷ 10 ∷ []) ≡ Unreadable
-unfolding line_of readable numberAt end_of field_at
-two-spaces = refl
+pub two_spaces : line_of (55 ∷ 32 ∷ 32 ∷ 50 ∷ 32 ∷ 48 ∷ 32 ∷ 51 ∷ 10 ∷ []) ≡ Unreadable
+unfolding line_of readable number_at end_of field_at
+two_spaces = refl
 
-pub three-numbers : line_of (55 ∷ 32 ∷ 50 ∷ 32 ∷ 48 ∷ 10 ∷ []) ≡ Unreadable
-unfolding line_of readable numberAt end_of field_at
-three-numbers = refl
+pub three_numbers : line_of (55 ∷ 32 ∷ 50 ∷ 32 ∷ 48 ∷ 10 ∷ []) ≡ Unreadable
+unfolding line_of readable number_at end_of field_at
+three_numbers = refl
 
-pub space-at-end : line_of (55 ∷ 32 ∷ 50 ∷ 32 ∷ 48 ∷ 32 ∷ 51 ∷ 32 ∷ 10 ∷ []) ≡ Unreadable
-unfolding line_of readable numberAt end_of field_at
-space-at-end = refl
+pub space_at-end : line_of (55 ∷ 32 ∷ 50 ∷ 32 ∷ 48 ∷ 32 ∷ 51 ∷ 32 ∷ 10 ∷ []) ≡ Unreadable
+unfolding line_of readable number_at end_of field_at
+space_at-end = refl
 
 pub signed : line_of (45 ∷ 55 ∷ 32 ∷ 50 ∷ 32 ∷ 48 ∷ 32 ∷ 51 ∷ 10 ∷ []) ≡ Unreadable
-unfolding line_of readable numberAt end_of field_at
+unfolding line_of readable number_at end_of field_at
 signed = refl
 
 -- the widest seed, and one more
-pub widest-seed : line_of (52 ∷ 50 ∷ 57 ∷ 52 ∷ 57 ∷ 54 ∷ 55 ∷ 50 ∷ 57 ∷ 53 ∷ 32 ∷ 48 ∷ 32 ∷ 48 ∷ 32 ∷ 48 ∷ []) ≡ Wanted 4294967295 0 0 0
-unfolding line_of readable numberAt end_of field_at
-widest-seed = refl
+pub widest_seed : line_of (52 ∷ 50 ∷ 57 ∷ 52 ∷ 57 ∷ 54 ∷ 55 ∷ 50 ∷ 57 ∷ 53 ∷ 32 ∷ 48 ∷ 32 ∷ 48 ∷ 32 ∷ 48 ∷ []) ≡ Wanted 4294967295 0 0 0
+unfolding line_of readable number_at end_of field_at
+widest_seed = refl
 
-pub wide-seed : line_of (52 ∷ 50 ∷ 57 ∷ 52 ∷ 57 ∷ 54 ∷ 55 ∷ 50 ∷ 57 ∷ 54 ∷ 32 ∷ 48 ∷ 32 ∷ 48 ∷ 32 ∷ 48 ∷ []) ≡ Unreadable
-unfolding line_of readable numberAt end_of field_at
-wide-seed = refl
+pub wide_seed : line_of (52 ∷ 50 ∷ 57 ∷ 52 ∷ 57 ∷ 54 ∷ 55 ∷ 50 ∷ 57 ∷ 54 ∷ 32 ∷ 48 ∷ 32 ∷ 48 ∷ 32 ∷ 48 ∷ []) ≡ Unreadable
+unfolding line_of readable number_at end_of field_at
+wide_seed = refl

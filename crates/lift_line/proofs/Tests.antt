@@ -14,8 +14,8 @@ use Rattle.lift_line.specs.Lines.{digit}
 pub digit_low : (x : ℕ) → digit x ≡ true → 48 ≤ x
 digit_low x h = leb-true 48 x (and_left (leb 48 x) (leb x 57) h)
 
-pub digit-high : (x : ℕ) → digit x ≡ true → x ≤ 57
-digit-high x h = leb-true x 57 (and_right (leb 48 x) (leb x 57) h)
+pub digit_high : (x : ℕ) → digit x ≡ true → x ≤ 57
+digit_high x h = leb-true x 57 (and_right (leb 48 x) (leb x 57) h)
 
 -- a place with a byte that is not 0 lies in the text
 pub inside : (xs : List ℕ) (i : ℕ) → 1 ≤ get_or xs i 0 → i < length xs

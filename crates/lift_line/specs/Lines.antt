@@ -9,10 +9,10 @@ abbrev pub digit : ℕ → Bool
 digit x = leb 48 x && leb x 57
 
 -- the digits that a text begins with, at most n of them, and the number that they spell behind the number v
-abbrev pub digitsOf : ℕ → List ℕ → List ℕ
-digitsOf zero xs = []
-digitsOf (suc n) [] = []
-digitsOf (suc n) (x ∷ xs) = cond (digit x) (x ∷ digitsOf n xs) []
+abbrev pub digits_of : ℕ → List ℕ → List ℕ
+digits_of zero xs = []
+digits_of (suc n) [] = []
+digits_of (suc n) (x ∷ xs) = cond (digit x) (x ∷ digits_of n xs) []
 
 abbrev pub value_of : ℕ → List ℕ → ℕ
 value_of v [] = v
@@ -20,13 +20,13 @@ value_of v (x ∷ xs) = value_of (10 * v + (x - 48)) xs
 
 -- the field at a place: its digits, at most 19; the place after it; and its number
 unfoldable pub field_at : List ℕ → ℕ → List ℕ
-field_at text at = digitsOf 19 (drop at text)
+field_at text at = digits_of 19 (drop at text)
 
 unfoldable pub end_of : List ℕ → ℕ → ℕ
 end_of text at = at + length (field_at text at)
 
-unfoldable pub numberAt : List ℕ → ℕ → ℕ
-numberAt text at = value_of 0 (field_at text at)
+unfoldable pub number_at : List ℕ → ℕ → ℕ
+number_at text at = value_of 0 (field_at text at)
 
 -- where the second, third and fourth field start, each a space behind the one before
 abbrev pub second : List ℕ → ℕ
@@ -49,11 +49,11 @@ parted text at = written text at && eqb (get_or text (end_of text at) 0) 32
 unfoldable pub readable : List ℕ → Bool
 readable text =
     parted text 0 && parted text (second text) && parted text (third text) && written text (fourth text)
-    && eqb (get_or text (end_of text (fourth text)) 10) 10 && ltb (numberAt text 0) 4294967296
+    && eqb (get_or text (end_of text (fourth text)) 10) 10 && ltb (number_at text 0) 4294967296
 
 -- what the text asks for
 unfoldable pub line_of : List ℕ → Line
-line_of text = cond (readable text) (Wanted (numberAt text 0) (numberAt text (second text)) (numberAt text (third text)) (numberAt text (fourth text))) Unreadable
+line_of text = cond (readable text) (Wanted (number_at text 0) (number_at text (second text)) (number_at text (third text)) (number_at text (fourth text))) Unreadable
 
 -- ---- a line that was written: what a field may be, and four of them
 
@@ -62,5 +62,5 @@ pub record Spelled (ds : List ℕ) : Type 0 where
   pub some : 1 ≤ length ds
   pub few : length ds ≤ 19
 
-abbrev pub lineText : List ℕ → List ℕ → List ℕ → List ℕ → List ℕ
-lineText seed bodies manifolds joints = seed ++ 32 ∷ (bodies ++ 32 ∷ (manifolds ++ 32 ∷ (joints ++ 10 ∷ [])))
+abbrev pub line_text : List ℕ → List ℕ → List ℕ → List ℕ → List ℕ
+line_text seed bodies manifolds joints = seed ++ 32 ∷ (bodies ++ 32 ∷ (manifolds ++ 32 ∷ (joints ++ 10 ∷ [])))

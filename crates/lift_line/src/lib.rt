@@ -3,7 +3,7 @@
 #![tactic(auto)]
 
 ghost use Rattle.std.specs.Prelude.{◌≡◌, ◌&&◌, ◌<◌, ltb, eqb, get_or};
-ghost use Rattle.lift_line.specs.Lines.{digit, end_of, numberAt, line_of};
+ghost use Rattle.lift_line.specs.Lines.{digit, end_of, number_at, line_of};
 
 // What a line asks for.
 #[derive(Clone, Copy)]
@@ -40,7 +40,7 @@ fn is_digit(x: usize) -> bool
 
 // The number at a place: its digits, at most 19. Without a digit it is 0 and ends where it starts.
 fn number_at(text: &[u8], at: usize) -> Number
-    ensures { (result.value ≡ numberAt text.now at) × (result.end ≡ end_of text.now at) }
+    ensures { (result.value ≡ number_at text.now at) × (result.end ≡ end_of text.now at) }
 {
     let mut value = 0;
     let mut end = at;

@@ -4,7 +4,7 @@
 
 ghost use Rattle.std.specs.Prelude.{◌≡◌, length};
 ghost use Rattle.lift_line.specs.Lines.{line_of};
-ghost use Rattle.lift_print.specs.Prints.{liftOf, liftAsked, Printed};
+ghost use Rattle.lift_print.specs.Prints.{lift_of, lift_asked, Printed};
 
 use generator::Generated;
 use lift_line::Line;
@@ -12,7 +12,7 @@ use lift_line::Line;
 // A lift's file, or its refusal.
 fn put_lift(out: &mut [u8], seed: u32, bodies: usize, manifolds: usize, joints: usize) -> usize
     requires { length out.old ≡ 40971 }
-    ensures { Printed (liftOf seed bodies manifolds joints) out.old out.new result }
+    ensures { Printed (lift_of seed bodies manifolds joints) out.old out.new result }
 {
     let answer = generator::generate(seed, bodies, manifolds, joints, out);
     match answer {
@@ -24,7 +24,7 @@ fn put_lift(out: &mut [u8], seed: u32, bodies: usize, manifolds: usize, joints: 
 // What a line asks for.
 fn put_asked(out: &mut [u8], line: Line) -> usize
     requires { length out.old ≡ 40971 }
-    ensures { Printed (liftAsked line) out.old out.new result }
+    ensures { Printed (lift_asked line) out.old out.new result }
 {
     match line {
         Line::Wanted(seed, bodies, manifolds, joints) => put_lift(
@@ -36,7 +36,7 @@ fn put_asked(out: &mut [u8], line: Line) -> usize
 
 // The print of a text.
 pub fn put_print(text: &[u8], out: &mut [u8; generator::MAX_BYTES]) -> usize
-    ensures { Printed (liftAsked (line_of text.now)) out.old out.new result }
+    ensures { Printed (lift_asked (line_of text.now)) out.old out.new result }
 {
     let line = lift_line::read_line(text);
     put_asked(out, line)

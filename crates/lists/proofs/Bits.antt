@@ -19,18 +19,18 @@ or-bits false true = refl
 or-bits false false = refl
 
 -- a bit x is set if d and f are
-pub set-bit : (x f : ℕ) (d : Bool) → x ≤ 1 → f ≤ 1 → bit_or x (bit_and (one d) f) ≡ cond (eqb f 1 && d) 1 x
-set-bit zero zero true h l = refl
-set-bit zero zero false h l = refl
-set-bit zero (suc zero) true h l = refl
-set-bit zero (suc zero) false h l = refl
-set-bit (suc zero) zero true h l = refl
-set-bit (suc zero) zero false h l = refl
-set-bit (suc zero) (suc zero) true h l = refl
-set-bit (suc zero) (suc zero) false h l = refl
-set-bit zero (suc (suc f)) d h l = absurd (omega arith)
-set-bit (suc zero) (suc (suc f)) d h l = absurd (omega arith)
-set-bit (suc (suc x)) f d h l = absurd (omega arith)
+pub set_bit : (x f : ℕ) (d : Bool) → x ≤ 1 → f ≤ 1 → bit_or x (bit_and (one d) f) ≡ cond (eqb f 1 && d) 1 x
+set_bit zero zero true h l = refl
+set_bit zero zero false h l = refl
+set_bit zero (suc zero) true h l = refl
+set_bit zero (suc zero) false h l = refl
+set_bit (suc zero) zero true h l = refl
+set_bit (suc zero) zero false h l = refl
+set_bit (suc zero) (suc zero) true h l = refl
+set_bit (suc zero) (suc zero) false h l = refl
+set_bit zero (suc (suc f)) d h l = absurd (omega arith)
+set_bit (suc zero) (suc (suc f)) d h l = absurd (omega arith)
+set_bit (suc (suc x)) f d h l = absurd (omega arith)
 
 pub one-true : (b : Bool) → eqb (one b) 1 ≡ b
 one-true true = refl

@@ -7,12 +7,12 @@ use mathlib.Core.Path.{◌≡◌, ap, ◌∙◌}
 use mathlib.Core.Bool.{Bool, true}
 use mathlib.Core.List.{[], ◌∷◌}
 use Rattle.lists.specs.Basics.{one, count, range}
-use Rattle.lists.proofs.Sums.{sum-append}
+use Rattle.lists.proofs.Sums.{sum_append}
 use Rattle.lists.proofs.Laws.{length-range, count-few}
 use Rattle.lists.proofs.Ranges.{range_snoc}
 
 pub count_next : (p : ℕ → Bool) (n : ℕ) → count p (range (suc n)) ≡ count p (range n) + one (p n)
-count_next p n = ap (count p) (range_snoc n) ∙ sum-append (λ x. one (p x)) (range n) (n ∷ []) ∙ omega arith
+count_next p n = ap (count p) (range_snoc n) ∙ sum_append (λ x. one (p x)) (range n) (n ∷ []) ∙ omega arith
 
 pub count-le : (p : ℕ → Bool) (n : ℕ) → count p (range n) ≤ n
 count-le p n = omega (arith, count-few p (range n), length-range 0 n)

@@ -10,7 +10,7 @@ use lib.ListN.{length, get_or, take, drop, take-append-drop}
 use lib.Seq.{take-suc, length-take-le, get_or-take}
 use borrow.Author.Tests.{eqb-true, ltb-true}
 use Rattle.lists.specs.Basics.{any, all, filter, mem, place, rises}
-use Rattle.lists.proofs.Laws.{or_left, or_right, or_cases, and_left, and_right, clashes, by_cases, not-true-false, any_append, all_in, mem-self, getD-mem, place-lt, place-get}
+use Rattle.lists.proofs.Laws.{or_left, or_right, or_cases, and_left, and_right, clashes, by_cases, not-true-false, any_append, all_in, mem_self, get_or-mem, place-lt, place_get}
 
 pub any_next : (p : ℕ → Bool) (xs : List ℕ) (i : ℕ) → i < length xs → any p (take (i + 1) xs) ≡ (any p (take i xs) || p (get_or xs i 0))
 any_next p xs i l = rw (add-one, take-suc xs i 0 l) (any_append p (take i xs) (get_or xs i 0 ∷ []) ∙ rw or-false)
@@ -18,9 +18,9 @@ any_next p xs i l = rw (add-one, take-suc xs i 0 l) (any_append p (take i xs) (g
 pub any-first : {A : Type 0} (p : A → Bool) (i : ℕ) (xs : List A) → any p (take i xs) ≡ true → any p xs ≡ true
 any-first p i xs h = ap (any p) (sym (take-append-drop i xs)) ∙ any_append p (take i xs) (drop i xs) ∙ or_left (any p (take i xs)) (any p (drop i xs)) h
 
-pub any-ext-in : (p q : ℕ → Bool) (xs : List ℕ) → ((x : ℕ) → mem x xs ≡ true → p x ≡ q x) → any p xs ≡ any q xs
-any-ext-in p q [] h = refl
-any-ext-in p q (x ∷ xs) h = rw (h x (mem-self x xs), any-ext-in p q xs (λ y m. h y (or_right (eqb y x) (mem y xs) m)))
+pub any_ext_in : (p q : ℕ → Bool) (xs : List ℕ) → ((x : ℕ) → mem x xs ≡ true → p x ≡ q x) → any p xs ≡ any q xs
+any_ext_in p q [] h = refl
+any_ext_in p q (x ∷ xs) h = rw (h x (mem_self x xs), any_ext_in p q xs (λ y m. h y (or_right (eqb y x) (mem y xs) m)))
 
 -- the weaker of two filters adds nothing
 pub filter-filter : (p q : ℕ → Bool) (xs : List ℕ) → ((x : ℕ) → q x ≡ true → p x ≡ true) → filter q (filter p xs) ≡ filter q xs
@@ -34,14 +34,14 @@ filter-filter p q (x ∷ xs) h =
 pub rises-lt : (l : List ℕ) → rises l ≡ true → (p q : ℕ) → p < q → q < length l → get_or l p 0 < get_or l q 0
 rises-lt [] r p q h k = absurd (omega arith)
 rises-lt (x ∷ xs) r p zero h k = absurd (omega arith)
-rises-lt (x ∷ xs) r zero (suc q) h k = ltb-true x (get_or xs q 0) (all_in (ltb x) (get_or xs q 0) xs (getD-mem xs q (omega arith)) (and_left (all (ltb x) xs) (rises xs) r))
+rises-lt (x ∷ xs) r zero (suc q) h k = ltb-true x (get_or xs q 0) (all_in (ltb x) (get_or xs q 0) xs (get_or-mem xs q (omega arith)) (and_left (all (ltb x) xs) (rises xs) r))
 rises-lt (x ∷ xs) r (suc p) (suc q) h k = rises-lt xs (and_right (all (ltb x) xs) (rises xs) r) p q (omega arith) (omega arith)
 
 -- the first i are those below the one at place i
 pub rises-before : (xs : List ℕ) (i s : ℕ) → rises xs ≡ true → i < length xs → mem s (take i xs) ≡ true → s < get_or xs i 0
 rises-before xs i s v l h =
     let k : place s (take i xs) < i = omega (arith, place-lt s (take i xs) h, length-take-le i xs (omega arith)) in
-    omega (arith, place-get s (take i xs) h, get_or-take i xs (place s (take i xs)) 0 k, rises-lt xs v (place s (take i xs)) i k l)
+    omega (arith, place_get s (take i xs) h, get_or-take i xs (place s (take i xs)) 0 k, rises-lt xs v (place s (take i xs)) i k l)
 
 pub before-rises : (xs : List ℕ) (i s : ℕ) → rises xs ≡ true → i < length xs → mem s xs ≡ true → s < get_or xs i 0 → mem s (take i xs) ≡ true
 before-rises [] i s v l h p = absurd (omega arith)

@@ -9,13 +9,13 @@ use lib.Dec.{eqb, ltb}
 use lib.ListN.{length, get_or, take, drop, length-drop, length-map}
 use lib.Seq.{length-take-le, take_all}
 use borrow.Author.Tests.{eqb-true, eqb-false, ltb-true}
-use Rattle.lists.specs.Basics.{all, mem, place, joinMap}
-use Rattle.lists.proofs.Laws.{or_left, or_right, or_cases, clashes, by_cases, not-true-false, all_in, getD-mem}
+use Rattle.lists.specs.Basics.{all, mem, place, join_map}
+use Rattle.lists.proofs.Laws.{or_left, or_right, or_cases, clashes, by_cases, not-true-false, all_in, get_or-mem}
 use Rattle.lists.proofs.Scans.{any_next, any-first}
-use Rattle.lists.proofs.Ranges.{all-joinMap}
+use Rattle.lists.proofs.Ranges.{all-join_map}
 use Rattle.parts.specs.Parts.{part_at, Present}
 use Rattle.parts.specs.Steps.{start_at}
-use Rattle.parts.proofs.Gapless.{written, written-long, part-inside, part-written, part-kept}
+use Rattle.parts.proofs.Gapless.{written, written_long, part_inside, part-written, part_kept}
 use Rattle.locating.specs.Locates.{Arranged, MembersLocated}
 
 -- ---- the first i members are located
@@ -25,39 +25,39 @@ pub record Locating (bounds es ms bodies positions₀ table : List ℕ) (i : ℕ
   pub done : (r : ℕ) → mem r (take i ms) ≡ true → part_at bounds table r ≡ map (λ b. place b bodies) (part_at bounds es r)
   pub kept : (w : Arranged bounds es ms positions₀) (r : ℕ) → r < w.many → mem r (take i ms) ≡ false → part_at bounds table r ≡ part_at bounds positions₀ r
 
-pub locating-done : {bounds es ms bodies positions₀ table : List ℕ} {i : ℕ} → Locating bounds es ms bodies positions₀ table i → length ms ≤ i → MembersLocated bounds es ms bodies positions₀ table
-locating-done {ms} {i} v h =
+pub locating_done : {bounds es ms bodies positions₀ table : List ℕ} {i : ℕ} → Locating bounds es ms bodies positions₀ table i → length ms ≤ i → MembersLocated bounds es ms bodies positions₀ table
+locating_done {ms} {i} v h =
     let e : take i ms ≡ ms = take_all i ms h in
     record { done = rw e at v.done; kept = rw e at v.kept }
 
 module _ {bounds es ms positions₀ : List ℕ} (w : Arranged bounds es ms positions₀) where
-  member-low : (r : ℕ) → mem r ms ≡ true → r < w.many
-  member-low r m = ltb-true r w.many (all_in (λ r. ltb r w.many) r ms m w.below)
+  member_low : (r : ℕ) → mem r ms ≡ true → r < w.many
+  member_low r m = ltb-true r w.many (all_in (λ r. ltb r w.many) r ms m w.below)
 
   -- member i: its endpoints and its start can be read
   module _ (i : ℕ) (h : i < length ms) where
     low : get_or ms i 0 < w.many
-    low = member-low (get_or ms i 0) (getD-mem ms i h)
+    low = member_low (get_or ms i 0) (get_or-mem ms i h)
 
-    member-present : Present es bounds (get_or ms i 0)
-    member-present = w.bounded (get_or ms i 0) low
+    member_present : Present es bounds (get_or ms i 0)
+    member_present = w.bounded (get_or ms i 0) low
 
-    pub member-start : (get_or ms i 0 ≤ 32767) × ((length bounds ≡ 0 → ⊥) → 2 * get_or ms i 0 < length bounds)
-    member-start = (omega (arith, low, w.few), λ n. (member-present.part n).low)
+    pub member_start : (get_or ms i 0 ≤ 32767) × ((length bounds ≡ 0 → ⊥) → 2 * get_or ms i 0 < length bounds)
+    member_start = (omega (arith, low, w.few), λ n. (member_present.part n).low)
 
-    pub member-all : (p : ℕ → Bool) (bs : List ℕ) → bs ≡ part_at bounds es (get_or ms i 0) → all p (joinMap (part_at bounds es) ms) ≡ true → all p bs ≡ true
-    member-all p bs b a = rw b (all_in (λ r. all p (part_at bounds es r)) (get_or ms i 0) ms (getD-mem ms i h) (sym (all-joinMap p (part_at bounds es) ms) ∙ a))
+    pub member_all : (p : ℕ → Bool) (bs : List ℕ) → bs ≡ part_at bounds es (get_or ms i 0) → all p (join_map (part_at bounds es) ms) ≡ true → all p bs ≡ true
+    member_all p bs b a = rw b (all_in (λ r. all p (part_at bounds es r)) (get_or ms i 0) ms (get_or-mem ms i h) (sym (all-join_map p (part_at bounds es) ms) ∙ a))
 
     -- its endpoints bs, and their start
     module _ {bodies table bs : List ℕ} {start : ℕ} (v : Locating bounds es ms bodies positions₀ table i) (b : bs ≡ part_at bounds es (get_or ms i 0)) (s : start ≡ start_at bounds (get_or ms i 0)) where
-      pub end-inside : start + length bs ≤ length table
-      end-inside = omega (arith, s, ap length b, part-inside w.bounded w.gapless (get_or ms i 0) low, w.room, v.size)
+      pub end_inside : start + length bs ≤ length table
+      end_inside = omega (arith, s, ap length b, part_inside w.bounded w.gapless (get_or ms i 0) low, w.room, v.size)
 
       pub places-many : length (take (start + length bs - start) (drop start table)) ≡ length bs
-      places-many = omega (arith, end-inside, length-take-le (start + length bs - start) (drop start table) (omega (arith, end-inside, length-drop start table)))
+      places-many = omega (arith, end_inside, length-take-le (start + length bs - start) (drop start table) (omega (arith, end_inside, length-drop start table)))
 
-      pub locating-more : (ps : List ℕ) → ps ≡ map (λ b. place b bodies) bs → Locating bounds es ms bodies positions₀ (written start (start + length bs) table ps) (i + 1)
-      locating-more ps e =
+      pub locating_more : (ps : List ℕ) → ps ≡ map (λ b. place b bodies) bs → Locating bounds es ms bodies positions₀ (written start (start + length bs) table ps) (i + 1)
+      locating_more ps e =
           let q = get_or ms i 0 in
           let g : ℕ → ℕ = λ b. place b bodies in
           let more : (r : ℕ) → mem r (take (i + 1) ms) ≡ (mem r (take i ms) || eqb r q) = λ r. any_next (eqb r) ms i h in
@@ -66,19 +66,19 @@ module _ {bounds es ms positions₀ : List ℕ} (w : Arranged bounds es ms posit
           let same : written start (start + length bs) table ps ≡ written (start_at bounds q) (start_at bounds q + length (part_at bounds es q)) table ps = rw (b, s) in
           record {
             inside = omega arith;
-            size = written-long start (start + length bs) table ps (omega arith) end-inside (omega (arith, long, ap length b)) ∙ v.size;
+            size = written_long start (start + length bs) table ps (omega arith) end_inside (omega (arith, long, ap length b)) ∙ v.size;
             done = λ r m.
                 ap (λ (t : List ℕ). part_at bounds t r) same
                 ∙ by_cases (eqb r q)
                 (λ c. let k : r ≡ q = eqb-true r q c in rw k (part-written w.bounded w.gapless table ps q low room long ∙ e ∙ ap (map g) b))
                 (λ c.
                 let before : mem r (take i ms) ≡ true = or_cases (mem r (take i ms)) (eqb r q) (sym (more r) ∙ m) (λ o. o) (λ o. clashes (eqb r q) o c) in
-                part-kept w.bounded w.gapless table ps q low room long r (member-low r (any-first (eqb r) i ms before)) (eqb-false r q c) ∙ v.done r before);
+                part_kept w.bounded w.gapless table ps q low room long r (member_low r (any-first (eqb r) i ms before)) (eqb-false r q c) ∙ v.done r before);
             kept = λ z r k m.
                 let o : (mem r (take i ms) || eqb r q) ≡ false = sym (more r) ∙ m in
                 let c : eqb r q ≡ false = not-true-false (eqb r q) (λ t. clashes (mem r (take i ms) || eqb r q) (or_right (mem r (take i ms)) (eqb r q) t) o) in
                 let a : mem r (take i ms) ≡ false = not-true-false (mem r (take i ms)) (λ t. clashes (mem r (take i ms) || eqb r q) (or_left (mem r (take i ms)) (eqb r q) t) o) in
                 ap (λ (t : List ℕ). part_at bounds t r) same
-                ∙ part-kept z.bounded z.gapless table ps q (ltb-true q z.many (all_in (λ r. ltb r z.many) q ms (getD-mem ms i h) z.below)) room long r k (eqb-false r q c)
+                ∙ part_kept z.bounded z.gapless table ps q (ltb-true q z.many (all_in (λ r. ltb r z.many) q ms (get_or-mem ms i h) z.below)) room long r k (eqb-false r q c)
                 ∙ v.kept z r k a;
           }

@@ -10,11 +10,11 @@ use lib.ListN.{length, get_or, set, take, drop, length-set}
 use lib.Seq.{get_or-set_same, get_or-set_other}
 use borrow.Author.Tests.{eqb-true, eqb-false, ltb-true}
 use Rattle.lists.specs.Basics.{all, place, rises}
-use Rattle.lists.proofs.Laws.{by_cases, all_in, getD-mem, place-lt, place-get, get-place, rises-distinct}
+use Rattle.lists.proofs.Laws.{by_cases, all_in, get_or-mem, place-lt, place_get, get_place, rises-distinct}
 use Rattle.locating.specs.Locates.{PlacesListed, PlacesKnown}
 
 entry-all : (p : ℕ → Bool) (xs : List ℕ) (i : ℕ) → all p xs ≡ true → i < length xs → p (get_or xs i 0) ≡ true
-entry-all p xs i h k = all_in p (get_or xs i 0) xs (getD-mem xs i k) h
+entry-all p xs i h k = all_in p (get_or xs i 0) xs (get_or-mem xs i k) h
 
 -- ---- the first i positions are what g gives the first i endpoints
 pub record Filling (g : ℕ → ℕ) (ends positions₀ positions : List ℕ) (i : ℕ) : Type 0 where
@@ -32,8 +32,8 @@ module _ {bodies places₀ places : List ℕ} {i : ℕ} (v : Placing bodies plac
   pub body_below : all (λ b. ltb b (length places₀)) bodies ≡ true → i < length bodies → get_or bodies i 0 < length places
   body_below p h = rw v.size (ltb-true (get_or bodies i 0) (length places₀) (entry-all (λ b. ltb b (length places₀)) bodies i p h))
 
-  pub placing-more : rises bodies ≡ true → i < length bodies → get_or bodies i 0 < length places → Placing bodies places₀ (set places (get_or bodies i 0) i) (i + 1)
-  placing-more r h low =
+  pub placing_more : rises bodies ≡ true → i < length bodies → get_or bodies i 0 < length places → Placing bodies places₀ (set places (get_or bodies i 0) i) (i + 1)
+  placing_more r h low =
       record {
         inside = omega arith;
         size = length-set places (get_or bodies i 0) i ∙ v.size;
@@ -46,16 +46,16 @@ module _ {bodies places₀ places : List ℕ} {i : ℕ} (v : Placing bodies plac
       apart : (j : ℕ) → j < length bodies → get_or bodies j 0 ≡ get_or bodies i 0 → j ≡ i
       apart j k e =
           let d = rises-distinct bodies r in
-          sym (get-place bodies j d k) ∙ ap (λ (x : ℕ). place x bodies) e ∙ get-place bodies i d h
+          sym (get_place bodies j d k) ∙ ap (λ (x : ℕ). place x bodies) e ∙ get_place bodies i d h
 
-  pub placing-done : length bodies ≤ i → PlacesListed bodies places
-  placing-done h =
-      record { placed = λ b m. ap (λ (x : ℕ). get_or places x 0) (sym (place-get b bodies m)) ∙ v.placed (place b bodies) (omega (arith, place-lt b bodies m)) }
+  pub placing_done : length bodies ≤ i → PlacesListed bodies places
+  placing_done h =
+      record { placed = λ b m. ap (λ (x : ℕ). get_or places x 0) (sym (place_get b bodies m)) ∙ v.placed (place b bodies) (omega (arith, place-lt b bodies m)) }
 
 -- ---- of more than 4 bodies the table has the places: they were listed, or there are no more than 4
 module _ {bodies places : List ℕ} (places₀ : List ℕ) (p : all (λ b. ltb b (length places₀)) bodies ≡ true) where
-  pub known-listed : {listed : List ℕ} → length listed ≡ length places₀ → PlacesListed bodies listed → places ≡ listed → PlacesKnown bodies places
-  known-listed e l q = rw q (record { below = rw e p; listed = λ h. l })
+  pub known_listed : {listed : List ℕ} → length listed ≡ length places₀ → PlacesListed bodies listed → places ≡ listed → PlacesKnown bodies places
+  known_listed e l q = rw q (record { below = rw e p; listed = λ h. l })
 
   pub known-few : length bodies ≤ 4 → places ≡ places₀ → PlacesKnown bodies places
   known-few h q = rw q (record { below = p; listed = λ k. absurd (omega arith) })

@@ -1,21 +1,21 @@
 -- What the steps of locating need and leave: the positions of one constraint, of one group's constraints, and of all.
 use Rattle.std.specs.Prelude.{ℕ, ◌≤◌, ◌<◌, ◌≡◌, true, false, List, map, ltb, length, get_or, take}
 use Rattle.lists.specs.Basics.{all, mem, place, rises}
-use Rattle.groups.specs.Groups.{groupCount, members, groupBodies, flatten, offsets}
+use Rattle.groups.specs.Groups.{group_count, members, group_bodies, flatten, offsets}
 use Rattle.parts.specs.Parts.{part_at, Bounded}
 use Rattle.parts.specs.Steps.{Gapless}
 
 -- what `locate` needs: constraints cs on bodies that exist, the members and the bodies of all groups, and a table for the places of all bodies
-pub record Locatable (body-count : ℕ) (cs : List (List ℕ)) (colors : List ℕ) (color-count : ℕ) (color-offsets colored-constraints color-body-offsets color-bodies places : List ℕ) : Type 0 where
-  pub few-bodies : body-count ≤ 4096
+pub record Locatable (body_count : ℕ) (cs : List (List ℕ)) (colors : List ℕ) (color_count : ℕ) (color_offsets colored_constraints color_body_offsets color_bodies places : List ℕ) : Type 0 where
+  pub few_bodies : body_count ≤ 4096
   pub few : length colors ≤ 8192
-  pub below : all (λ bs. all (λ b. ltb b body-count) bs) cs ≡ true
-  pub groups : color-count ≡ groupCount colors
-  pub starts : color-offsets ≡ offsets (members colors) color-count
-  pub constraints : colored-constraints ≡ flatten (members colors) color-count
-  pub body-starts : color-body-offsets ≡ offsets (groupBodies body-count cs colors) color-count
-  pub bodies : take (length (flatten (groupBodies body-count cs colors) color-count)) color-bodies ≡ flatten (groupBodies body-count cs colors) color-count
-  pub by-body : body-count ≤ length places
+  pub below : all (λ bs. all (λ b. ltb b body_count) bs) cs ≡ true
+  pub groups : color_count ≡ group_count colors
+  pub starts : color_offsets ≡ offsets (members colors) color_count
+  pub constraints : colored_constraints ≡ flatten (members colors) color_count
+  pub body_starts : color_body_offsets ≡ offsets (group_bodies body_count cs colors) color_count
+  pub bodies : take (length (flatten (group_bodies body_count cs colors) color_count)) color_bodies ≡ flatten (group_bodies body_count cs colors) color_count
+  pub by_body : body_count ≤ length places
 
 -- a number of constraints whose endpoints fill the list, with a position for each endpoint; the constraints ms are among them
 pub record Arranged (bounds es ms positions : List ℕ) : Type 0 where

@@ -2,7 +2,7 @@
 #![tactic(auto)]
 
 ghost use Rattle.std.specs.Prelude.{◌≡◌, true, map, ◌≤◌, ltb, length};
-ghost use Rattle.lists.specs.Basics.{all, mem, place, rises, joinMap};
+ghost use Rattle.lists.specs.Basics.{all, mem, place, rises, join_map};
 ghost use Rattle.groups.specs.Groups.{positions, flatten};
 ghost use Rattle.parts.specs.Parts.{part_at, parts_at, Bounded};
 ghost use Rattle.parts.specs.Steps.{Gapless};
@@ -60,7 +60,7 @@ fn locate_members(
     constraint_body_positions: &mut [u16],
 )
     requires arranged { Arranged bounds.now endpoints.now members.now constraint_body_positions.old }
-    requires findable { Findable (joinMap (part_at bounds.now endpoints.now) members.now) bodies.now × (all (λ b. ltb b (length places.old)) bodies.now ≡ true) }
+    requires findable { Findable (join_map (part_at bounds.now endpoints.now) members.now) bodies.now × (all (λ b. ltb b (length places.old)) bodies.now ≡ true) }
     ensures { MembersLocated bounds.now endpoints.now members.now bodies.now constraint_body_positions.old constraint_body_positions.new }
 {
     if FEW < bodies.len() {

@@ -10,10 +10,10 @@ use lib.Seq.{length-take-le, get_or-take}
 use borrow.Author.Tests.{leb-true}
 use Rattle.std.proofs.lemmas.List.{take-map, take-take}
 use Rattle.lists.specs.Basics.{four}
-use Rattle.lists.proofs.Laws.{and_right, by_cases, getD-map-lt}
-use Rattle.frame.specs.Frames.{counted, endCount}
+use Rattle.lists.proofs.Laws.{and_right, by_cases, get_or-map-lt}
+use Rattle.frame.specs.Frames.{counted, end_count}
 use Rattle.parts.specs.Steps.{ends_before}
-use Rattle.parts.proofs.Bounds.{ends-more, ends-up, ends-all, counted-at}
+use Rattle.parts.proofs.Bounds.{ends_more, ends_up, ends-all, counted-at}
 use Rattle.multi_coloring.specs.Counts.{count_read, counts_read, positions_in}
 
 -- a count that is read is at most four
@@ -30,10 +30,10 @@ copied (a ∷ b ∷ d ∷ []) h = refl
 copied (a ∷ b ∷ d ∷ e ∷ []) h = refl
 copied (a ∷ b ∷ d ∷ e ∷ f ∷ r) h = absurd (omega arith)
 
-pub four-copied : (xs : List ℕ) (n : ℕ) → length xs ≡ n → n ≤ 4 → xs ++ drop n (replicate 4 0) ≡ four xs
-four-copied xs n l h = rw (← l) (copied xs (omega arith))
+pub four_copied : (xs : List ℕ) (n : ℕ) → length xs ≡ n → n ≤ 4 → xs ++ drop n (replicate 4 0) ≡ four xs
+four_copied xs n l h = rw (← l) (copied xs (omega arith))
 
-module _ (n : ℕ) (counts table : List ℕ) (room : n ≤ length counts) (there : endCount (counts_read n counts) ≤ length table) (r start count : ℕ) (h : r < n) (s : start ≡ endCount (map count_read (take r counts))) (k : count ≡ count_read (get_or counts r 0)) where
+module _ (n : ℕ) (counts table : List ℕ) (room : n ≤ length counts) (there : end_count (counts_read n counts) ≤ length table) (r start count : ℕ) (h : r < n) (s : start ≡ end_count (map count_read (take r counts))) (k : count ≡ count_read (get_or counts r 0)) where
   abbrev read : List ℕ
   read = counts_read n counts
 
@@ -41,19 +41,19 @@ module _ (n : ℕ) (counts table : List ℕ) (room : n ≤ length counts) (there
   read-length = length-map (take n counts) count_read ∙ length-take-le n counts room
 
   -- the counts before, and the constraint's own
-  start-is : start ≡ ends_before read r
-  start-is = s ∙ ap endCount (ap (map count_read) (sym (take-take r n counts (omega arith))) ∙ sym (take-map count_read r (take n counts)))
+  start_is : start ≡ ends_before read r
+  start_is = s ∙ ap end_count (ap (map count_read) (sym (take-take r n counts (omega arith))) ∙ sym (take-map count_read r (take n counts)))
 
-  own-is : count ≡ get_or read r 0
-  own-is = k ∙ ap count_read (sym (get_or-take n counts r 0 h)) ∙ sym (getD-map-lt count_read (take n counts) r 0 0 (omega (arith, length-take-le n counts room)))
+  own_is : count ≡ get_or read r 0
+  own_is = k ∙ ap count_read (sym (get_or-take n counts r 0 h)) ∙ sym (get_or-map-lt count_read (take n counts) r 0 0 (omega (arith, length-take-le n counts room)))
 
   -- they end inside the table
-  pub end-inside : start + count ≤ length table
-  end-inside = omega (arith, start-is, own-is, read-length, ends-more read r (omega (arith, read-length)), ends-up read (r + 1) (length read) (omega (arith, read-length)), ends-all read)
+  pub end_inside : start + count ≤ length table
+  end_inside = omega (arith, start_is, own_is, read-length, ends_more read r (omega (arith, read-length)), ends_up read (r + 1) (length read) (omega (arith, read-length)), ends-all read)
 
   -- and are the definition's
-  pub positions-are : take count (drop start table) ≡ positions_in n counts table r
-  positions-are = rw (own-is, start-is) (counted-at read table r (omega (arith, read-length)))
+  pub positions_are : take count (drop start table) ≡ positions_in n counts table r
+  positions_are = rw (own_is, start_is) (counted-at read table r (omega (arith, read-length)))
 
-  pub count-is : count ≡ length (positions_in n counts table r)
-  count-is = sym (length-take-le count (drop start table) (omega (arith, length-drop start table, end-inside))) ∙ ap length positions-are
+  pub count_is : count ≡ length (positions_in n counts table r)
+  count_is = sym (length-take-le count (drop start table) (omega (arith, length-drop start table, end_inside))) ∙ ap length positions_are

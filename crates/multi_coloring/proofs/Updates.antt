@@ -11,74 +11,74 @@ use Rattle.groups.specs.Groups.{Plan, with_counts, multi_plan_of}
 use Rattle.plan_questions.specs.Plans.{Tables}
 use Rattle.constraint_coloring.specs.Stages.{Rebuilt}
 use Rattle.constraint_coloring.specs.declared.ConstraintColoring.{ConstraintColoring}
-use Rattle.constraint_coloring.proofs.Updates.{written-not, written_new, leaves-kept}
-use Rattle.multi_coloring.specs.Calls.{multiNumber, multiRefused, multiChanged, multiPlanAfter, multiHolds, multiRefusalWith, multiChangesWith, MultiUpdated}
+use Rattle.constraint_coloring.proofs.Updates.{written-not, written_new, leaves_kept}
+use Rattle.multi_coloring.specs.Calls.{multi_number, multi_refused, multi_changed, multi_plan_after, multi_holds, multi_refusal_with, multi_changes_with, MultiUpdated}
 use Rattle.multi_coloring.specs.declared.MultiColoring.{MultiColoring}
 use Rattle.multi_coloring.specs.declared.MultiUpdate.{MultiUpdate}
 use Rattle.multi_coloring.specs.declared.MultiUpdate.TheVariants.{Changed, Unchanged, Refused}
 
 -- what a built plan carries, as a plan with counts
-abbrev pub counted-plan : ConstraintColoring → MultiColoring
-counted-plan q = record { body_count = q.body_count; constraint_count = q.constraint_count; color_count = q.color_count; max_color_constraint_count = q.max_color_constraint_count }
+abbrev pub counted_plan : ConstraintColoring → MultiColoring
+counted_plan q = record { body_count = q.body_count; constraint_count = q.constraint_count; color_count = q.color_count; max_color_constraint_count = q.max_color_constraint_count }
 
 -- counts are no part of what is built
-pub built-counts : (counts : List ℕ) {flags ends : List ℕ} {d : Plan} {t u : Tables} {r : ConstraintColoring} → Rebuilt flags ends d t u r → Rebuilt flags ends (with_counts counts d) t u r
-built-counts counts w =
+pub built_counts : (counts : List ℕ) {flags ends : List ℕ} {d : Plan} {t u : Tables} {r : ConstraintColoring} → Rebuilt flags ends d t u r → Rebuilt flags ends (with_counts counts d) t u r
+built_counts counts w =
     record {
       plan = w.plan;
       tables = record {
-        dynamic-bodies = w.tables.dynamic-bodies;
+        dynamic_bodies = w.tables.dynamic_bodies;
         endpoints = w.tables.endpoints;
-        body-offsets = w.tables.body-offsets;
-        body-constraints = w.tables.body-constraints;
-        scratch-offsets = w.tables.scratch-offsets;
-        constraint-colors = w.tables.constraint-colors;
-        color-stamps = w.tables.color-stamps;
-        body-stamps = w.tables.body-stamps;
-        color-offsets = w.tables.color-offsets;
-        colored-constraints = w.tables.colored-constraints;
-        color-body-offsets = w.tables.color-body-offsets;
-        color-bodies = w.tables.color-bodies;
-        constraint-body-positions = w.tables.constraint-body-positions;
+        body_offsets = w.tables.body_offsets;
+        body_constraints = w.tables.body_constraints;
+        scratch_offsets = w.tables.scratch_offsets;
+        constraint_colors = w.tables.constraint_colors;
+        color_stamps = w.tables.color_stamps;
+        body_stamps = w.tables.body_stamps;
+        color_offsets = w.tables.color_offsets;
+        colored_constraints = w.tables.colored_constraints;
+        color_body_offsets = w.tables.color_body_offsets;
+        color_bodies = w.tables.color_bodies;
+        constraint_body_positions = w.tables.constraint_body_positions;
       };
     }
 
 module _ (p : MultiColoring) (flags ends counts : List ℕ) (t : Tables) (c : List ℕ) where
   abbrev refusal : ℕ
-  refusal = multiRefusalWith t c flags ends counts
+  refusal = multi_refusal_with t c flags ends counts
 
   abbrev changes : Bool
-  changes = multiChangesWith p t c flags ends counts
+  changes = multi_changes_with p t c flags ends counts
 
   -- an answer that is not "changed" leaves the plan and all tables
-  kept-all : (r : MultiUpdate) → changes ≡ false → multiNumber r ≡ refusal → multiRefused r ≡ not (eqb refusal 0) → multiChanged r ≡ false → multiPlanAfter p r ≡ p → MultiUpdated p flags ends counts t c t c r
-  kept-all r e n s b q = record {
+  kept_all : (r : MultiUpdate) → changes ≡ false → multi_number r ≡ refusal → multi_refused r ≡ not (eqb refusal 0) → multi_changed r ≡ false → multi_plan_after p r ≡ p → MultiUpdated p flags ends counts t c t c r
+  kept_all r e n s b q = record {
     refusal = n;
     refused = s;
     changed = b ∙ sym e;
     plan = rw e q;
-    tables = leaves-kept changes flags ends (multi_plan_of flags ends counts) t e;
-    counts-are = written-not changes counts c e;
+    tables = leaves_kept changes flags ends (multi_plan_of flags ends counts) t e;
+    counts_are = written-not changes counts c e;
   }
 
   pub refused : (n : ℕ) → n ≡ refusal → (n ≡ 0 → ⊥) → MultiUpdated p flags ends counts t c t c (Refused n)
-  unfolding multiChangesWith
-  refused n e ne = kept-all (Refused n) (rw (sym e, ne_eqb n 0 ne)) e (rw (sym e, ne_eqb n 0 ne)) refl refl
+  unfolding multi_changes_with
+  refused n e ne = kept_all (Refused n) (rw (sym e, ne_eqb n 0 ne)) e (rw (sym e, ne_eqb n 0 ne)) refl refl
 
-  pub unchanged : refusal ≡ 0 → multiHolds p t c flags ends counts ≡ true → MultiUpdated p flags ends counts t c t c Unchanged
-  unfolding multiChangesWith
-  unchanged e h = kept-all Unchanged (rw (e, h)) (sym e) (rw e) refl refl
+  pub unchanged : refusal ≡ 0 → multi_holds p t c flags ends counts ≡ true → MultiUpdated p flags ends counts t c t c Unchanged
+  unfolding multi_changes_with
+  unchanged e h = kept_all Unchanged (rw (e, h)) (sym e) (rw e) refl refl
 
-  pub changed : (u : Tables) (c' : List ℕ) (q : ConstraintColoring) (r : MultiColoring) → refusal ≡ 0 → multiHolds p t c flags ends counts ≡ false → Rebuilt flags ends (multi_plan_of flags ends counts) t u q → c' ≡ over counts c → r ≡ counted-plan q
+  pub changed : (u : Tables) (c' : List ℕ) (q : ConstraintColoring) (r : MultiColoring) → refusal ≡ 0 → multi_holds p t c flags ends counts ≡ false → Rebuilt flags ends (multi_plan_of flags ends counts) t u q → c' ≡ over counts c → r ≡ counted_plan q
       → MultiUpdated p flags ends counts t c u c' (Changed r)
-  unfolding multiChangesWith
+  unfolding multi_changes_with
   changed u c' q r e h w v k =
       let y : changes ≡ true = rw (e, h) in
       record {
         refusal = sym e;
         refused = rw e;
         changed = sym y;
-        plan = rw y (k ∙ ap counted-plan w.plan);
+        plan = rw y (k ∙ ap counted_plan w.plan);
         tables = rw y w.tables;
-        counts-are = rw y (written_new counts c c' v);
+        counts_are = rw y (written_new counts c c' v);
       }

@@ -4,12 +4,12 @@
 
 ghost use Rattle.std.specs.Prelude.{◌≡◌, ◌≤◌, ◌+◌, ◌*◌, ◌&&◌, map, leb, eqb, length, take, drop};
 ghost use Rattle.lists.specs.Basics.{one, over, same, four};
-ghost use Rattle.frame.specs.Frames.{endCount};
+ghost use Rattle.frame.specs.Frames.{end_count};
 ghost use Rattle.groups.specs.Groups.{multi_plan_of};
-ghost use Rattle.plan_questions.specs.Plans.{tables_of, groupPart};
+ghost use Rattle.plan_questions.specs.Plans.{tables_of, group_part};
 ghost use Rattle.constraint_coloring.specs.Stages.{Rebuilt};
-ghost use Rattle.multi_coloring.specs.Counts.{count_read, counts_read, multiUpdateRefusal};
-ghost use Rattle.multi_coloring.specs.Calls.{multiNumber, multiChanged, multiPlanAfter, freshMulti, multiRefusalWith, MultiUpdated, MultiLocated};
+ghost use Rattle.multi_coloring.specs.Counts.{count_read, counts_read, multi_update_refusal};
+ghost use Rattle.multi_coloring.specs.Calls.{multi_number, multi_changed, multi_plan_after, fresh_multi, multi_refusal_with, MultiUpdated, MultiLocated};
 
 use constraint_coloring::ConstraintColoring;
 use frame::Frame;
@@ -33,7 +33,7 @@ pub enum MultiUpdate {
 
 // What an update answered: the refusal or 0, 1 if it changed the plan, and the plan after it.
 pub fn refusal_of(answer: MultiUpdate) -> u8
-    ensures { result ≡ multiNumber answer }
+    ensures { result ≡ multi_number answer }
 {
     match answer {
         MultiUpdate::Changed(_) => 0,
@@ -43,7 +43,7 @@ pub fn refusal_of(answer: MultiUpdate) -> u8
 }
 
 pub fn is_changed(answer: MultiUpdate) -> u8
-    ensures { result ≡ one (multiChanged answer) }
+    ensures { result ≡ one (multi_changed answer) }
 {
     match answer {
         MultiUpdate::Changed(_) => 1,
@@ -53,7 +53,7 @@ pub fn is_changed(answer: MultiUpdate) -> u8
 }
 
 pub fn plan_after(plan: MultiColoring, answer: MultiUpdate) -> MultiColoring
-    ensures { result ≡ multiPlanAfter plan answer }
+    ensures { result ≡ multi_plan_after plan answer }
 {
     match answer {
         MultiUpdate::Changed(changed) => changed,
@@ -90,7 +90,7 @@ fn read_count(count: u8) -> usize
 // How many endpoints constraints with these remembered counts have.
 fn ends_read(counts: &[u8]) -> usize
     requires { length counts.now ≤ 8192 }
-    ensures { result ≡ endCount (map count_read counts.now) }
+    ensures { result ≡ end_count (map count_read counts.now) }
 {
     let mut sum: usize = 0;
     let mut constraint = 0;
@@ -133,7 +133,7 @@ fn positions_there(
 ) -> bool
     requires { constraint_count ≤ 8192 }
     ensures { result ≡ (leb constraint_count (length counts.now)
-        && leb (endCount (counts_read constraint_count counts.now)) (length constraint_body_positions.now)) }
+        && leb (end_count (counts_read constraint_count counts.now)) (length constraint_body_positions.now)) }
 {
     if counts.len() < constraint_count {
         return false;
@@ -158,14 +158,14 @@ fn places_at(constraint_body_positions: &[u16], start: usize, count: usize) -> P
 // Question 4: do the counts make up the endpoint list?
 fn counts_fill(counts: &[u8], ends: &[u16]) -> bool
     requires { length counts.now ≤ 8192 }
-    ensures { result ≡ eqb (endCount counts.now) (length ends.now) }
+    ensures { result ≡ eqb (end_count counts.now) (length ends.now) }
 {
     frame::multi::sum_counts(counts) == ends.len()
 }
 
 // Questions 3 to 7, where `room` answers 6; 0 where all get a "yes".
 fn update_refusal(flags: &[u8], ends: &[u16], counts: &[u8], room: bool) -> u8
-    ensures { result ≡ multiUpdateRefusal flags.now ends.now counts.now room }
+    ensures { result ≡ multi_update_refusal flags.now ends.now counts.now room }
 {
     if !((flags.len() <= Frame::MAX_BODIES) & (counts.len() <= Frame::MAX_PAIRS)) {
         return 3;
@@ -237,7 +237,7 @@ fn rebuild(
     color_bodies: &mut [u16],
     constraint_body_positions: &mut [u16],
 ) -> ConstraintColoring
-    requires { multiRefusalWith
+    requires { multi_refusal_with
         (tables_of dynamic_bodies.old endpoints.old body_offsets.old
         body_constraints.old scratch_offsets.old constraint_colors.old
         color_stamps.old body_stamps.old color_offsets.old
@@ -294,7 +294,7 @@ fn carry(plan: ConstraintColoring) -> MultiColoring
 impl MultiColoring {
     // A fresh plan: it remembers three empty lists.
     pub fn new() -> Self
-        ensures { result ≡ freshMulti }
+        ensures { result ≡ fresh_multi }
     {
         MultiColoring {
             body_count: 0,
@@ -398,7 +398,7 @@ impl MultiColoring {
         colored_constraints: &'a [u16],
         group: usize,
     ) -> &'a [u16]
-        ensures { result.now ≡ groupPart self.color_count color_offsets.now colored_constraints.now group }
+        ensures { result.now ≡ group_part self.color_count color_offsets.now colored_constraints.now group }
     {
         plan_questions::group_part(self.color_count, color_offsets, colored_constraints, group)
     }
@@ -410,7 +410,7 @@ impl MultiColoring {
         color_bodies: &'a [u16],
         group: usize,
     ) -> &'a [u16]
-        ensures { result.now ≡ groupPart self.color_count color_body_offsets.now color_bodies.now group }
+        ensures { result.now ≡ group_part self.color_count color_body_offsets.now color_bodies.now group }
     {
         plan_questions::group_part(self.color_count, color_body_offsets, color_bodies, group)
     }

@@ -3,11 +3,11 @@
 
 ghost use Rattle.std.specs.Prelude.{◌≡◌, [], length};
 ghost use Rattle.plan_questions.specs.Plans.{tables_of};
-ghost use Rattle.multi_coloring.specs.Calls.{numbersOf};
+ghost use Rattle.multi_coloring.specs.Calls.{numbers_of};
 ghost use Rattle.colored_bodies.specs.Bindings.{Known};
 ghost use Rattle.turn_table.specs.Turns.{Room, Appended};
-ghost use Rattle.group_run.specs.Appends.{addedBy};
-ghost use Rattle.one_island.specs.Island.{islandCalls, ranks, Ready, Colored};
+ghost use Rattle.group_run.specs.Appends.{added_by};
+ghost use Rattle.one_island.specs.Island.{island_calls, ranks, Ready, Colored};
 
 use constraint_coloring::ConstraintColoring;
 use multi_coloring::MultiColoring;
@@ -15,7 +15,7 @@ use turn_table::Tally;
 
 // The groups of a plan with counts are found as those of a plan of pairs with the same numbers.
 fn numbers_of(plan: MultiColoring) -> ConstraintColoring
-    ensures { result ≡ numbersOf plan }
+    ensures { result ≡ numbers_of plan }
 {
     ConstraintColoring {
         body_count: plan.body_count,
@@ -231,9 +231,9 @@ pub fn run_island(
         body_constraints.old scratch_offsets.old constraint_colors.old
         color_stamps.old body_stamps.old color_offsets.old
         colored_constraints.old color_body_offsets.old color_bodies.old constraint_body_positions.old) plan_counts.old }
-    requires room { Room (addedBy (islandCalls types.now flags.now counts.now ends.now island numbers.now)) turns.old tally }
+    requires room { Room (added_by (island_calls types.now flags.now counts.now ends.now island numbers.now)) turns.old tally }
     requires known { Known types.now }
-    ensures { Appended (addedBy (islandCalls types.now flags.now counts.now ends.now island numbers.now)) turns.old tally turns.new result }
+    ensures { Appended (added_by (island_calls types.now flags.now counts.now ends.now island numbers.now)) turns.old tally turns.new result }
 {
     let plan = color_island(
         flags,

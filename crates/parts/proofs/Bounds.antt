@@ -18,16 +18,16 @@ use Rattle.parts.specs.Steps.{Gapless, ends_before, BoundsOf}
 use Rattle.parts.proofs.Parts.{parts-length, parts-at}
 
 -- ---- how many endpoints those before a constraint have
-pub ends-more : (counts : List ℕ) (r : ℕ) → r < length counts → ends_before counts (r + 1) ≡ ends_before counts r + get_or counts r 0
-ends-more [] r h = absurd (omega arith)
-ends-more (c ∷ counts) zero h = omega arith
-ends-more (c ∷ counts) (suc r) h = rw add-one (omega (arith, rw add-one at (ends-more counts r (omega arith))))
+pub ends_more : (counts : List ℕ) (r : ℕ) → r < length counts → ends_before counts (r + 1) ≡ ends_before counts r + get_or counts r 0
+ends_more [] r h = absurd (omega arith)
+ends_more (c ∷ counts) zero h = omega arith
+ends_more (c ∷ counts) (suc r) h = rw add-one (omega (arith, rw add-one at (ends_more counts r (omega arith))))
 
-pub ends-up : (counts : List ℕ) (r n : ℕ) → r ≤ n → ends_before counts r ≤ ends_before counts n
-ends-up counts zero n h = omega arith
-ends-up counts (suc r) zero h = absurd (omega arith)
-ends-up [] (suc r) (suc n) h = omega arith
-ends-up (c ∷ counts) (suc r) (suc n) h = omega (arith, ends-up counts r n (omega arith))
+pub ends_up : (counts : List ℕ) (r n : ℕ) → r ≤ n → ends_before counts r ≤ ends_before counts n
+ends_up counts zero n h = omega arith
+ends_up counts (suc r) zero h = absurd (omega arith)
+ends_up [] (suc r) (suc n) h = omega arith
+ends_up (c ∷ counts) (suc r) (suc n) h = omega (arith, ends_up counts r n (omega arith))
 
 pub ends-all : (counts : List ℕ) → ends_before counts (length counts) ≡ sum_of (λ c. c) counts
 ends-all [] = refl
@@ -38,8 +38,8 @@ pub record BoundsUpTo (counts bounds : List ℕ) (n : ℕ) : Type 0 where
   pub starts : (r : ℕ) → r < n → get_or bounds (2 * r) 0 ≡ ends_before counts r
   pub ends : (r : ℕ) → r < n → get_or bounds (2 * r + 1) 0 ≡ ends_before counts (r + 1)
 
-pub bounds-more : (counts bounds : List ℕ) (n a b : ℕ) → 2 * n + 1 < length bounds → a ≡ ends_before counts n → b ≡ ends_before counts (n + 1) → BoundsUpTo counts bounds n → BoundsUpTo counts (set (set bounds (2 * n) a) (2 * n + 1) b) (n + 1)
-bounds-more counts bounds n a b l p q v =
+pub bounds_more : (counts bounds : List ℕ) (n a b : ℕ) → 2 * n + 1 < length bounds → a ≡ ends_before counts n → b ≡ ends_before counts (n + 1) → BoundsUpTo counts bounds n → BoundsUpTo counts (set (set bounds (2 * n) a) (2 * n + 1) b) (n + 1)
+bounds_more counts bounds n a b l p q v =
     record {
       starts = λ r h.
           get_or-set_other (set bounds (2 * n) a) (2 * n + 1) (2 * r) b 0 (λ e. omega arith)
@@ -69,7 +69,7 @@ module _ {counts bounds : List ℕ} (b : BoundsOf counts bounds) (l : length bou
   -- in any table; one that is too short has less in its last parts
   pub part-counted : (table : List ℕ) (r : ℕ) → r < length counts → part_at bounds table r ≡ get_or (counted_parts counts table) r []
   part-counted table r h =
-      let many : ends_before counts (r + 1) - ends_before counts r ≡ get_or counts r 0 = omega (arith, ends-more counts r h) in
+      let many : ends_before counts (r + 1) - ends_before counts r ≡ get_or counts r 0 = omega (arith, ends_more counts r h) in
       rw (ne_eqb (length bounds) 0 (λ e. omega arith), b.starts r h, b.ends r h, many) (counted-at counts table r h)
 
   pub parts-counted : (table : List ℕ) → parts_at (length counts) bounds table ≡ counted_parts counts table
@@ -79,15 +79,15 @@ module _ {counts bounds : List ℕ} (b : BoundsOf counts bounds) (l : length bou
 
   -- a table with room for all endpoints
   module _ (table : List ℕ) (room : sum_of (λ c. c) counts ≤ length table) where
-    pub counted-bounded : Bounded (length counts) bounds table
-    counted-bounded r h =
+    pub counted_bounded : Bounded (length counts) bounds table
+    counted_bounded r h =
         record {
           pair = λ e. absurd (omega arith);
           part = λ e. record {
             low = omega arith;
             high = omega arith;
-            order = omega (arith, b.starts r h, b.ends r h, ends-up counts r (r + 1) (omega arith));
-            inside = omega (arith, b.ends r h, ends-all counts, ends-up counts (r + 1) (length counts) (omega arith));
+            order = omega (arith, b.starts r h, b.ends r h, ends_up counts r (r + 1) (omega arith));
+            inside = omega (arith, b.ends r h, ends-all counts, ends_up counts (r + 1) (length counts) (omega arith));
           };
         }
 
@@ -95,15 +95,15 @@ module _ {counts bounds : List ℕ} (b : BoundsOf counts bounds) (l : length bou
     part-length r h =
         rw (ne_eqb (length bounds) 0 (λ e. omega arith), b.starts r h, b.ends r h)
         (length-take-le (ends_before counts (r + 1) - ends_before counts r) (drop (ends_before counts r) table)
-        (omega (arith, length-drop (ends_before counts r) table, ends-all counts, ends-up counts (r + 1) (length counts) (omega arith))))
+        (omega (arith, length-drop (ends_before counts r) table, ends-all counts, ends_up counts (r + 1) (length counts) (omega arith))))
 
     starts-at : (r : ℕ) → r ≤ length counts → length (flatten (part_at bounds table) r) ≡ ends_before counts r
     starts-at zero h = ap length (flatten-zero (part_at bounds table))
-    starts-at (suc r) h = start-suc (part_at bounds table) r ∙ rw (← (add-one r)) (omega (arith, starts-at r (omega arith), part-length r h, ends-up counts r (r + 1) (omega arith)))
+    starts-at (suc r) h = start-suc (part_at bounds table) r ∙ rw (← (add-one r)) (omega (arith, starts-at r (omega arith), part-length r h, ends_up counts r (r + 1) (omega arith)))
 
-  pub counted-gapless : (es : List ℕ) → sum_of (λ c. c) counts ≡ length es → Gapless (length counts) bounds es
+  pub counted_gapless : (es : List ℕ) → sum_of (λ c. c) counts ≡ length es → Gapless (length counts) bounds es
   unfolding flatten
-  counted-gapless es whole =
+  counted_gapless es whole =
       let room : sum_of (λ c. c) counts ≤ length es = omega arith in
       record {
         starts = λ r h. rw (ne_eqb (length bounds) 0 (λ e. omega arith)) (b.starts r h ∙ sym (starts-at es room r (omega arith)));

@@ -10,7 +10,7 @@ use lib.Seq.{length-take-le, take_all, take_at, drop_at, take-append-le, drop-ap
 use borrow.Author.Tests.{eqb-true, eqb-false, ltb-true, ltb-false}
 use Rattle.lists.proofs.Laws.{by_cases}
 use Rattle.groups.specs.Groups.{flatten}
-use Rattle.groups.proofs.Tables.{flatten-zero, flatten-suc, start-suc, start-mono, flatten-twos}
+use Rattle.groups.proofs.Tables.{flatten-zero, flatten-suc, start-suc, start_mono, flatten_twos}
 use Rattle.parts.specs.Parts.{part_at, Bounded}
 use Rattle.parts.specs.Steps.{start_at, Gapless}
 
@@ -22,8 +22,8 @@ module _ (a e : ℕ) (t ps : List ℕ) (order : a ≤ e) (room : e ≤ length t)
   front : length (take a t) ≡ a
   front = length-take-le a t (omega arith)
 
-  pub written-long : length (written a e t ps) ≡ length t
-  written-long = omega (arith, front, length-append (take a t) (ps ++ drop (e - a) (drop a t)), length-append ps (drop (e - a) (drop a t)), length-drop (e - a) (drop a t), length-drop a t)
+  pub written_long : length (written a e t ps) ≡ length t
+  written_long = omega (arith, front, length-append (take a t) (ps ++ drop (e - a) (drop a t)), length-append ps (drop (e - a) (drop a t)), length-drop (e - a) (drop a t), length-drop a t)
 
   written-own : take (e - a) (drop a (written a e t ps)) ≡ ps
   written-own = rw (drop_at (take a t) (ps ++ drop (e - a) (drop a t)) a front) (take_at ps (drop (e - a) (drop a t)) (e - a) l)
@@ -72,11 +72,11 @@ module _ {n : ℕ} {bounds es : List ℕ} (b : Bounded n bounds es) where
     unfolding flatten
     whole_is = g.whole
 
-    pub part-inside : (r : ℕ) → r < n → start_at bounds r + length (part_at bounds es r) ≤ length es
-    part-inside r h = omega (arith, start_is r h, whole_is, start-suc (part_at bounds es) r, start-mono (part_at bounds es) (suc r) n h)
+    pub part_inside : (r : ℕ) → r < n → start_at bounds r + length (part_at bounds es r) ≤ length es
+    part_inside r h = omega (arith, start_is r h, whole_is, start-suc (part_at bounds es) r, start_mono (part_at bounds es) (suc r) n h)
 
     part-next : (q r : ℕ) → q < r → r < n → start_at bounds q + length (part_at bounds es q) ≤ start_at bounds r
-    part-next q r h k = omega (arith, start_is q (omega arith), start_is r k, start-suc (part_at bounds es) q, start-mono (part_at bounds es) (suc q) r h)
+    part-next q r h k = omega (arith, start_is q (omega arith), start_is r k, start-suc (part_at bounds es) q, start_mono (part_at bounds es) (suc q) r h)
 
     -- a write over the part of constraint q
     module _ (t ps : List ℕ) (q : ℕ) (h : q < n) (room : length t ≡ length es) (l : length ps ≡ length (part_at bounds es q)) where
@@ -84,7 +84,7 @@ module _ {n : ℕ} {bounds es : List ℕ} (b : Bounded n bounds es) where
       overwritten = written (start_at bounds q) (start_at bounds q + length (part_at bounds es q)) t ps
 
       inside : start_at bounds q + length (part_at bounds es q) ≤ length t
-      inside = omega (arith, part-inside q h)
+      inside = omega (arith, part_inside q h)
 
       long : length ps ≡ start_at bounds q + length (part_at bounds es q) - start_at bounds q
       long = omega (arith, l)
@@ -96,8 +96,8 @@ module _ {n : ℕ} {bounds es : List ℕ} (b : Bounded n bounds es) where
           ∙ ap (λ (k : ℕ). take k (drop (start_at bounds q) overwritten)) e
           ∙ written-own (start_at bounds q) (start_at bounds q + length (part_at bounds es q)) t ps (omega arith) inside long
 
-      pub part-kept : (r : ℕ) → r < n → (r ≡ q → ⊥) → part_at bounds overwritten r ≡ part_at bounds t r
-      part-kept r k d =
+      pub part_kept : (r : ℕ) → r < n → (r ≡ q → ⊥) → part_at bounds overwritten r ≡ part_at bounds t r
+      part_kept r k d =
           let a = start_at bounds q in
           let e = start_at bounds q + length (part_at bounds es q) in
           let m = length (part_at bounds es r) in
@@ -109,25 +109,25 @@ module _ {n : ℕ} {bounds es : List ℕ} (b : Bounded n bounds es) where
 
     -- a table whose parts are those of f
     module _ (f : ℕ → List ℕ) (t : List ℕ) (p : (r : ℕ) → r < n → part_at bounds t r ≡ f r) where
-      parts-front : (k : ℕ) → k ≤ n → take (length (flatten (part_at bounds es) k)) t ≡ flatten f k
-      parts-front zero h = rw (flatten-zero (part_at bounds es), flatten-zero f)
-      parts-front (suc k) h =
+      parts_front : (k : ℕ) → k ≤ n → take (length (flatten (part_at bounds es) k)) t ≡ flatten f k
+      parts_front zero h = rw (flatten-zero (part_at bounds es), flatten-zero f)
+      parts_front (suc k) h =
           let at = length (flatten (part_at bounds es) k) in
           let m = length (part_at bounds es k) in
           ap (λ (j : ℕ). take j t) (start-suc (part_at bounds es) k)
           ∙ take-add at m t
-          ∙ ap (λ (x : List ℕ). x ++ take m (drop at t)) (parts-front k (omega arith))
+          ∙ ap (λ (x : List ℕ). x ++ take m (drop at t)) (parts_front k (omega arith))
           ∙ ap (λ (j : ℕ). flatten f k ++ take m (drop j t)) (sym (start_is k h))
           ∙ ap (λ (x : List ℕ). flatten f k ++ x) (sym (part-read t k h) ∙ p k h)
           ∙ sym (flatten-suc f k)
 
       pub parts_whole : length t ≡ length es → t ≡ flatten f n
-      parts_whole room = sym (take_all (length (flatten (part_at bounds es) n)) t (omega (arith, whole_is))) ∙ parts-front n (omega arith)
+      parts_whole room = sym (take_all (length (flatten (part_at bounds es) n)) t (omega (arith, whole_is))) ∙ parts_front n (omega arith)
 
 -- ---- pairs
-pub pairs-gapless : (n : ℕ) (es : List ℕ) → length es ≡ 2 * n → Gapless n [] es
+pub pairs_gapless : (n : ℕ) (es : List ℕ) → length es ≡ 2 * n → Gapless n [] es
 unfolding flatten
-pairs-gapless n es l =
+pairs_gapless n es l =
     let many : (r : ℕ) → r ≤ n → length (flatten (part_at [] es) r) ≡ 2 * r =
-    λ r h. flatten-twos (part_at [] es) r (λ s k. length-take-le 2 (drop (2 * s) es) (omega (arith, length-drop (2 * s) es))) in
+    λ r h. flatten_twos (part_at [] es) r (λ s k. length-take-le 2 (drop (2 * s) es) (omega (arith, length-drop (2 * s) es))) in
     record { starts = λ r h. sym (many r (omega arith)); whole = l ∙ sym (many n (omega arith)) }

@@ -5,9 +5,9 @@ use mathlib.Core.List.{List, [], ◌∷◌}
 use native.Mathlib.Omega.{arith}
 use lib.ListN.{length, get_or}
 use Rattle.lists.specs.Basics.{range}
-use Rattle.lists.proofs.Laws.{map-ext-in}
-use Rattle.lists.proofs.Ranges.{map-shift, length-map-range, map-range-at}
-use Rattle.groups.specs.Groups.{pairsOf}
+use Rattle.lists.proofs.Laws.{map_ext_in}
+use Rattle.lists.proofs.Ranges.{map_shift, length-map-range, map-range-at}
+use Rattle.groups.specs.Groups.{pairs_of}
 use Rattle.parts.specs.Parts.{part_at, parts_at, Bounded}
 
 module _ (n : ℕ) (bounds es : List ℕ) where
@@ -19,17 +19,17 @@ module _ (n : ℕ) (bounds es : List ℕ) where
   unfolding parts_at
   parts-at r h = map-range-at (part_at bounds es) [] n r h
 
-pub parts-pairs : (n : ℕ) (es : List ℕ) → length es ≡ 2 * n → parts_at n [] es ≡ pairsOf es
+pub parts_pairs : (n : ℕ) (es : List ℕ) → length es ≡ 2 * n → parts_at n [] es ≡ pairs_of es
 unfolding parts_at
-parts-pairs zero [] l = refl
-parts-pairs (suc n) [] l = absurd (omega arith)
-parts-pairs n (a ∷ []) l = absurd (omega arith)
-parts-pairs zero (a ∷ b ∷ es) l = absurd (omega arith)
-parts-pairs (suc n) (a ∷ b ∷ es) l =
+parts_pairs zero [] l = refl
+parts_pairs (suc n) [] l = absurd (omega arith)
+parts_pairs n (a ∷ []) l = absurd (omega arith)
+parts_pairs zero (a ∷ b ∷ es) l = absurd (omega arith)
+parts_pairs (suc n) (a ∷ b ∷ es) l =
     ap (λ (t : List (List ℕ)). (a ∷ b ∷ []) ∷ t)
-    (map-shift (part_at [] (a ∷ b ∷ es)) 0 n
-    ∙ map-ext-in (λ r. part_at [] (a ∷ b ∷ es) (suc r)) (part_at [] es) (range n) (λ r h. let e : 2 * suc r ≡ suc (suc (2 * r)) = omega arith in rw e)
-    ∙ parts-pairs n es (omega arith))
+    (map_shift (part_at [] (a ∷ b ∷ es)) 0 n
+    ∙ map_ext_in (λ r. part_at [] (a ∷ b ∷ es) (suc r)) (part_at [] es) (range n) (λ r h. let e : 2 * suc r ≡ suc (suc (2 * r)) = omega arith in rw e)
+    ∙ parts_pairs n es (omega arith))
 
-pub pairs-bounded : (n : ℕ) (es : List ℕ) → length es ≡ 2 * n → Bounded n [] es
-pairs-bounded n es l r h = record { pair = λ e. omega arith; part = λ e. absurd (e refl) }
+pub pairs_bounded : (n : ℕ) (es : List ℕ) → length es ≡ 2 * n → Bounded n [] es
+pairs_bounded n es l r h = record { pair = λ e. omega arith; part = λ e. absurd (e refl) }

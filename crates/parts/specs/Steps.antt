@@ -1,7 +1,7 @@
 -- What the positions of constraints and the size of the largest group need: constraints without a gap, starts that do not fall; and the
 -- bounds of constraints that have a count each.
 use Rattle.std.specs.Prelude.{ℕ, suc, ◌+◌, ◌-◌, ◌*◌, ◌≤◌, ◌<◌, ◌≡◌, cond, List, eqb, length, get_or, take}
-use Rattle.lists.specs.Basics.{max_of, sum_of, range, joinMap}
+use Rattle.lists.specs.Basics.{max_of, sum_of, range, join_map}
 use Rattle.parts.specs.Parts.{part_at}
 
 -- where the endpoints of constraint r start in the list
@@ -10,8 +10,8 @@ start_at bounds r = cond (eqb (length bounds) 0) (2 * r) (get_or bounds (2 * r) 
 
 -- the endpoints of n constraints fill the list, constraint after constraint, without a gap
 pub record Gapless (n : ℕ) (bounds es : List ℕ) : Type 0 where
-  pub starts : (r : ℕ) → r < n → start_at bounds r ≡ length (joinMap (part_at bounds es) (range r))
-  pub whole : length es ≡ length (joinMap (part_at bounds es) (range n))
+  pub starts : (r : ℕ) → r < n → start_at bounds r ≡ length (join_map (part_at bounds es) (range r))
+  pub whole : length es ≡ length (join_map (part_at bounds es) (range n))
 
 -- no bound is above the next
 abbrev pub Ordered : List ℕ → Type 0

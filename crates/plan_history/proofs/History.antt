@@ -9,30 +9,30 @@ use lib.Dec.{eqb}
 use lib.ListN.{length, take}
 use borrow.Author.Tests.{eqb-true, eq-eqb}
 use Rattle.lists.specs.Basics.{any, same}
-use Rattle.lists.proofs.Laws.{and_left, and_right, and_both, by_cases, bool-ext}
-use Rattle.groups.specs.Groups.{planFrom, pairsOf, colorsOf, groupCount, largestGroup, flatten, colorFrom}
-use Rattle.groups.proofs.Pairs.{pairs-length}
+use Rattle.lists.proofs.Laws.{and_left, and_right, and_both, by_cases, bool_ext}
+use Rattle.groups.specs.Groups.{plan_from, pairs_of, colors_of, group_count, largest_group, flatten, color_from}
+use Rattle.groups.proofs.Pairs.{pairs_length}
 use Rattle.plan_questions.specs.Plans.{Tables, roomy}
 use Rattle.constraint_coloring.specs.declared.ConstraintColoring.{ConstraintColoring}
 use Rattle.constraint_coloring.specs.declared.Update.{Update}
-use Rattle.constraint_coloring.specs.Calls.{updateChanged, planAfter, freshPlan, holds, refusalWith, changesWith, Updated}
+use Rattle.constraint_coloring.specs.Calls.{update_changed, plan_after, fresh_plan, holds, refusal_with, changes_with, Updated}
 use Rattle.constraint_coloring.proofs.Accepted.{accepted}
 use Rattle.plan_history.specs.Memory.{Memory, fresh, changes, remembered, Input, Answered, answers}
-use Rattle.plan_history.specs.History.{answer_of, History, still, step, memoryAfter, Stands, Standing}
+use Rattle.plan_history.specs.History.{answer_of, History, still, step, memory_after, Stands, Standing}
 use Rattle.plan_history.proofs.Memory.{same-eq}
-use Rattle.plan_history.proofs.Held.{stand-same, held-new, held-old, held-fresh}
+use Rattle.plan_history.proofs.Held.{stand_same, held-new, held_old, held-fresh}
 
 -- ---- the test for equal input
 
 abbrev Even : List ℕ → Type 0
 Even pairs = length pairs ≡ 2 * (length pairs / 2)
 
-module _ (flags pairs mf mp D E : List ℕ) (df : Stands mf D) (ep : Stands mp E) (even : Even pairs) (even-m : Even mp) where
+module _ (flags pairs mf mp D E : List ℕ) (df : Stands mf D) (ep : Stands mp E) (even : Even pairs) (even_m : Even mp) where
   abbrev bodies : Bool
   bodies = eqb (length flags) (length mf)
 
   abbrev counts : Bool
-  counts = eqb (length pairs / 2) (length (pairsOf mp))
+  counts = eqb (length pairs / 2) (length (pairs_of mp))
 
   abbrev first : Bool
   first = same flags (take (length flags) D)
@@ -43,13 +43,13 @@ module _ (flags pairs mf mp D E : List ℕ) (df : Stands mf D) (ep : Stands mp E
   tested : (bodies && counts && first && second) ≡ true → (same flags mf && same pairs mp) ≡ true
   tested h =
       let b = eqb-true (length flags) (length mf) (and_left bodies counts (and_left (bodies && counts) first (and_left (bodies && counts && first) second h))) in
-      let n = eqb-true (length pairs / 2) (length (pairsOf mp)) (and_right bodies counts (and_left (bodies && counts) first (and_left (bodies && counts && first) second h))) in
-      let l : length pairs ≡ length mp = omega (arith, even, even-m, n, pairs-length (length mp / 2) mp even-m) in
+      let n = eqb-true (length pairs / 2) (length (pairs_of mp)) (and_right bodies counts (and_left (bodies && counts) first (and_left (bodies && counts && first) second h))) in
+      let l : length pairs ≡ length mp = omega (arith, even, even_m, n, pairs_length (length mp / 2) mp even_m) in
       let x = and_right (bodies && counts) first (and_left (bodies && counts && first) second h) in
       let y = and_right (bodies && counts && first) second h in
       and_both (same flags mf) (same pairs mp)
-      (sym (stand-same flags mf D df b) ∙ x)
-      (sym (stand-same pairs mp E ep l) ∙ y)
+      (sym (stand_same flags mf D df b) ∙ x)
+      (sym (stand_same pairs mp E ep l) ∙ y)
 
   equal : (same flags mf && same pairs mp) ≡ true → (bodies && counts && first && second) ≡ true
   equal h =
@@ -57,13 +57,13 @@ module _ (flags pairs mf mp D E : List ℕ) (df : Stands mf D) (ep : Stands mp E
       let y = and_right (same flags mf) (same pairs mp) h in
       let f = ap length (same-eq flags mf x) in
       let p = ap length (same-eq pairs mp y) in
-      let l : length pairs / 2 ≡ length (pairsOf mp) = sym (pairs-length (length pairs / 2) mp (sym p ∙ even)) in
+      let l : length pairs / 2 ≡ length (pairs_of mp) = sym (pairs_length (length pairs / 2) mp (sym p ∙ even)) in
       and_both (bodies && counts && first) second
-      (and_both (bodies && counts) first (and_both bodies counts (eq-eqb (length flags) (length mf) f) (eq-eqb (length pairs / 2) (length (pairsOf mp)) l)) (stand-same flags mf D df f ∙ x))
-      (stand-same pairs mp E ep p ∙ y)
+      (and_both (bodies && counts) first (and_both bodies counts (eq-eqb (length flags) (length mf) f) (eq-eqb (length pairs / 2) (length (pairs_of mp)) l)) (stand_same flags mf D df f ∙ x))
+      (stand_same pairs mp E ep p ∙ y)
 
-  test-is : (bodies && counts && first && second) ≡ (same flags mf && same pairs mp)
-  test-is = bool-ext (bodies && counts && first && second) (same flags mf && same pairs mp) tested equal
+  test_is : (bodies && counts && first && second) ≡ (same flags mf && same pairs mp)
+  test_is = bool_ext (bodies && counts && first && second) (same flags mf && same pairs mp) tested equal
 
 -- ---- one update
 
@@ -76,66 +76,66 @@ module _ (begun : Bool) (m : Memory) (p : ConstraintColoring) (t u : Tables) (fl
   room = roomy (length flags) (length pairs / 2) t
 
   abbrev ch : Bool
-  ch = changesWith p t flags pairs
+  ch = changes_with p t flags pairs
 
   -- with equal counts and lists where they stand, the test is the definition's
-  holds-is : Even pairs → holds p t flags pairs ≡ (same flags m.flags && same pairs m.pairs)
-  unfolding holds planFrom
-  holds-is even =
-      ap (λ (q : ConstraintColoring). eqb (length flags) q.body_count && eqb (length pairs / 2) q.constraint_count && same flags (take (length flags) t.dynamic-bodies) && same pairs (take (length pairs) t.endpoints)) h.standing.plan
-      ∙ test-is flags pairs m.flags m.pairs t.dynamic-bodies t.endpoints h.standing.tables.dynamic-bodies h.standing.tables.endpoints even h.even
+  holds_is : Even pairs → holds p t flags pairs ≡ (same flags m.flags && same pairs m.pairs)
+  unfolding holds plan_from
+  holds_is even =
+      ap (λ (q : ConstraintColoring). eqb (length flags) q.body_count && eqb (length pairs / 2) q.constraint_count && same flags (take (length flags) t.dynamic_bodies) && same pairs (take (length pairs) t.endpoints)) h.standing.plan
+      ∙ test_is flags pairs m.flags m.pairs t.dynamic_bodies t.endpoints h.standing.tables.dynamic_bodies h.standing.tables.endpoints even h.even
 
-  changes-is : ch ≡ changes m flags pairs room
-  unfolding changesWith refusalWith changes
-  changes-is = by_cases (eqb (refusalWith t flags pairs) 0)
-      (λ e. ap (λ (b : Bool). eqb (refusalWith t flags pairs) 0 && not b) (holds-is (accepted flags pairs t (eqb-true (refusalWith t flags pairs) 0 e)).even))
+  changes_is : ch ≡ changes m flags pairs room
+  unfolding changes_with refusal_with changes
+  changes_is = by_cases (eqb (refusal_with t flags pairs) 0)
+      (λ e. ap (λ (b : Bool). eqb (refusal_with t flags pairs) 0 && not b) (holds_is (accepted flags pairs t (eqb-true (refusal_with t flags pairs) 0 e)).even))
       (λ e. rw e)
 
-  answer-is : answer_of r ≡ record { refusal = refusalWith t flags pairs; changed = changes m flags pairs room }
-  answer-is = ap₂ (λ (n : ℕ) (b : Bool). record { refusal = n; changed = b }) w.refusal (w.changed ∙ changes-is)
+  answer_is : answer_of r ≡ record { refusal = refusal_with t flags pairs; changed = changes m flags pairs room }
+  answer_is = ap₂ (λ (n : ℕ) (b : Bool). record { refusal = n; changed = b }) w.refusal (w.changed ∙ changes_is)
 
-  changed-even : ch ≡ true → Even pairs
-  unfolding changesWith
-  changed-even y = (accepted flags pairs t (eqb-true (refusalWith t flags pairs) 0 (and_left (eqb (refusalWith t flags pairs) 0) (not (holds p t flags pairs)) y))).even
+  changed_even : ch ≡ true → Even pairs
+  unfolding changes_with
+  changed_even y = (accepted flags pairs t (eqb-true (refusal_with t flags pairs) 0 (and_left (eqb (refusal_with t flags pairs) 0) (not (holds p t flags pairs)) y))).even
 
-  after-new : ch ≡ true → Remembers true (record { flags = flags; pairs = pairs }) (planAfter p r) u
-  after-new y = record { standing = record { plan = w.plan ∙ rw y; tables = held-new ch w.tables y }; even = changed-even y }
+  after-new : ch ≡ true → Remembers true (record { flags = flags; pairs = pairs }) (plan_after p r) u
+  after-new y = record { standing = record { plan = w.plan ∙ rw y; tables = held-new ch w.tables y }; even = changed_even y }
 
-  after-old : ch ≡ false → Remembers begun m (planAfter p r) u
-  after-old n = record { standing = record { plan = w.plan ∙ rw n h.standing.plan; tables = held-old ch w.tables begun m.flags m.pairs _ n h.standing.tables }; even = h.even }
+  after_old : ch ≡ false → Remembers begun m (plan_after p r) u
+  after_old n = record { standing = record { plan = w.plan ∙ rw n h.standing.plan; tables = held_old ch w.tables begun m.flags m.pairs _ n h.standing.tables }; even = h.even }
 
-  after : Remembers (begun || updateChanged r) (remembered m flags pairs room) (planAfter p r) u
+  after : Remembers (begun || update_changed r) (remembered m flags pairs room) (plan_after p r) u
   unfolding remembered
   after = by_cases ch
       (λ y.
-      let b : (begun || updateChanged r) ≡ true = ap (λ (c : Bool). begun || c) (w.changed ∙ y) ∙ or-true begun in
-      let c : changes m flags pairs room ≡ true = sym changes-is ∙ y in
+      let b : (begun || update_changed r) ≡ true = ap (λ (c : Bool). begun || c) (w.changed ∙ y) ∙ or-true begun in
+      let c : changes m flags pairs room ≡ true = sym changes_is ∙ y in
       rw (b, c) (after-new y))
       (λ n.
-      let b : (begun || updateChanged r) ≡ begun = ap (λ (c : Bool). begun || c) (w.changed ∙ n) ∙ or-false begun in
-      let c : changes m flags pairs room ≡ false = sym changes-is ∙ n in
-      rw (b, c) (after-old n))
+      let b : (begun || update_changed r) ≡ begun = ap (λ (c : Bool). begun || c) (w.changed ∙ n) ∙ or-false begun in
+      let c : changes m flags pairs room ≡ false = sym changes_is ∙ n in
+      rw (b, c) (after_old n))
 
 -- ---- any list of updates
 
-abbrev anyChanged : List Answered → Bool
-anyChanged outs = any (λ a. a.changed) outs
+abbrev any_changed : List Answered → Bool
+any_changed outs = any (λ a. a.changed) outs
 
-history-from : {p q : ConstraintColoring} {t v : Tables} {ins : List Input} {outs : List Answered} (begun : Bool) (m : Memory) → Remembers begun m p t → History p t ins outs q v
-    → (outs ≡ answers m ins) × Remembers (begun || anyChanged outs) (memoryAfter m ins) q v
-unfolding answers refusalWith
-history-from begun m h still = (refl, rw or-false h)
-history-from {p} {q} {t} {v} begun m h (step {u = u} {ins = ins} {outs = outs} flags pairs r w rest) =
-    let rest-is = history-from (begun || updateChanged r) (remembered m flags pairs (roomy (length flags) (length pairs / 2) t)) (after begun m p t u flags pairs r h w) rest in
-    (ap₂ (λ (a : Answered) (as' : List Answered). a ∷ as') (answer-is begun m p t u flags pairs r h w) rest-is.0, rw or_assoc at rest-is.1)
+history_from : {p q : ConstraintColoring} {t v : Tables} {ins : List Input} {outs : List Answered} (begun : Bool) (m : Memory) → Remembers begun m p t → History p t ins outs q v
+    → (outs ≡ answers m ins) × Remembers (begun || any_changed outs) (memory_after m ins) q v
+unfolding answers refusal_with
+history_from begun m h still = (refl, rw or-false h)
+history_from {p} {q} {t} {v} begun m h (step {u = u} {ins = ins} {outs = outs} flags pairs r w rest) =
+    let rest_is = history_from (begun || update_changed r) (remembered m flags pairs (roomy (length flags) (length pairs / 2) t)) (after begun m p t u flags pairs r h w) rest in
+    (ap₂ (λ (a : Answered) (as' : List Answered). a ∷ as') (answer_is begun m p t u flags pairs r h w) rest_is.0, rw or_assoc at rest_is.1)
 
-fresh-remembers : (t : Tables) → Remembers false fresh freshPlan t
-unfolding planFrom colorsOf groupCount largestGroup flatten colorFrom
-fresh-remembers t = record { standing = record { plan = refl; tables = held-fresh t }; even = refl }
+fresh_remembers : (t : Tables) → Remembers false fresh fresh_plan t
+unfolding plan_from colors_of group_count largest_group flatten color_from
+fresh_remembers t = record { standing = record { plan = refl; tables = held-fresh t }; even = refl }
 
 -- the memory theorem: after any list of updates from a fresh plan the answers are the definition's, and plan and tables hold what is remembered
-pub memory : {q : ConstraintColoring} {t v : Tables} {ins : List Input} {outs : List Answered} → History freshPlan t ins outs q v
-    → (outs ≡ answers fresh ins) × Standing (any (λ a. a.changed) outs) (memoryAfter fresh ins) q v
+pub memory : {q : ConstraintColoring} {t v : Tables} {ins : List Input} {outs : List Answered} → History fresh_plan t ins outs q v
+    → (outs ≡ answers fresh ins) × Standing (any (λ a. a.changed) outs) (memory_after fresh ins) q v
 memory {t = t} h =
-    let w = history-from false fresh (fresh-remembers t) h in
+    let w = history_from false fresh (fresh_remembers t) h in
     (w.0, w.1.standing)

@@ -7,7 +7,7 @@ use lib.Dec.{eqb}
 use borrow.Author.Tests.{eqb-true}
 use Rattle.lists.specs.Basics.{same}
 use Rattle.lists.proofs.Laws.{and_left, and_right, by_cases, clashes}
-use Rattle.plan_questions.specs.Plans.{updateRefusal}
+use Rattle.plan_questions.specs.Plans.{update_refusal}
 use Rattle.plan_history.specs.Memory.{Memory, changes, remembered}
 
 pub same-eq : (xs ys : List ℕ) → same xs ys ≡ true → xs ≡ ys
@@ -16,7 +16,7 @@ same-eq [] (y ∷ ys) h = clashes false h refl
 same-eq (x ∷ xs) [] h = clashes false h refl
 same-eq (x ∷ xs) (y ∷ ys) h = ap₂ (λ (z : ℕ) (zs : List ℕ). z ∷ zs) (eqb-true x y (and_left (eqb x y) (same xs ys) h)) (same-eq xs ys (and_right (eqb x y) (same xs ys) h))
 
-pub remembers : (m : Memory) (flags pairs : List ℕ) (room : Bool) → updateRefusal flags pairs room ≡ 0 → remembered m flags pairs room ≡ record { flags = flags; pairs = pairs }
+pub remembers : (m : Memory) (flags pairs : List ℕ) (room : Bool) → update_refusal flags pairs room ≡ 0 → remembered m flags pairs room ≡ record { flags = flags; pairs = pairs }
 unfolding remembered changes
 remembers m flags pairs room e = by_cases (same flags m.flags && same pairs m.pairs)
     (λ s. rw (e, s) (ap₂ (λ (x y : List ℕ). record { flags = x; pairs = y })

@@ -31,26 +31,26 @@ all-fitted b (x ∷ r) h w = all-fitted (b && leb x.0 x.1) r (and_both b (leb x.
 -- the comparisons of question 6, in their order
 abbrev pub wanted_with : ℕ → ℕ → ℕ → Tables → List (ℕ × ℕ)
 wanted_with b c e t =
-    (b, length t.dynamic-bodies) ∷ (e, length t.endpoints) ∷ (b + 1, length t.body-offsets)
-    ∷ (e, length t.body-constraints) ∷ (b, length t.scratch-offsets) ∷ (c, length t.scratch-offsets)
-    ∷ (c, length t.constraint-colors) ∷ (c, length t.color-stamps) ∷ (b, length t.body-stamps)
-    ∷ (c + 1, length t.color-offsets) ∷ (c, length t.colored-constraints) ∷ (c + 1, length t.color-body-offsets)
-    ∷ (e, length t.color-bodies) ∷ (e, length t.constraint-body-positions) ∷ []
+    (b, length t.dynamic_bodies) ∷ (e, length t.endpoints) ∷ (b + 1, length t.body_offsets)
+    ∷ (e, length t.body_constraints) ∷ (b, length t.scratch_offsets) ∷ (c, length t.scratch_offsets)
+    ∷ (c, length t.constraint_colors) ∷ (c, length t.color_stamps) ∷ (b, length t.body_stamps)
+    ∷ (c + 1, length t.color_offsets) ∷ (c, length t.colored_constraints) ∷ (c + 1, length t.color_body_offsets)
+    ∷ (e, length t.color_bodies) ∷ (e, length t.constraint_body_positions) ∷ []
 
-pub fitted-with : (b c e : ℕ) (t : Tables) → roomy_with b c e t ≡ true → Fitted (wanted_with b c e t)
+pub fitted_with : (b c e : ℕ) (t : Tables) → roomy_with b c e t ≡ true → Fitted (wanted_with b c e t)
 unfolding roomy_with
-fitted-with b c e t h = (fitted-all true (wanted_with b c e t) h).1
+fitted_with b c e t h = (fitted-all true (wanted_with b c e t) h).1
 
-pub with-fitted : (b c e : ℕ) (t : Tables) → Fitted (wanted_with b c e t) → roomy_with b c e t ≡ true
+pub with_fitted : (b c e : ℕ) (t : Tables) → Fitted (wanted_with b c e t) → roomy_with b c e t ≡ true
 unfolding roomy_with
-with-fitted b c e t w = all-fitted true (wanted_with b c e t) refl w
+with_fitted b c e t w = all-fitted true (wanted_with b c e t) refl w
 
 -- of pairs
 abbrev pub wanted : ℕ → ℕ → Tables → List (ℕ × ℕ)
 wanted b c t = wanted_with b c (2 * c) t
 
 pub fitted-roomy : (b c : ℕ) (t : Tables) → roomy b c t ≡ true → Fitted (wanted b c t)
-fitted-roomy b c t = fitted-with b c (2 * c) t
+fitted-roomy b c t = fitted_with b c (2 * c) t
 
 pub roomy-fitted : (b c : ℕ) (t : Tables) → Fitted (wanted b c t) → roomy b c t ≡ true
-roomy-fitted b c t = with-fitted b c (2 * c) t
+roomy-fitted b c t = with_fitted b c (2 * c) t

@@ -4,7 +4,7 @@
 
 ghost use Rattle.std.specs.Prelude.{◌≡◌, ◌&&◌, ◌+◌, ◌*◌, ◌/◌, ◌≤◌, leb, eqb, length, take};
 ghost use Rattle.lists.specs.Basics.{same};
-ghost use Rattle.plan_questions.specs.Plans.{updateRefusal, part, groupPart};
+ghost use Rattle.plan_questions.specs.Plans.{update_refusal, part, group_part};
 
 use frame::Frame;
 
@@ -98,7 +98,7 @@ pub fn roomy(
 
 // Questions 3 to 7, where `room` answers 6; 0 where all get a "yes".
 pub fn update_refusal(flags: &[u8], pairs: &[u16], room: bool) -> u8
-    ensures { result ≡ updateRefusal flags.now pairs.now room }
+    ensures { result ≡ update_refusal flags.now pairs.now room }
 {
     if !((flags.len() <= Frame::MAX_BODIES) & (pairs.len() / 2 <= Frame::MAX_PAIRS)) {
         return 3;
@@ -193,7 +193,7 @@ pub fn group_part<'a>(
     table: &'a [u16],
     group: usize,
 ) -> &'a [u16]
-    ensures { result.now ≡ groupPart color_count offsets.now table.now group }
+    ensures { result.now ≡ group_part color_count offsets.now table.now group }
 {
     if color_count <= group {
         return &table[0..0];

@@ -28,9 +28,9 @@ digits_last : (d n : ℕ) → 10 ≤ n → digits (suc d) n ≡ digits d (n / 10
 unfolding digits
 digits_last d n h = rw (le-ltb n 10 h)
 
-pub decimal-last : (n : ℕ) → n < 2 ^ 64 → 10 ≤ n → decimal n ≡ decimal (n / 10) ++ (48 + n % 10) ∷ []
+pub decimal_last : (n : ℕ) → n < 2 ^ 64 → 10 ≤ n → decimal n ≡ decimal (n / 10) ++ (48 + n % 10) ∷ []
 unfolding decimal
-decimal-last n h k = digits_last 19 n k ∙ ap (λ (l : List ℕ). l ++ (48 + n % 10) ∷ []) (sym (digits_more 18 (n / 10) (omega arith)))
+decimal_last n h k = digits_last 19 n k ∙ ap (λ (l : List ℕ). l ++ (48 + n % 10) ∷ []) (sym (digits_more 18 (n / 10) (omega arith)))
 
 digits-one : (d n : ℕ) → n < 10 → digits (suc d) n ≡ (48 + n) ∷ []
 unfolding digits
@@ -40,16 +40,16 @@ pub decimal-one : (n : ℕ) → n < 10 → decimal n ≡ (48 + n) ∷ []
 unfolding decimal
 decimal-one n h = digits-one 19 n h
 
-digits-some : (d n : ℕ) → 1 ≤ length (digits (suc d) n)
+digits_some : (d n : ℕ) → 1 ≤ length (digits (suc d) n)
 unfolding digits
-digits-some d n =
+digits_some d n =
     by_cases (ltb n 10)
     (λ e. rw e (omega arith))
     (λ e. rw e (omega (arith, length-append (digits d (n / 10)) ((48 + n % 10) ∷ []))))
 
-pub decimal-some : (n : ℕ) → 1 ≤ length (decimal n)
+pub decimal_some : (n : ℕ) → 1 ≤ length (decimal n)
 unfolding decimal
-decimal-some n = digits-some 19 n
+decimal_some n = digits_some 19 n
 
 digits-few : (d n : ℕ) → length (digits d n) ≤ d
 unfolding digits

@@ -16,5 +16,5 @@ field word n end = (word ++ 32 ∷ []) ++ number n end
 pub number_short : (n end : ℕ) → length (number n end) ≤ 21
 number_short n end = omega (arith, length-append (decimal n) (end ∷ []), decimal-few n)
 
-pub field-short : (word : List ℕ) (n end : ℕ) → length (field word n end) ≤ length word + 22
-field-short word n end = omega (arith, length-append (word ++ 32 ∷ []) (number n end), length-append word (32 ∷ []), number_short n end)
+pub field_short : (word : List ℕ) (n end : ℕ) → length (field word n end) ≤ length word + 22
+field_short word n end = omega (arith, length-append (word ++ 32 ∷ []) (number n end), length-append word (32 ∷ []), number_short n end)

@@ -14,5 +14,5 @@ abbrev pub longest : ℕ
 longest = 147
 
 -- the text, if `longest` bytes are left from place `at` on in a buffer of this size; else nothing
-unfoldable pub ifRoom : ℕ → ℕ → List ℕ → List ℕ
-ifRoom size at text = cond (leb (at + longest) size) text []
+unfoldable pub if_room : ℕ → ℕ → List ℕ → List ℕ
+if_room size at text = cond (leb (at + longest) size) text []

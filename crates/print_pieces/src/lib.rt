@@ -5,10 +5,10 @@
 
 ghost use Rattle.std.specs.Prelude.{◌*◌, ◌≤◌, ◌≡◌, true, length, take};
 ghost use Rattle.frame.specs.Questions.{asked};
-ghost use Rattle.frame.specs.Files.{second, fileQuestions};
+ghost use Rattle.frame.specs.Files.{second, file_questions};
 ghost use Rattle.print_fields.specs.Puts.{Put, longest};
 ghost use Rattle.printing.specs.Turns.{Standing, Placed, Lines};
-ghost use Rattle.print_pieces.specs.Pieces.{answerLine, InputAnswered, PiecePlaced, FirstPiece, NextPiece};
+ghost use Rattle.print_pieces.specs.Pieces.{answer_line, InputAnswered, PiecePlaced, FirstPiece, NextPiece};
 
 use frame::Frame;
 use run_answer::Answer;
@@ -57,7 +57,7 @@ fn answer_to(frame: &[u8], turns: &mut [u16]) -> Answer
 
 // The places of an accepted file's joints, from the table's first entry on; version 1 needs none.
 fn place_joints(frame: &[u8], places: &mut [u16])
-    requires { (asked (fileQuestions frame.now) ≡ 0) × (4096 ≤ length places.old) }
+    requires { (asked (file_questions frame.now) ≡ 0) × (4096 ≤ length places.old) }
     ensures { second frame.now ≡ true → Standing frame.now places.new }
 {
     if frame::is_second(frame) {
@@ -69,7 +69,7 @@ fn place_joints(frame: &[u8], places: &mut [u16])
 // The line that comes first for an answer.
 fn put_first_line(out: &mut [u8], answer: Answer) -> usize
     requires { longest ≤ length out.old }
-    ensures { Put (answerLine answer) out.old 0 out.new result }
+    ensures { Put (answer_line answer) out.old 0 out.new result }
 {
     match answer {
         Answer::Refused(number) => printing::put_refusal(out, 0, number as usize),

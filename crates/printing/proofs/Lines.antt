@@ -6,16 +6,16 @@ use mathlib.Core.List.{List, [], ◌∷◌, ◌++◌, map, append_assoc}
 use native.Mathlib.Omega.{arith}
 use lib.Dec.{leb}
 use lib.ListN.{length, length-append}
-use Rattle.frame.specs.Files.{half, halvesFrom}
-use Rattle.frame.proofs.Walks.{halves-next, halves-long}
-use Rattle.schedules.specs.Print.{decimal, spaced, line, head_of, turnLine, refusalLine, islandsWord, turnsWord, takesWord, degreeWord, refusedWord}
-use Rattle.print_fields.specs.Puts.{Put, longest, ifRoom}
+use Rattle.frame.specs.Files.{half, halves_from}
+use Rattle.frame.proofs.Walks.{halves_next, halves_long}
+use Rattle.schedules.specs.Print.{decimal, spaced, line, head_of, turn_line, refusal_line, islands_word, turns_word, takes_word, degree_word, refused_word}
+use Rattle.print_fields.specs.Puts.{Put, longest, if_room}
 use Rattle.print_fields.proofs.Puts.{put-nothing, Wrote, wrote_none, wrote_then}
 use Rattle.print_fields.proofs.Fields.{number, field, number_short}
 
-pub head-fields : (i t k d : ℕ) → field islandsWord i 32 ++ field turnsWord t 32 ++ field takesWord k 32 ++ field degreeWord d 10 ≡ head_of i t k d
+pub head_fields : (i t k d : ℕ) → field islands_word i 32 ++ field turns_word t 32 ++ field takes_word k 32 ++ field degree_word d 10 ≡ head_of i t k d
 unfolding head_of spaced
-head-fields i t k d = simp append_assoc
+head_fields i t k d = simp append_assoc
 
 -- ---- the numbers of a turn: each with a space, the last one with the newline
 
@@ -28,47 +28,47 @@ unfolding spaced
 ends-few e [] = number_short e 10
 ends-few e (d ∷ es) = subst (λ (l : List ℕ). length l ≤ 21 * suc (suc (length es))) (ends_first e d es) (omega (arith, length-append (number e 32) (line (map decimal (d ∷ es))), number_short e 32, ends-few d es))
 
-turn-numbers : (i k n e : ℕ) (es : List ℕ) → number i 32 ++ number k 32 ++ number n 32 ++ line (map decimal (e ∷ es)) ≡ turnLine i k n (e ∷ es)
-unfolding turnLine spaced
-turn-numbers i k n e es = simp append_assoc
+turn_numbers : (i k n e : ℕ) (es : List ℕ) → number i 32 ++ number k 32 ++ number n 32 ++ line (map decimal (e ∷ es)) ≡ turn_line i k n (e ∷ es)
+unfolding turn_line spaced
+turn_numbers i k n e es = simp append_assoc
 
 -- of endpoints in a file: c of them from place s on
 abbrev pub ends_line : List ℕ → ℕ → ℕ → List ℕ
-ends_line bs s c = line (map decimal (halvesFrom bs s c))
+ends_line bs s c = line (map decimal (halves_from bs s c))
 
 module _ (bs : List ℕ) (s c : ℕ) where
   pub ends_last : c ≡ 1 → number (half bs s) 10 ≡ ends_line bs s c
-  unfolding halvesFrom spaced
+  unfolding halves_from spaced
   ends_last e = rw e
 
   module _ (h : 0 < c) where
-    here : half bs s ∷ halvesFrom bs (s + 2) (c - 1) ≡ halvesFrom bs s c
-    here = sym (halves-next bs s c h)
+    here : half bs s ∷ halves_from bs (s + 2) (c - 1) ≡ halves_from bs s c
+    here = sym (halves_next bs s c h)
 
     pub ends_more : 1 < c → number (half bs s) 32 ++ ends_line bs (s + 2) (c - 1) ≡ ends_line bs s c
     ends_more m =
-        let then = halves-next bs (s + 2) (c - 1) (omega arith) in
+        let then = halves_next bs (s + 2) (c - 1) (omega arith) in
         ap (λ (l : List ℕ). number (half bs s) 32 ++ line (map decimal l)) then
-        ∙ ends_first (half bs s) (half bs (s + 2)) (halvesFrom bs (s + 2 + 2) (c - 1 - 1))
+        ∙ ends_first (half bs s) (half bs (s + 2)) (halves_from bs (s + 2 + 2) (c - 1 - 1))
         ∙ ap (λ (l : List ℕ). line (map decimal (half bs s ∷ l))) (sym then)
         ∙ ap (λ (l : List ℕ). line (map decimal l)) here
 
-    pub ends-short : length (ends_line bs s c) ≤ 21 * c
-    ends-short = subst (λ (l : List ℕ). length (line (map decimal l)) ≤ 21 * c) here (omega (arith, ends-few (half bs s) (halvesFrom bs (s + 2) (c - 1)), halves-long bs (s + 2) (c - 1)))
+    pub ends_short : length (ends_line bs s c) ≤ 21 * c
+    ends_short = subst (λ (l : List ℕ). length (line (map decimal l)) ≤ 21 * c) here (omega (arith, ends-few (half bs s) (halves_from bs (s + 2) (c - 1)), halves_long bs (s + 2) (c - 1)))
 
-    pub turn-fields : (i k n : ℕ) → number i 32 ++ number k 32 ++ number n 32 ++ ends_line bs s c ≡ turnLine i k n (halvesFrom bs s c)
-    turn-fields i k n =
+    pub turn_fields : (i k n : ℕ) → number i 32 ++ number k 32 ++ number n 32 ++ ends_line bs s c ≡ turn_line i k n (halves_from bs s c)
+    turn_fields i k n =
         ap (λ (l : List ℕ). number i 32 ++ number k 32 ++ number n 32 ++ line (map decimal l)) (sym here)
-        ∙ turn-numbers i k n (half bs s) (halvesFrom bs (s + 2) (c - 1))
-        ∙ ap (turnLine i k n) here
+        ∙ turn_numbers i k n (half bs s) (halves_from bs (s + 2) (c - 1))
+        ∙ ap (turn_line i k n) here
 
-    pub turn-short : (i k n : ℕ) → c ≤ 4 → length (turnLine i k n (halvesFrom bs s c)) ≤ longest
-    turn-short i k n m =
+    pub turn_short : (i k n : ℕ) → c ≤ 4 → length (turn_line i k n (halves_from bs s c)) ≤ longest
+    turn_short i k n m =
         let ends = ends_line bs s c in
-        subst (λ (l : List ℕ). length l ≤ longest) (turn-fields i k n)
+        subst (λ (l : List ℕ). length l ≤ longest) (turn_fields i k n)
         (omega (
           arith,
-          ends-short,
+          ends_short,
           number_short i 32,
           number_short k 32,
           number_short n 32,
@@ -87,12 +87,12 @@ pub record Ending (bs : List ℕ) (s c : ℕ) (old : List ℕ) (at : ℕ) (out :
   pub near : from + 2 * left ≡ s + 2 * c
 
 module _ (bs : List ℕ) (s c : ℕ) (old : List ℕ) (at : ℕ) where
-  pub ends-begin : at + 21 * c ≤ length old → 1 ≤ c → Ending bs s c old at old at s c
-  ends-begin room h = record { done = []; wrote = wrote_none old at (21 * c) room; rest = refl; some = h; near = refl }
+  pub ends_begin : at + 21 * c ≤ length old → 1 ≤ c → Ending bs s c old at old at s c
+  ends_begin room h = record { done = []; wrote = wrote_none old at (21 * c) room; rest = refl; some = h; near = refl }
 
   module _ (out : List ℕ) (m from left : ℕ) (w : Ending bs s c old at out m from left) (x : ℕ) (new : List ℕ) (next : ℕ) (e : x ≡ half bs from) where
-    pub ends-turn : 1 < left → Put (number x 32) out m new next → Ending bs s c old at new next (from + 2) (left - 1)
-    ends-turn h p =
+    pub ends_turn : 1 < left → Put (number x 32) out m new next → Ending bs s c old at new next (from + 2) (left - 1)
+    ends_turn h p =
         let more : 21 * left ≡ 21 + 21 * (left - 1) = omega arith in
         record {
           done = w.done ++ number x 32;
@@ -115,16 +115,16 @@ module _ (bs : List ℕ) (s c : ℕ) (old : List ℕ) (at : ℕ) where
         (ap (λ (y : ℕ). w.done ++ number y 10) e ∙ ap (λ (l : List ℕ). w.done ++ l) (ends_last bs from left one) ∙ w.rest)
         whole.put
 
-pub refusal-field : (n : ℕ) → field refusedWord n 10 ≡ refusalLine n
-unfolding refusalLine spaced
+pub refusal-field : (n : ℕ) → field refused_word n 10 ≡ refusal_line n
+unfolding refusal_line spaced
 refusal-field n = simp append_assoc
 
 -- without room nothing is put
-pub no_room : (text old : List ℕ) (at : ℕ) → leb (at + longest) (length old) ≡ false → Put (ifRoom (length old) at text) old at old at
-unfolding ifRoom
+pub no_room : (text old : List ℕ) (at : ℕ) → leb (at + longest) (length old) ≡ false → Put (if_room (length old) at text) old at old at
+unfolding if_room
 no_room text old at e = rw e (put-nothing old at)
 
 -- with room the text is put
-pub with-room : (text line old : List ℕ) (at : ℕ) (new : List ℕ) (r : ℕ) → leb (at + longest) (length old) ≡ true → text ≡ line → Put text old at new r → Put (ifRoom (length old) at line) old at new r
-unfolding ifRoom
-with-room text line old at new r e t p = rw e (subst (λ (l : List ℕ). Put l old at new r) t p)
+pub with_room : (text line old : List ℕ) (at : ℕ) (new : List ℕ) (r : ℕ) → leb (at + longest) (length old) ≡ true → text ≡ line → Put text old at new r → Put (if_room (length old) at line) old at new r
+unfolding if_room
+with_room text line old at new r e t p = rw e (subst (λ (l : List ℕ). Put l old at new r) t p)

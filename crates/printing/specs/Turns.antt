@@ -1,9 +1,9 @@
 -- The lines of a turn table, gathered in a lent buffer as far as there is room.
 use Rattle.std.specs.Prelude.{ℕ, suc, ◌+◌, ◌*◌, ◌≤◌, ◌<◌, ◌≡◌, Bool, true, ◌&&◌, cond, List, [], ◌∷◌, leb, ltb, length, take, drop}
-use Rattle.frame.specs.Frames.{constraintAt}
+use Rattle.frame.specs.Frames.{constraint_at}
 use Rattle.frame.specs.Questions.{asked}
-use Rattle.frame.specs.Files.{countM, countJ, jointsAt, second, placesFrom, halvesFrom, decode, fileQuestions}
-use Rattle.schedules.specs.Print.{turnLine, turn_lines}
+use Rattle.frame.specs.Files.{count_m, count_j, joints_at, second, places_from, halves_from, decode, file_questions}
+use Rattle.schedules.specs.Print.{turn_line, turn_lines}
 use Rattle.print_fields.specs.Puts.{Put, longest}
 use Rattle.printing.specs.declared.Ends.{Ends}
 use Rattle.printing.specs.declared.Gathered.{Gathered}
@@ -12,8 +12,8 @@ use Rattle.printing.specs.declared.Gathered.{Gathered}
 
 -- an accepted file, and a table that begins with the places of its joints' entries
 pub record Standing (bs ps : List ℕ) : Type 0 where
-  pub file : asked (fileQuestions bs) ≡ 0
-  pub places : take (countJ bs) ps ≡ placesFrom bs (jointsAt bs) (countJ bs)
+  pub file : asked (file_questions bs) ≡ 0
+  pub places : take (count_j bs) ps ≡ places_from bs (joints_at bs) (count_j bs)
 
 -- such a table is at hand where there are turns of a version 2 file
 abbrev pub Placed : List ℕ → List ℕ → List ℕ → Type 0
@@ -21,7 +21,7 @@ Placed bs turns ps = 0 < length turns → second bs ≡ true → Standing bs ps
 
 -- the endpoints of constraint n stand there, two to four of them
 pub record EndsStand (bs : List ℕ) (n : ℕ) (e : Ends) : Type 0 where
-  pub ends : halvesFrom bs e.at e.count ≡ (constraintAt (decode bs) n).ends
+  pub ends : halves_from bs e.at e.count ≡ (constraint_at (decode bs) n).ends
   pub least : 2 ≤ e.count
   pub most : e.count ≤ 4
 
@@ -29,15 +29,15 @@ pub record EndsStand (bs : List ℕ) (n : ℕ) (e : Ends) : Type 0 where
 
 -- the line of a turn
 unfoldable pub line_of : List ℕ → ℕ → ℕ → ℕ → List ℕ
-line_of bs i k n = turnLine i k n (constraintAt (decode bs) n).ends
+line_of bs i k n = turn_line i k n (constraint_at (decode bs) n).ends
 
 -- is there a constraint n, and room for its line from place `at` on in a buffer of this size?
 unfoldable pub ready : List ℕ → ℕ → ℕ → ℕ → Bool
-ready bs size at n = ltb n (countM bs + countJ bs) && leb (at + longest) size
+ready bs size at n = ltb n (count_m bs + count_j bs) && leb (at + longest) size
 
 -- the line of a turn that is ready; else nothing
-unfoldable pub ifReady : List ℕ → ℕ → ℕ → ℕ → ℕ → ℕ → List ℕ
-ifReady bs size at i k n = cond (ready bs size at n) (line_of bs i k n) []
+unfoldable pub if_ready : List ℕ → ℕ → ℕ → ℕ → ℕ → ℕ → List ℕ
+if_ready bs size at i k n = cond (ready bs size at n) (line_of bs i k n) []
 
 -- how many turns of a turn table are gathered from place `at` on: the first ones, until one is not ready
 unfoldable pub gathered : List ℕ → ℕ → ℕ → List ℕ → ℕ
@@ -47,8 +47,8 @@ gathered bs size at (i ∷ k ∷ []) = 0
 gathered bs size at (i ∷ k ∷ n ∷ r) = cond (ready bs size at n) (suc (gathered bs size (at + length (line_of bs i k n)) r)) 0
 
 -- the turns from number t on
-abbrev pub turnsFrom : List ℕ → ℕ → List ℕ
-turnsFrom turns t = drop (3 * t) turns
+abbrev pub turns_from : List ℕ → ℕ → List ℕ
+turns_from turns t = drop (3 * t) turns
 
 -- the lines of the first d turns of a turn table
 unfoldable pub lines_of : List ℕ → List ℕ → ℕ → List ℕ
@@ -56,5 +56,5 @@ lines_of bs turns d = turn_lines (decode bs) (take (3 * d) turns)
 
 -- from the buffer `old` to `new`: from turn `first` on, the lines of as many turns as are ready
 pub record Lines (bs turns : List ℕ) (first : ℕ) (old : List ℕ) (at : ℕ) (new : List ℕ) (r : Gathered) : Type 0 where
-  pub put : Put (lines_of bs (turnsFrom turns first) (gathered bs (length old) at (turnsFrom turns first))) old at new r.at
-  pub turn : r.turn ≡ first + gathered bs (length old) at (turnsFrom turns first)
+  pub put : Put (lines_of bs (turns_from turns first) (gathered bs (length old) at (turns_from turns first))) old at new r.at
+  pub turn : r.turn ≡ first + gathered bs (length old) at (turns_from turns first)

@@ -4,10 +4,10 @@
 #![tactic(auto)]
 
 ghost use Rattle.std.specs.Prelude.{◌≡◌, ◌∷◌, [], ◌+◌, ◌-◌, ◌*◌, ◌≤◌, ◌<◌, true, leb, length, map};
-ghost use Rattle.frame.specs.Files.{countM, countJ, second, halvesFrom};
-ghost use Rattle.schedules.specs.Print.{decimal, line, head_of, turnLine, refusalLine};
-ghost use Rattle.print_fields.specs.Puts.{Put, longest, ifRoom};
-ghost use Rattle.printing.specs.Turns.{Standing, EndsStand, ifReady, Placed, Lines};
+ghost use Rattle.frame.specs.Files.{count_m, count_j, second, halves_from};
+ghost use Rattle.schedules.specs.Print.{decimal, line, head_of, turn_line, refusal_line};
+ghost use Rattle.print_fields.specs.Puts.{Put, longest, if_room};
+ghost use Rattle.printing.specs.Turns.{Standing, EndsStand, if_ready, Placed, Lines};
 
 // No line is longer.
 pub const MAX_LINE: usize = 147;
@@ -45,7 +45,7 @@ pub fn put_head(
     takes: usize,
     degree: usize,
 ) -> usize
-    ensures { Put (ifRoom (length out.old) at (head_of islands turns takes degree)) out.old at out.new result }
+    ensures { Put (if_room (length out.old) at (head_of islands turns takes degree)) out.old at out.new result }
 {
     if !line_fits(out.len(), at) {
         return at;
@@ -61,7 +61,7 @@ fn put_ends(out: &mut [u8], at: usize, frame: &[u8], ends: Ends) -> usize
     requires room { at + 21 * ends.count ≤ length out.old }
     requires some { 1 ≤ ends.count }
     requires near { ends.at + 2 * (ends.count - 1) < 1048576 }
-    ensures { Put (line (map decimal (halvesFrom frame.now ends.at ends.count))) out.old at out.new result }
+    ensures { Put (line (map decimal (halves_from frame.now ends.at ends.count))) out.old at out.new result }
 {
     let mut place = at;
     let mut from = ends.at;
@@ -87,7 +87,7 @@ fn put_turn_line(
 ) -> usize
     requires some { (1 ≤ ends.count) × (ends.count ≤ 4) }
     requires near { ends.at + 2 * (ends.count - 1) < 1048576 }
-    ensures { Put (ifRoom (length out.old) at (turnLine island group constraint (halvesFrom frame.now ends.at ends.count))) out.old at out.new result }
+    ensures { Put (if_room (length out.old) at (turn_line island group constraint (halves_from frame.now ends.at ends.count))) out.old at out.new result }
 {
     if !line_fits(out.len(), at) {
         return at;
@@ -100,7 +100,7 @@ fn put_turn_line(
 
 // A refusal, by its number.
 pub fn put_refusal(out: &mut [u8], at: usize, number: usize) -> usize
-    ensures { Put (ifRoom (length out.old) at (refusalLine number)) out.old at out.new result }
+    ensures { Put (if_room (length out.old) at (refusal_line number)) out.old at out.new result }
 {
     if !line_fits(out.len(), at) {
         return at;
@@ -111,7 +111,7 @@ pub fn put_refusal(out: &mut [u8], at: usize, number: usize) -> usize
 // Where the endpoints of a constraint of the file stand: of a manifold, and on version 1, by arithmetic; of a joint of version 2
 // behind its entry's count, and the entry is where `places` says.
 fn ends_of(frame: &[u8], places: &[u16], constraint: usize) -> Ends
-    requires there { (constraint < countM frame.now + countJ frame.now) × (constraint < 131072) }
+    requires there { (constraint < count_m frame.now + count_j frame.now) × (constraint < 131072) }
     requires placed { second frame.now ≡ true → Standing frame.now places.now }
     ensures { EndsStand frame.now constraint result × (result.at + 2 * (result.count - 1) < 1048576) }
 {
@@ -142,7 +142,7 @@ fn put_turn(
     places: &[u16],
 ) -> usize
     requires { second frame.now ≡ true → Standing frame.now places.now }
-    ensures { Put (ifReady frame.now (length out.old) at island group constraint) out.old at out.new result }
+    ensures { Put (if_ready frame.now (length out.old) at island group constraint) out.old at out.new result }
 {
     if frame::constraint_count(frame) <= constraint {
         return at;

@@ -3,7 +3,7 @@
 #![tactic(auto)]
 
 ghost use Rattle.std.specs.Prelude.{◌+◌, ◌*◌, ◌≤◌, ◌≡◌, ◌&&◌, cond, leb, eqb};
-ghost use Rattle.run_answer.specs.Answers.{runNumber, runReport, Asks, AnswerOf, entriesFor, countsRoom};
+ghost use Rattle.run_answer.specs.Answers.{run_number, run_report, Asks, AnswerOf, entries_for, counts_room};
 
 use frame::Frame;
 use frame_tables::Filling;
@@ -27,7 +27,7 @@ pub enum Answer {
 
 // The number of an answer: the refusal, or 0.
 pub fn refusal_of(answer: Answer) -> u8
-    ensures { result ≡ runNumber answer }
+    ensures { result ≡ run_number answer }
 {
     match answer {
         Answer::Ran(_) => 0,
@@ -37,7 +37,7 @@ pub fn refusal_of(answer: Answer) -> u8
 
 // Its values: the report, or four zeros.
 pub fn report_of(answer: Answer) -> Report
-    ensures { result ≡ runReport answer }
+    ensures { result ≡ run_report answer }
 {
     match answer {
         Answer::Ran(report) => report,
@@ -53,7 +53,7 @@ pub fn report_of(answer: Answer) -> Report
 // How many endpoint entries question 6 asks for: four a joint where the constraints have counts, else two.
 fn entries_for(counted: bool, m: usize, j: usize) -> usize
     requires { (m ≤ 4096) × (j ≤ 4096) }
-    ensures { result ≡ entriesFor counted m j }
+    ensures { result ≡ entries_for counted m j }
 {
     if counted {
         return 2 * m + 4 * j;
@@ -64,7 +64,7 @@ fn entries_for(counted: bool, m: usize, j: usize) -> usize
 // And how many counts, to which a run cuts its tables of counts too: none where the constraints are pairs.
 pub fn counts_room(counted: bool, m: usize, j: usize) -> usize
     requires { (m ≤ 4096) × (j ≤ 4096) }
-    ensures { result ≡ countsRoom counted m j }
+    ensures { result ≡ counts_room counted m j }
 {
     if counted {
         return m + j;
@@ -179,14 +179,14 @@ pub fn ask(
 ) -> Asked
     ensures { Asks frame.now (λ v b m j. leb b parents && leb b sizes && leb b body_islands && leb m manifold_islands && leb j joint_islands
         && leb (3 * (m + j)) turns && leb b types && leb b flags
-        && leb (entriesFor v m j) pairs && leb (entriesFor v m j) island_pairs
-        && leb (countsRoom v m j) counts && leb (countsRoom v m j) island_counts && leb (countsRoom v m j) plan_counts
+        && leb (entries_for v m j) pairs && leb (entries_for v m j) island_pairs
+        && leb (counts_room v m j) counts && leb (counts_room v m j) island_counts && leb (counts_room v m j) plan_counts
         && leb j enabled && leb (m + j) numbers
-        && (leb b dynamic_bodies && leb (entriesFor v m j) endpoints && leb (b + 1) body_offsets
-        && leb (entriesFor v m j) body_constraints && leb b scratch_offsets && leb (m + j) scratch_offsets
+        && (leb b dynamic_bodies && leb (entries_for v m j) endpoints && leb (b + 1) body_offsets
+        && leb (entries_for v m j) body_constraints && leb b scratch_offsets && leb (m + j) scratch_offsets
         && leb (m + j) constraint_colors && leb (m + j) color_stamps && leb b body_stamps
         && leb (m + j + 1) color_offsets && leb (m + j) colored_constraints && leb (m + j + 1) color_body_offsets
-        && leb (entriesFor v m j) color_bodies && leb (entriesFor v m j) constraint_body_positions)) result }
+        && leb (entries_for v m j) color_bodies && leb (entries_for v m j) constraint_body_positions)) result }
 {
     let reading = Frame::read(frame);
     let sizes_read = frame::sizes_of(reading);

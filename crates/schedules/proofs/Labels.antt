@@ -9,25 +9,25 @@ use lib.Dec.{ltb, eqb}
 use lib.ListN.{length, get_or, length-map, length-append, get_or-map, get_or-append}
 use lib.Seq.{get_or-append-add}
 use borrow.Author.Tests.{ltb-true, ltb-false}
-use Rattle.lists.proofs.Laws.{by_cases, range-high}
-use Rattle.lists.proofs.Ranges.{filter-ext-in}
-use Rattle.frame.specs.Frames.{Constraint, Frame, constraints, numbers, constraintAt, nothing, touches, none}
-use Rattle.connected_sets.specs.Islands.{label, ofIsland}
-use Rattle.island.specs.Calls.{labelsAfter}
-use Rattle.schedules.specs.Labels.{labelIn, labelled, IslandsAreRead}
+use Rattle.lists.proofs.Laws.{by_cases, range_high}
+use Rattle.lists.proofs.Ranges.{filter_ext_in}
+use Rattle.frame.specs.Frames.{Constraint, Frame, constraints, numbers, constraint_at, nothing, touches, none}
+use Rattle.connected_sets.specs.Islands.{label, of_island}
+use Rattle.island.specs.Calls.{labels_after}
+use Rattle.schedules.specs.Labels.{label_in, labelled, IslandsAreRead}
 
 module _ (f : Frame) where
   -- a place that a table of labels uses
-  label_at : (cs : List Constraint) (old table : List ℕ) (n : ℕ) → table ≡ labelsAfter 0 (map (label f) cs) old → n < length cs → get_or table n none ≡ label f (get_or cs n nothing)
-  unfolding labelsAfter label touches
+  label_at : (cs : List Constraint) (old table : List ℕ) (n : ℕ) → table ≡ labels_after 0 (map (label f) cs) old → n < length cs → get_or table n none ≡ label f (get_or cs n nothing)
+  unfolding labels_after label touches
   label_at cs old table n e h =
       ap (λ (t : List ℕ). get_or t n none) e
       ∙ get_or-append (map (label f) cs) _ none n (omega (arith, length-map cs (label f)))
       ∙ get_or-map (label f) cs n nothing
 
-  module _ (m₀ j₀ m j : List ℕ) (em : m ≡ labelsAfter 0 (map (label f) f.manifolds) m₀) (ej : j ≡ labelsAfter 0 (map (label f) f.joints) j₀) where
-    label-read : (n : ℕ) → n < length (constraints f) → labelIn f m j n ≡ label f (constraintAt f n)
-    unfolding labelIn constraintAt
+  module _ (m₀ j₀ m j : List ℕ) (em : m ≡ labels_after 0 (map (label f) f.manifolds) m₀) (ej : j ≡ labels_after 0 (map (label f) f.joints) j₀) where
+    label-read : (n : ℕ) → n < length (constraints f) → label_in f m j n ≡ label f (constraint_at f n)
+    unfolding label_in constraint_at
     label-read n h = by_cases (ltb n M)
         (λ t. let l = ltb-true n M t in
         ap place t ∙ label_at f.manifolds m₀ m n em l ∙ ap (label f) (sym (get_or-append f.manifolds f.joints nothing n l)))
@@ -43,9 +43,9 @@ module _ (f : Frame) where
         place : Bool → ℕ
         place t = cond t (get_or m n none) (get_or j (n - length f.manifolds) none)
 
-    labelled-is : (i : ℕ) → labelled f m j i ≡ ofIsland f i
-    unfolding labelled ofIsland
-    labelled-is i = filter-ext-in _ _ (numbers f) (λ n k. ap (eqb i) (label-read n (omega (arith, range-high n 0 (length (constraints f)) k))))
+    labelled_is : (i : ℕ) → labelled f m j i ≡ of_island f i
+    unfolding labelled of_island
+    labelled_is i = filter_ext_in _ _ (numbers f) (λ n k. ap (eqb i) (label-read n (omega (arith, range_high n 0 (length (constraints f)) k))))
 
 pub islands-read : IslandsAreRead
-islands-read f t u number islands h = record { count = h.count; members = labelled-is f t.manifold-islands t.joint-islands u.manifold-islands u.joint-islands h.manifold-labels h.joint-labels }
+islands-read f t u number islands h = record { count = h.count; members = labelled_is f t.manifold_islands t.joint_islands u.manifold_islands u.joint_islands h.manifold_labels h.joint_labels }

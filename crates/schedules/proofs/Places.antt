@@ -9,50 +9,50 @@ use lib.Dec.{ltb}
 use lib.ListN.{length, get_or, length-append}
 use lib.Seq.{take_at}
 use borrow.Author.Tests.{le-leb}
-use Rattle.lists.specs.Basics.{range, joinMap}
+use Rattle.lists.specs.Basics.{range, join_map}
 use Rattle.lists.proofs.Laws.{and_left, and_right}
-use Rattle.lists.proofs.Sums.{sum-map}
-use Rattle.lists.proofs.Ranges.{length-joinMap, length-map-range, map-range-at}
-use Rattle.frame.specs.Frames.{counted, countsKnown, endCount}
+use Rattle.lists.proofs.Sums.{sum_map}
+use Rattle.lists.proofs.Ranges.{length-join_map, length-map-range, map-range-at}
+use Rattle.frame.specs.Frames.{counted, counts_known, end_count}
 use Rattle.groups.specs.Groups.{counted_parts, flatten}
 use Rattle.groups.proofs.Counts.{parts_apart}
-use Rattle.multi_coloring.specs.Counts.{count_read, counts_read, multiPositionsRefusal, positions_in}
+use Rattle.multi_coloring.specs.Counts.{count_read, counts_read, multi_positions_refusal, positions_in}
 
 -- lists one after another
-pub joined : {A B : Type 0} (g : B → List A) (xs : List B) → joinMap (λ (l : List A). l) (map g xs) ≡ joinMap g xs
+pub joined : {A B : Type 0} (g : B → List A) (xs : List B) → join_map (λ (l : List A). l) (map g xs) ≡ join_map g xs
 joined g [] = refl
 joined {A} g (x ∷ xs) = ap (λ (l : List A). g x ++ l) (joined g xs)
 
 -- counts of two to four are read as they are
-pub read-known : (counts : List ℕ) → countsKnown counts ≡ true → map count_read counts ≡ counts
+pub read-known : (counts : List ℕ) → counts_known counts ≡ true → map count_read counts ≡ counts
 read-known [] e = refl
 read-known (c ∷ counts) e =
-    let k : counted c ≡ true = and_left (counted c) (countsKnown counts) e in
-    ap₂ (λ (x : ℕ) (xs : List ℕ). x ∷ xs) (rw k) (read-known counts (and_right (counted c) (countsKnown counts) e))
+    let k : counted c ≡ true = and_left (counted c) (counts_known counts) e in
+    ap₂ (λ (x : ℕ) (xs : List ℕ). x ∷ xs) (rw k) (read-known counts (and_right (counted c) (counts_known counts) e))
 
-module _ (g : ℕ → List ℕ) (n : ℕ) (counts x y : List ℕ) (sizes : counts ≡ map (λ r. length (g r)) (range n)) (known : countsKnown counts ≡ true) where
+module _ (g : ℕ → List ℕ) (n : ℕ) (counts x y : List ℕ) (sizes : counts ≡ map (λ r. length (g r)) (range n)) (known : counts_known counts ≡ true) where
   counts-read : counts_read n (counts ++ x) ≡ counts
   counts-read = ap (map count_read) (take_at counts x n (ap length sizes ∙ length-map-range (λ r. length (g r)) n)) ∙ read-known counts known
 
-  counts-sum : endCount counts ≡ length (flatten g n)
+  counts_sum : end_count counts ≡ length (flatten g n)
   unfolding flatten
-  counts-sum = ap endCount sizes ∙ sum-map (λ c. c) (λ r. length (g r)) (range n) ∙ sym (length-joinMap g (range n))
+  counts_sum = ap end_count sizes ∙ sum_map (λ c. c) (λ r. length (g r)) (range n) ∙ sym (length-join_map g (range n))
 
   -- the questions: 12 past the constraints
-  pub places-asked : (r : ℕ) → n ≤ 8192 → multiPositionsRefusal n (counts ++ x) (flatten g n ++ y) r ≡ cond (ltb r n) 0 12
-  unfolding multiPositionsRefusal
+  pub places-asked : (r : ℕ) → n ≤ 8192 → multi_positions_refusal n (counts ++ x) (flatten g n ++ y) r ≡ cond (ltb r n) 0 12
+  unfolding multi_positions_refusal
   places-asked r few =
       rw (
         counts-read,
         le-leb n 8192 few,
         le-leb n (length (counts ++ x)) (omega (arith, length-append counts x, ap length sizes, length-map-range (λ r. length (g r)) n)),
-        le-leb (endCount counts) (length (flatten g n ++ y)) (omega (arith, length-append (flatten g n) y, counts-sum)),
+        le-leb (end_count counts) (length (flatten g n ++ y)) (omega (arith, length-append (flatten g n) y, counts_sum)),
       )
 
   -- and the positions
-  pub places-found : (r : ℕ) → r < n → positions_in n (counts ++ x) (flatten g n ++ y) r ≡ g r
+  pub places_found : (r : ℕ) → r < n → positions_in n (counts ++ x) (flatten g n ++ y) r ≡ g r
   unfolding flatten
-  places-found r h =
+  places_found r h =
       let lists = map g (range n) in
       let long : map length lists ≡ counts = map-map length g (range n) ∙ sym sizes in
       ap (λ (l : List ℕ). get_or (counted_parts l (flatten g n ++ y)) r []) (counts-read ∙ sym long)

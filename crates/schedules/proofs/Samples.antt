@@ -1,28 +1,28 @@
 -- The samples hold: antt computes each answer from the definitions.
 use mathlib.Core.Path.{◌≡◌, refl}
 use mathlib.Core.List.{map}
-use Rattle.frame.specs.Frames.{constraintAt, dynamic, on, touches, fits, sound, allSound, degree, degreeMax}
-use Rattle.frame.specs.Questions.{fewEach}
-use Rattle.frame.specs.Files.{half, word, pairsFrom, enabledFrom, entryRefusal, entriesRefusal, placesFrom, halvesFrom, decode, frameRefusal}
-use Rattle.connected_sets.specs.Islands.{edgesOf, edges, lowest, inIsland, leads, islandCount, bodyLabel, label, ofIsland}
-use Rattle.island.specs.Calls.{islandRefusal, labelsAfter}
-use Rattle.groups.specs.Groups.{clash, freeFrom, free, usedBy, colorFrom, colorsOf, groupCount, members, groupBodies, positions, largestGroup, flatten, offsets, planFrom}
-use Rattle.plan_questions.specs.Plans.{updateRefusal, groupPart, positionsRefusal}
+use Rattle.frame.specs.Frames.{constraint_at, dynamic, on, touches, fits, sound, all_sound, degree, degree_max}
+use Rattle.frame.specs.Questions.{few_each}
+use Rattle.frame.specs.Files.{half, word, pairs_from, enabled_from, entry_refusal, entries_refusal, places_from, halves_from, decode, frame_refusal}
+use Rattle.connected_sets.specs.Islands.{edges_of, edges, lowest, in_island, leads, island_count, body_label, label, of_island}
+use Rattle.island.specs.Calls.{island_refusal, labels_after}
+use Rattle.groups.specs.Groups.{clash, free_from, free, used_by, color_from, colors_of, group_count, members, group_bodies, positions, largest_group, flatten, offsets, plan_from}
+use Rattle.plan_questions.specs.Plans.{update_refusal, group_part, positions_refusal}
 use Rattle.plan_history.specs.Memory.{changes, remembered}
-use Rattle.multi_coloring.specs.Counts.{multiPositionsRefusal}
-use Rattle.colored_bodies.specs.Bindings.{bindRefusal, padded, boundOf, bindOf, placed, spend, refusalFrom, marksFrom, takeRefusal, takeMarks, take_of}
-use Rattle.schedules.specs.Runs.{flags, endsOf, pairsFor, countsFor, freshly, plan_at, membersIn, bodiesIn, lookupRefusal, lookupOf, takeRank, callsFrom, groupCalls, schedule, turnsOf, takesOf, rising, runRefusal, run_of}
-use Rattle.schedules.specs.Print.{digits, decimal, spaced, head_of, turnLine, refusalLine, turn_lines, firstLine, answerTo, printOf}
+use Rattle.multi_coloring.specs.Counts.{multi_positions_refusal}
+use Rattle.colored_bodies.specs.Bindings.{bind_refusal, padded, bound_of, bind_of, placed, spend, refusal_from, marks_from, take_refusal, take_marks, take_of}
+use Rattle.schedules.specs.Runs.{flags, ends_of, pairs_for, counts_for, freshly, plan_at, members_in, bodies_in, lookup_refusal, lookup_of, take_rank, calls_from, group_calls, schedule, turns_of, takes_of, rising, run_refusal, run_of}
+use Rattle.schedules.specs.Print.{digits, decimal, spaced, head_of, turn_line, refusal_line, turn_lines, first_line, answer_to, print_of}
 use Rattle.schedules.specs.Samples.{answer, samples}
 use Rattle.schedules.specs.Lanes.{LoggedShared}
 
 computed : (map (λ s. answer s.ask) samples ≡ map (λ s. s.gives) samples) × LoggedShared
-unfolding constraintAt dynamic on touches fits sound allSound degree degreeMax fewEach half word pairsFrom enabledFrom entryRefusal entriesRefusal placesFrom halvesFrom decode frameRefusal edgesOf edges lowest inIsland leads islandCount bodyLabel label ofIsland islandRefusal labelsAfter clash freeFrom free usedBy colorFrom colorsOf groupCount members groupBodies positions largestGroup flatten offsets planFrom updateRefusal changes remembered groupPart positionsRefusal multiPositionsRefusal bindRefusal padded boundOf bindOf placed spend refusalFrom marksFrom takeRefusal takeMarks take_of flags endsOf pairsFor countsFor freshly plan_at membersIn bodiesIn lookupRefusal lookupOf takeRank callsFrom groupCalls schedule turnsOf takesOf rising runRefusal run_of digits decimal spaced head_of turnLine refusalLine turn_lines firstLine answerTo printOf
+unfolding constraint_at dynamic on touches fits sound all_sound degree degree_max few_each half word pairs_from enabled_from entry_refusal entries_refusal places_from halves_from decode frame_refusal edges_of edges lowest in_island leads island_count body_label label of_island island_refusal labels_after clash free_from free used_by color_from colors_of group_count members group_bodies positions largest_group flatten offsets plan_from update_refusal changes remembered group_part positions_refusal multi_positions_refusal bind_refusal padded bound_of bind_of placed spend refusal_from marks_from take_refusal take_marks take_of flags ends_of pairs_for counts_for freshly plan_at members_in bodies_in lookup_refusal lookup_of take_rank calls_from group_calls schedule turns_of takes_of rising run_refusal run_of digits decimal spaced head_of turn_line refusal_line turn_lines first_line answer_to print_of
 computed = (refl, (refl, refl, refl))
 
-pub samples-hold : map (λ s. answer s.ask) samples ≡ map (λ s. s.gives) samples
-samples-hold = computed.0
+pub samples_hold : map (λ s. answer s.ask) samples ≡ map (λ s. s.gives) samples
+samples_hold = computed.0
 
 -- two islands share a logged body
-pub logged-shared : LoggedShared
-logged-shared = computed.1
+pub logged_shared : LoggedShared
+logged_shared = computed.1

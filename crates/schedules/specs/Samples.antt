@@ -1,13 +1,13 @@
 -- Document 01's ● samples and its printed example, and the samples of requests 6 and 11, as one table.
 use Rattle.std.specs.Prelude.{ℕ, cond, List, [], ◌∷◌, ◌++◌, map, eqb, length, replicate}
-use Rattle.frame.specs.Frames.{frame_of, flagOf, bodies}
-use Rattle.frame.specs.Questions.{pairCount}
-use Rattle.connected_sets.specs.Islands.{islandCount, bodyLabel, label}
-use Rattle.island.specs.Calls.{islandRefusal, labelsAfter}
+use Rattle.frame.specs.Frames.{frame_of, flag_of, bodies}
+use Rattle.frame.specs.Questions.{pair_count}
+use Rattle.connected_sets.specs.Islands.{island_count, body_label, label}
+use Rattle.island.specs.Calls.{island_refusal, labels_after}
 use Rattle.groups.specs.Groups.{plan_of}
 use Rattle.colored_bodies.specs.declared.BodyBinding.{BodyBinding}
-use Rattle.colored_bodies.specs.Bindings.{bindOf, take_of}
-use Rattle.schedules.specs.Print.{printOf}
+use Rattle.colored_bodies.specs.Bindings.{bind_of, take_of}
+use Rattle.schedules.specs.Print.{print_of}
 
 -- what a sample asks: an islands call (types, pairs, joints, enabled bytes), a coloring (types, pairs), takes one after another
 -- (types, bodies, lists of positions), the print of a file
@@ -27,18 +27,18 @@ refusals b (ps ∷ rest) = (take_of b ps).refusal ∷ refusals (take_of b ps).af
 abbrev islands : List ℕ → List ℕ → List ℕ → List ℕ → List ℕ
 islands ts ps js es =
     let f = frame_of ts ps js es in
-    let k = islandRefusal ts ps js es (record { parents = length ts; sizes = length ts; bodies = length ts; manifolds = pairCount ps; joints = pairCount js }) in
-    k ∷ cond (eqb k 0) (islandCount f) 0
-    ∷ labelsAfter k (map (bodyLabel f) (bodies f)) (replicate (length ts) 0)
-    ++ labelsAfter k (map (label f) f.manifolds) (replicate (pairCount ps) 0)
-    ++ labelsAfter k (map (label f) f.joints) (replicate (pairCount js) 0)
+    let k = island_refusal ts ps js es (record { parents = length ts; sizes = length ts; bodies = length ts; manifolds = pair_count ps; joints = pair_count js }) in
+    k ∷ cond (eqb k 0) (island_count f) 0
+    ∷ labels_after k (map (body_label f) (bodies f)) (replicate (length ts) 0)
+    ++ labels_after k (map (label f) f.manifolds) (replicate (pair_count ps) 0)
+    ++ labels_after k (map (label f) f.joints) (replicate (pair_count js) 0)
 
 abbrev pub answer : Ask → List ℕ
 answer (labels ts ps js es) = islands ts ps js es
-answer (colors ts ps) = (plan_of (map flagOf ts) ps).colors
-answer (positions ts ps) = (plan_of (map flagOf ts) ps).positions
-answer (takes ts bs pss) = refusals (bindOf ts bs) pss
-answer (prints bs) = printOf bs
+answer (colors ts ps) = (plan_of (map flag_of ts) ps).colors
+answer (positions ts ps) = (plan_of (map flag_of ts) ps).positions
+answer (takes ts bs pss) = refusals (bind_of ts bs) pss
+answer (prints bs) = print_of bs
 
 pub record Sample : Type 0 where
   pub ask : Ask

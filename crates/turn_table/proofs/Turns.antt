@@ -10,8 +10,8 @@ use Rattle.turn_table.specs.declared.Tally.{Tally}
 use Rattle.turn_table.specs.Turns.{Appended}
 
 -- a turn: three stores
-pub set-turn : (n x y z : ℕ) (old : List ℕ) → n + 3 ≤ length old → set (set (set old n x) (n + 1) y) (n + 2) z ≡ put n (x ∷ y ∷ z ∷ []) old
-set-turn n x y z old h =
+pub set_turn : (n x y z : ℕ) (old : List ℕ) → n + 3 ≤ length old → set (set (set old n x) (n + 1) y) (n + 2) z ≡ put n (x ∷ y ∷ z ∷ []) old
+set_turn n x y z old h =
     let a : set old n x ≡ put n (x ∷ []) old = set-put n x old (omega arith) in
     let la : length (put n (x ∷ []) old) ≡ length old = length-put n (x ∷ []) old (omega arith) in
     let b : set (put n (x ∷ []) old) (n + 1) y ≡ put n (x ∷ y ∷ []) old = set-put (n + 1) y (put n (x ∷ []) old) (omega arith) ∙ put-put n (x ∷ []) (y ∷ []) old (omega arith) in
@@ -20,5 +20,5 @@ set-turn n x y z old h =
     ap (λ (l : List ℕ). set (set l (n + 1) y) (n + 2) z) a ∙ ap (λ (l : List ℕ). set l (n + 2) z) b ∙ c
 
 -- nothing is added
-pub appended-none : (t : List ℕ) (s : Tally) → Appended (record { turns = []; takes = 0 }) t s t s
-appended-none t s = record { table = sym (put-none s.place t); place = omega arith; takes = omega arith }
+pub appended_none : (t : List ℕ) (s : Tally) → Appended (record { turns = []; takes = 0 }) t s t s
+appended_none t s = record { table = sym (put-none s.place t); place = omega arith; takes = omega arith }

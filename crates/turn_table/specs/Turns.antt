@@ -10,8 +10,8 @@ pub record Added : Type 0 where
   pub takes : ℕ
 
 -- what one take adds: a turn and the bodies handed as dynamic, unless it is refused
-abbrev pub addedByTake : ℕ → ℕ → ℕ → Taken → Added
-addedByTake i k n t = cond (eqb t.refusal 0) (record { turns = i ∷ k ∷ n ∷ []; takes = t.dynamic }) (record { turns = []; takes = 0 })
+abbrev pub added_by_take : ℕ → ℕ → ℕ → Taken → Added
+added_by_take i k n t = cond (eqb t.refusal 0) (record { turns = i ∷ k ∷ n ∷ []; takes = t.dynamic }) (record { turns = []; takes = 0 })
 
 -- there is room for it: places of the turn table, and takes of 4,096 bodies by 8,192 constraints at most
 pub record Room (a : Added) (t : List ℕ) (s : Tally) : Type 0 where

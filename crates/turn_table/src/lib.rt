@@ -3,7 +3,7 @@
 
 ghost use Rattle.std.specs.Prelude.{◌≡◌, [], ◌∷◌, ◌+◌, ◌≤◌, length};
 ghost use Rattle.lists.specs.Basics.{put};
-ghost use Rattle.turn_table.specs.Turns.{addedByTake, Room, Appended, none};
+ghost use Rattle.turn_table.specs.Turns.{added_by_take, Room, Appended, none};
 
 // A take that was made: its refusal or 0, and how many bodies it handed as dynamic.
 #[derive(Clone, Copy)]
@@ -44,8 +44,8 @@ pub fn append(
     turns: &mut [u16],
     tally: Tally,
 ) -> Tally
-    requires { Room (addedByTake island group number taken) turns.old tally }
-    ensures { Appended (addedByTake island group number taken) turns.old tally turns.new result }
+    requires { Room (added_by_take island group number taken) turns.old tally }
+    ensures { Appended (added_by_take island group number taken) turns.old tally turns.new result }
 {
     if taken.refusal != 0 {
         return tally;

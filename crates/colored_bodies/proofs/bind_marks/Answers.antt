@@ -1,7 +1,7 @@
 -- The marks and the count are those of the whole bind; the table is cleared first.
 use mathlib.Core.Path.{refl, ap, ◌∙◌}
 use Rattle.colored_bodies.specs.declared.BodyBinding.{BodyBinding}
-use Rattle.colored_bodies.proofs.Fills.{fillable, bound-is}
+use Rattle.colored_bodies.proofs.Fills.{fillable, bound_is}
 use Rattle.colored_bodies.proofs.bind_marks.Goals as goal
 
 pub mark_bodies-requires : goal.mark_bodies-requires
@@ -9,5 +9,5 @@ mark_bodies-requires c = (fillable _ _ _ _ c.known_refusal.ensures c.bound_count
 
 pub returns : goal.returns
 returns c =
-    let bound = bound-is _ _ _ _ c.known_refusal.ensures c.bound_count-count.ensures in
+    let bound = bound_is _ _ _ _ c.known_refusal.ensures c.bound_count-count.ensures in
     (ap (λ (b : BodyBinding). b.count) bound, c.mark_bodies.ensures ∙ ap (λ (b : BodyBinding). b.marks) bound)

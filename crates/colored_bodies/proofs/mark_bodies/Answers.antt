@@ -3,7 +3,7 @@ use mathlib.Core.Path.{sym, ap₂, ◌∙◌}
 use mathlib.Core.List.{List}
 use native.Mathlib.Omega.{arith}
 use lib.ListN.{set}
-use Rattle.colored_bodies.proofs.Fills.{mark-next, none_filled}
+use Rattle.colored_bodies.proofs.Fills.{mark_next, none_filled}
 use Rattle.colored_bodies.proofs.mark_bodies.Goals as goal
 
 pub loop-i-init : goal.loop-i-init
@@ -16,5 +16,5 @@ loop-i-preserved c =
       omega arith,
       ready,
       ap₂ (λ (t : List ℕ) (v : ℕ). set t l.i v) l.invariant.2 c.flag_of.ensures
-          ∙ mark-next c.args.types.now c.args.indices.now l.i (omega (arith, ready.listed, c.loop-i-test.true)) (omega (arith, ready.room, c.loop-i-test.true)),
+          ∙ mark_next c.args.types.now c.args.indices.now l.i (omega (arith, ready.listed, c.loop-i-test.true)) (omega (arith, ready.room, c.loop-i-test.true)),
     )

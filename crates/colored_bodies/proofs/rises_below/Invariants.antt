@@ -4,12 +4,12 @@ use mathlib.Core.Path.{◌≡◌}
 use mathlib.Core.Bool.{◌&&◌}
 use lib.ListN.{length, drop}
 use Rattle.lists.specs.Basics.{rises}
-use Rattle.colored_bodies.specs.Bindings.{lastBelow}
-use Rattle.colored_bodies.proofs.Rises.{risesFrom}
+use Rattle.colored_bodies.specs.Bindings.{last_below}
+use Rattle.colored_bodies.proofs.Rises.{rises_from}
 use Rattle.colored_bodies.proofs.rises_below.Given as goal
 
 abbrev pub invariant-loop-i : goal.invariant-loop-i
-invariant-loop-i l = (l.i ≤ length l.indices) × (risesFrom l.low l.n (drop l.i l.indices) ≡ (rises l.indices && lastBelow l.n l.indices))
+invariant-loop-i l = (l.i ≤ length l.indices) × (rises_from l.low l.n (drop l.i l.indices) ≡ (rises l.indices && last_below l.n l.indices))
 
 abbrev pub decreases-loop-i : goal.decreases-loop-i
 decreases-loop-i l = length l.indices - l.i

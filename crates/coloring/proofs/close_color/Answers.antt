@@ -9,7 +9,7 @@ use lib.ListN.{length, get_or, set, take}
 use lib.Seq.{get_or-set_same, get_or-set_other}
 use borrow.Author.Tests.{eqb-true, eqb-false, ltb-true}
 use Rattle.lists.specs.Basics.{all, mem}
-use Rattle.lists.proofs.Laws.{by_cases, all_in, all_get_d, getD-mem, cond-or}
+use Rattle.lists.proofs.Laws.{by_cases, all_in, all_get_d, get_or-mem, cond-or}
 use Rattle.lists.proofs.Scans.{any_next}
 use Rattle.parts.specs.Parts.{parts_at}
 use Rattle.parts.proofs.Parts.{parts-at}
@@ -32,11 +32,11 @@ more cs k ms colors₀ busy₀ colors busy i l s size v bs busy' e w =
 
 -- the member that is read is a constraint
 low : (n : ℕ) (ms : List ℕ) (i : ℕ) → i < length ms → all (λ r. ltb r n) ms ≡ true → get_or ms i 0 < n
-low n ms i l h = ltb-true (get_or ms i 0) n (all_in (λ r. ltb r n) (get_or ms i 0) ms (getD-mem ms i l) h)
+low n ms i l h = ltb-true (get_or ms i 0) n (all_in (λ r. ltb r n) (get_or ms i 0) ms (get_or-mem ms i l) h)
 
 -- its part is its bodies
-bodies-are : (c : After-part) → c.part.result.now ≡ get_or (parts_at (length c.args.constraint_colors.now) c.args.bounds.now c.args.endpoints.now) (get_or c.args.members.now c.loop-place.place 0) []
-bodies-are c =
+bodies_are : (c : After-part) → c.part.result.now ≡ get_or (parts_at (length c.args.constraint_colors.now) c.args.bounds.now c.args.endpoints.now) (get_or c.args.members.now c.loop-place.place 0) []
+bodies_are c =
     let n = length c.args.constraint_colors.now in
     c.part.ensures ∙ sym (parts-at n c.args.bounds.now c.args.endpoints.now (get_or c.args.members.now c.loop-place.place 0) (low n c.args.members.now c.loop-place.place (omega arith) c.requires.closable.inside))
 
@@ -46,7 +46,7 @@ make_idle-requires c =
     let cs = parts_at (length c.args.constraint_colors.now) c.args.bounds.now c.args.endpoints.now in
     let size : length c.loop-place.busy_bodies ≡ n = c.loop-place.auto.busy_bodies in
     let e : all (λ b. ltb b (length c.loop-place.busy_bodies)) c.part.result.now ≡ true =
-    rw (bodies-are (goal.at.make_idle-requires c).After-part, size) (all_get_d (λ bs. all (λ b. ltb b n) bs) [] cs (get_or c.args.members.now c.loop-place.place 0) refl c.requires.closable.bodies) in
+    rw (bodies_are (goal.at.make_idle-requires c).After-part, size) (all_get_d (λ bs. all (λ b. ltb b n) bs) [] cs (get_or c.args.members.now c.loop-place.place 0) refl c.requires.closable.bodies) in
     e
 
 pub loop-place-preserved : goal.loop-place-preserved
@@ -56,4 +56,4 @@ loop-place-preserved c =
     let ms = c.args.members.now in
     let size : length l.constraint_colors ≡ n = l.auto.constraint_colors in
     more (parts_at n c.args.bounds.now c.args.endpoints.now) c.args.color ms c.args.constraint_colors.now c.args.busy_bodies.now l.constraint_colors l.busy_bodies l.place (omega arith)
-    (omega (arith, low n ms l.place (omega arith) c.requires.closable.inside, size)) l.auto.busy_bodies l.invariant c.part.result.now c.make_idle.new.busy_bodies (bodies-are (goal.at.loop-place-preserved c).After-part) c.make_idle.ensures
+    (omega (arith, low n ms l.place (omega arith) c.requires.closable.inside, size)) l.auto.busy_bodies l.invariant c.part.result.now c.make_idle.new.busy_bodies (bodies_are (goal.at.loop-place-preserved c).After-part) c.make_idle.ensures

@@ -4,22 +4,22 @@ use mathlib.Core.Path.{◌≡◌, refl, ◌∙◌}
 use mathlib.Core.List.{List}
 use native.Mathlib.Omega.{arith}
 use lib.ListN.{length}
-use Rattle.coloring.proofs.Walks.{Walks, walks-none, walks-few, color-small, closable, walks_more, walks-done}
+use Rattle.coloring.proofs.Walks.{Walks, walks_none, walks_few, color_small, closable, walks_more, walks_done}
 use Rattle.coloring.proofs.color_constraints.Goals as goal
 
 -- a color is opened: there are few, and a place for where the group ends
 few : {flags : List ℕ} {cs : List (List ℕ)} {n k count : ℕ} {starts₀ remaining colors starts colored busy : List ℕ} → Walks flags cs n k count starts₀ remaining colors starts colored busy → (count ≡ 0 → ⊥)
     → (k < n) × (n ≤ 8192) × (length starts ≡ n + 1)
-few v h = (omega (arith, v.all, color-small v h), omega (arith, v.all, v.opened.few), omega (arith, v.all, v.starts-length))
+few v h = (omega (arith, v.all, color_small v h), omega (arith, v.all, v.opened.few), omega (arith, v.all, v.starts_length))
 
 pub colors-init : goal.colors-init
-colors-init c = walks-none c.requires.ready (length c.args.busy_bodies.now) _ _ c.list_all.auto.remaining c.list_all.ensures c.fill.auto.table c.fill.ensures
+colors-init c = walks_none c.requires.ready (length c.args.busy_bodies.now) _ _ c.list_all.auto.remaining c.list_all.ensures c.fill.auto.table c.fill.ensures
 
 pub close_color-requires-clause-closable : goal.close_color-requires-clause-closable
 close_color-requires-clause-closable c =
     let v = c.colors.invariant in
     let w = c.walk-uncolored_count in
-    let sized : length c.colors.colored_constraints ≡ length c.args.constraint_colors.now = v.opened.members-length ∙ v.all in
+    let sized : length c.colors.colored_constraints ≡ length c.args.constraint_colors.now = v.opened.members_length ∙ v.all in
     rw c.colors.auto.constraint_colors (closable v (rw sized at w.ensures) w.auto.colored_constraints w.auto.busy_bodies c.if-uncolored_count-eq0.false)
 
 pub overflow_add-color : goal.overflow_add-color
@@ -32,15 +32,15 @@ pub bounds-color_offsets-color : goal.bounds-color_offsets-color
 bounds-color_offsets-color c = omega (arith, few c.colors.invariant c.if-uncolored_count-eq0.false)
 
 pub colors-smaller : goal.colors-smaller
-colors-smaller c = omega (arith, walks-few c.colors.invariant c.if-uncolored_count-eq0.false)
+colors-smaller c = omega (arith, walks_few c.colors.invariant c.if-uncolored_count-eq0.false)
 
 pub colors-preserved : goal.colors-preserved
 colors-preserved c =
     let v = c.colors.invariant in
     let w = c.walk-uncolored_count in
-    let sized : length c.colors.colored_constraints ≡ length c.args.constraint_colors.now = v.opened.members-length ∙ v.all in
+    let sized : length c.colors.colored_constraints ≡ length c.args.constraint_colors.now = v.opened.members_length ∙ v.all in
     let same : length c.colors.constraint_colors ≡ length c.args.constraint_colors.now = c.colors.auto.constraint_colors in
     walks_more v (rw sized at w.ensures) w.auto.colored_constraints w.auto.busy_bodies c.if-uncolored_count-eq0.false w.auto.remaining c.close_color.auto.constraint_colors c.close_color.auto.busy_bodies (rw same at c.close_color.ensures)
 
 pub returns : goal.returns
-returns c = walks-done c.colors.invariant c.if-uncolored_count-eq0.true _ refl
+returns c = walks_done c.colors.invariant c.if-uncolored_count-eq0.true _ refl

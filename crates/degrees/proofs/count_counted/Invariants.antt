@@ -2,12 +2,12 @@
 use Prim.Native.Nat.{◌≤◌, ◌-◌}
 use mathlib.Core.Path.{◌≡◌}
 use lib.ListN.{length, take, drop}
-use Rattle.frame.specs.Frames.{counted_of, endCount}
+use Rattle.frame.specs.Frames.{counted_of, end_count}
 use Rattle.degrees.proofs.Counting.{Counting}
 use Rattle.degrees.proofs.count_counted.Given as goal
 
 abbrev pub invariant-loop-joint : goal.invariant-loop-joint
-invariant-loop-joint l = (l.joint ≤ length l.joint_counts) × (l.start ≡ endCount (take l.joint l.joint_counts)) × Counting l.types (counted_of l.joint_counts l.ends l.enabled) (drop l.joint (counted_of l.joint_counts l.ends l.enabled)) l.initial.counts l.counts
+invariant-loop-joint l = (l.joint ≤ length l.joint_counts) × (l.start ≡ end_count (take l.joint l.joint_counts)) × Counting l.types (counted_of l.joint_counts l.ends l.enabled) (drop l.joint (counted_of l.joint_counts l.ends l.enabled)) l.initial.counts l.counts
 
 abbrev pub decreases-loop-joint : goal.decreases-loop-joint
 decreases-loop-joint l = length l.joint_counts - l.joint

@@ -1,6 +1,6 @@
 use Rattle.std.proofs.Common.{◌≡◌, sym, ap, ◌∙◌, ℕ, ◌+◌, ◌-◌, ◌<◌, List, ◌∷◌, ◌++◌, length, take, length-set, arith}
-use Rattle.lists.proofs.Fills.{fill-turn, fill_end}
-use Rattle.frame.specs.Files.{byte, enabledFrom}
+use Rattle.lists.proofs.Fills.{fill_turn, fill_end}
+use Rattle.frame.specs.Files.{byte, enabled_from}
 use Rattle.frame.proofs.Decoding.{enabled-next, enabled-end}
 use Rattle.frame.proofs.decode_enabled.Goals as goal
 
@@ -14,8 +14,8 @@ loop-j-preserved c =
       omega arith,
       simp length-set l.invariant.1,
       omega (arith, l.invariant.2),
-      fill-turn l.enabled (enabledFrom bs (l.at + 5) (n - (l.j + 1))) _ l.j (byte bs (l.at + 4)) (omega (arith, c.loop-j-test.true))
-          (ap (λ (xs : List ℕ). take l.j l.enabled ++ xs) (sym (enabled-next bs l.at (n - l.j) (omega arith) ∙ ap (λ (m : ℕ). byte bs (l.at + 4) ∷ enabledFrom bs (l.at + 5) m) e)) ∙ l.invariant.3),
+      fill_turn l.enabled (enabled_from bs (l.at + 5) (n - (l.j + 1))) _ l.j (byte bs (l.at + 4)) (omega (arith, c.loop-j-test.true))
+          (ap (λ (xs : List ℕ). take l.j l.enabled ++ xs) (sym (enabled-next bs l.at (n - l.j) (omega arith) ∙ ap (λ (m : ℕ). byte bs (l.at + 4) ∷ enabled_from bs (l.at + 5) m) e)) ∙ l.invariant.3),
     )
 
 pub returns : goal.returns

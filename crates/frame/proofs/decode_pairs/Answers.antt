@@ -1,6 +1,6 @@
 use Rattle.std.proofs.Common.{◌≡◌, sym, ap, ◌∙◌, ℕ, suc, ◌+◌, ◌-◌, ◌/◌, ◌<◌, List, ◌++◌, length, take, length-set, arith}
 use Rattle.lists.proofs.Fills.{fill_end}
-use Rattle.frame.proofs.Decoding.{pair_turn, pairs-none, room_next}
+use Rattle.frame.proofs.Decoding.{pair_turn, pairs_none, room_next}
 use Rattle.frame.proofs.decode_pairs.Goals as goal
 
 pub loop-k-preserved : goal.loop-k-preserved
@@ -23,4 +23,4 @@ returns c =
     let a = c.args in
     let n = length a.pairs.now in
     fill_end l.pairs _ l.k c.loop-k-test.false
-    (ap (λ (xs : List ℕ). take l.k l.pairs ++ xs) (sym (pairs-none a.bytes.now l.at a.step ((n - l.k) / 2) (omega (arith, l.invariant.2, c.loop-k-test.false)))) ∙ l.invariant.4)
+    (ap (λ (xs : List ℕ). take l.k l.pairs ++ xs) (sym (pairs_none a.bytes.now l.at a.step ((n - l.k) / 2) (omega (arith, l.invariant.2, c.loop-k-test.false)))) ∙ l.invariant.4)

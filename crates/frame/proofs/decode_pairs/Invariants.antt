@@ -3,11 +3,11 @@ use mathlib.Core.List.{◌++◌}
 use Prim.Native.Nat.{◌≤◌, ◌+◌, ◌*◌, ◌-◌, ◌/◌, ◌%◌}
 use mathlib.Core.Path.{◌≡◌}
 use lib.ListN.{length, take}
-use Rattle.frame.specs.Files.{pairsFrom}
+use Rattle.frame.specs.Files.{pairs_from}
 use Rattle.frame.proofs.decode_pairs.Given as goal
 
 abbrev pub invariant-loop-k : goal.invariant-loop-k
-invariant-loop-k l = (l.k ≤ length l.initial.pairs) × ((length l.initial.pairs - l.k) % 2 ≡ 0) × (length l.pairs ≡ length l.initial.pairs) × (l.at + l.step * ((length l.initial.pairs - l.k) / 2) ≤ length l.bytes) × (take l.k l.pairs ++ pairsFrom l.bytes l.at l.step ((length l.initial.pairs - l.k) / 2) ≡ pairsFrom l.bytes l.from l.step (length l.initial.pairs / 2))
+invariant-loop-k l = (l.k ≤ length l.initial.pairs) × ((length l.initial.pairs - l.k) % 2 ≡ 0) × (length l.pairs ≡ length l.initial.pairs) × (l.at + l.step * ((length l.initial.pairs - l.k) / 2) ≤ length l.bytes) × (take l.k l.pairs ++ pairs_from l.bytes l.at l.step ((length l.initial.pairs - l.k) / 2) ≡ pairs_from l.bytes l.from l.step (length l.initial.pairs / 2))
 
 abbrev pub decreases-loop-k : goal.decreases-loop-k
 decreases-loop-k l = length l.initial.pairs - l.k

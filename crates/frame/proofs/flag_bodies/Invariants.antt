@@ -3,11 +3,11 @@ use mathlib.Core.List.{◌++◌, map}
 use Prim.Native.Nat.{◌≤◌, ◌-◌}
 use lib.ListN.{length, take, drop}
 use mathlib.Core.Path.{◌≡◌}
-use Rattle.frame.specs.Frames.{flagOf}
+use Rattle.frame.specs.Frames.{flag_of}
 use Rattle.frame.proofs.flag_bodies.Given as goal
 
 abbrev pub invariant-loop-i : goal.invariant-loop-i
-invariant-loop-i l = (l.i ≤ length l.initial.flags) × (length l.flags ≡ length l.initial.flags) × (take l.i l.flags ++ map flagOf (drop l.i l.types) ≡ map flagOf l.types)
+invariant-loop-i l = (l.i ≤ length l.initial.flags) × (length l.flags ≡ length l.initial.flags) × (take l.i l.flags ++ map flag_of (drop l.i l.types) ≡ map flag_of l.types)
 
 abbrev pub decreases-loop-i : goal.decreases-loop-i
 decreases-loop-i l = length l.initial.flags - l.i

@@ -3,11 +3,11 @@ use Prim.Native.Nat.{◌+◌, ◌*◌}
 use mathlib.Core.Path.{sym, ◌∙◌}
 use native.Mathlib.Omega.{arith}
 use lib.Seq.{length-take-le, length_front}
-use Rattle.frame_run.proofs.Entry.{stopped-run, cuttable, counts-fit, counts-cut, counts-worn, spacious, sized-ran}
+use Rattle.frame_run.proofs.Entry.{stopped_run, cuttable, counts_fit, counts-cut, counts_worn, spacious, sized_ran}
 use Rattle.frame_run.proofs.run_asked.Goals as goal
 
 pub returns-then-asked-ne0 : goal.returns-then-asked-ne0
-returns-then-asked-ne0 c = stopped-run _ _ c.args.asked c.requires c.if-asked-ne0.true
+returns-then-asked-ne0 c = stopped_run _ _ c.args.asked c.requires c.if-asked-ne0.true
 
 -- the sizes
 pub overflow_add-constraints : goal.overflow_add-constraints
@@ -42,22 +42,22 @@ pub slice_bounds-run_sized-end-6 : goal.slice_bounds-run_sized-end-6
 slice_bounds-run_sized-end-6 c = sym (length-take-le (2 * c.args.asked.manifolds + c.args.asked.joint_ends) c.args.pairs.now (cuttable c.args.frame.now _ c.args.asked c.requires c.if-asked-ne0.false).pairs)
 
 pub slice_bounds-run_sized-end-7 : goal.slice_bounds-run_sized-end-7
-slice_bounds-run_sized-end-7 c = (cuttable c.args.frame.now _ c.args.asked c.requires c.if-asked-ne0.false).island-pairs
+slice_bounds-run_sized-end-7 c = (cuttable c.args.frame.now _ c.args.asked c.requires c.if-asked-ne0.false).island_pairs
 
 pub slice_bounds-run_sized-end-8 : goal.slice_bounds-run_sized-end-8
-slice_bounds-run_sized-end-8 c = sym (length-take-le (2 * c.args.asked.manifolds + c.args.asked.joint_ends) c.args.island_pairs.now (cuttable c.args.frame.now _ c.args.asked c.requires c.if-asked-ne0.false).island-pairs)
+slice_bounds-run_sized-end-8 c = sym (length-take-le (2 * c.args.asked.manifolds + c.args.asked.joint_ends) c.args.island_pairs.now (cuttable c.args.frame.now _ c.args.asked c.requires c.if-asked-ne0.false).island_pairs)
 
 pub slice_bounds-run_sized-end-9 : goal.slice_bounds-run_sized-end-9
-slice_bounds-run_sized-end-9 c = counts-fit c.counts_room-counted.ensures (cuttable c.args.frame.now _ c.args.asked c.requires c.if-asked-ne0.false).counts
+slice_bounds-run_sized-end-9 c = counts_fit c.counts_room-counted.ensures (cuttable c.args.frame.now _ c.args.asked c.requires c.if-asked-ne0.false).counts
 
 pub slice_bounds-run_sized-end-10 : goal.slice_bounds-run_sized-end-10
-slice_bounds-run_sized-end-10 c = sym (length-take-le c.counts_room-counted.result c.args.counts.now (counts-fit c.counts_room-counted.ensures (cuttable c.args.frame.now _ c.args.asked c.requires c.if-asked-ne0.false).counts))
+slice_bounds-run_sized-end-10 c = sym (length-take-le c.counts_room-counted.result c.args.counts.now (counts_fit c.counts_room-counted.ensures (cuttable c.args.frame.now _ c.args.asked c.requires c.if-asked-ne0.false).counts))
 
 pub slice_bounds-run_sized-end-11 : goal.slice_bounds-run_sized-end-11
-slice_bounds-run_sized-end-11 c = counts-fit c.counts_room-counted.ensures (cuttable c.args.frame.now _ c.args.asked c.requires c.if-asked-ne0.false).island-counts
+slice_bounds-run_sized-end-11 c = counts_fit c.counts_room-counted.ensures (cuttable c.args.frame.now _ c.args.asked c.requires c.if-asked-ne0.false).island_counts
 
 pub slice_bounds-run_sized-end-12 : goal.slice_bounds-run_sized-end-12
-slice_bounds-run_sized-end-12 c = sym (length-take-le c.counts_room-counted.result c.args.island_counts.now (counts-fit c.counts_room-counted.ensures (cuttable c.args.frame.now _ c.args.asked c.requires c.if-asked-ne0.false).island-counts))
+slice_bounds-run_sized-end-12 c = sym (length-take-le c.counts_room-counted.result c.args.island_counts.now (counts_fit c.counts_room-counted.ensures (cuttable c.args.frame.now _ c.args.asked c.requires c.if-asked-ne0.false).island_counts))
 
 pub slice_bounds-run_sized-end-13 : goal.slice_bounds-run_sized-end-13
 slice_bounds-run_sized-end-13 c = (cuttable c.args.frame.now _ c.args.asked c.requires c.if-asked-ne0.false).enabled
@@ -72,10 +72,10 @@ pub slice_bounds-run_sized-end-16 : goal.slice_bounds-run_sized-end-16
 slice_bounds-run_sized-end-16 c = sym (length-take-le (c.args.asked.manifolds + c.args.asked.joints) c.args.numbers.now (cuttable c.args.frame.now _ c.args.asked c.requires c.if-asked-ne0.false).numbers)
 
 pub slice_bounds-run_sized-end-17 : goal.slice_bounds-run_sized-end-17
-slice_bounds-run_sized-end-17 c = counts-fit c.counts_room-counted.ensures (cuttable c.args.frame.now _ c.args.asked c.requires c.if-asked-ne0.false).plan-counts
+slice_bounds-run_sized-end-17 c = counts_fit c.counts_room-counted.ensures (cuttable c.args.frame.now _ c.args.asked c.requires c.if-asked-ne0.false).plan_counts
 
 pub slice_bounds-run_sized-end-18 : goal.slice_bounds-run_sized-end-18
-slice_bounds-run_sized-end-18 c = sym (length-take-le c.counts_room-counted.result c.args.plan_counts.now (counts-fit c.counts_room-counted.ensures (cuttable c.args.frame.now _ c.args.asked c.requires c.if-asked-ne0.false).plan-counts))
+slice_bounds-run_sized-end-18 c = sym (length-take-le c.counts_room-counted.result c.args.plan_counts.now (counts_fit c.counts_room-counted.ensures (cuttable c.args.frame.now _ c.args.asked c.requires c.if-asked-ne0.false).plan_counts))
 
 pub run_sized-requires-clause-decodable : goal.run_sized-requires-clause-decodable
 run_sized-requires-clause-decodable c =
@@ -94,10 +94,10 @@ pub run_sized-requires-clause-roomy_sized : goal.run_sized-requires-clause-roomy
 run_sized-requires-clause-roomy_sized c =
     let s = cuttable c.args.frame.now _ c.args.asked c.requires c.if-asked-ne0.false in
     spacious _ _ s.file s.room _ _ _ _
-    (length-take-le (2 * c.args.asked.manifolds + c.args.asked.joint_ends) c.args.island_pairs.now s.island-pairs ∙ s.ends)
-    (counts-cut c.args.island_counts.now c.counts_room-counted.ensures s.island-counts s.counted)
+    (length-take-le (2 * c.args.asked.manifolds + c.args.asked.joint_ends) c.args.island_pairs.now s.island_pairs ∙ s.ends)
+    (counts-cut c.args.island_counts.now c.counts_room-counted.ensures s.island_counts s.counted)
     (omega (arith, length-take-le (c.args.asked.manifolds + c.args.asked.joints) c.args.numbers.now s.numbers, s.manifolds, s.joints))
-    (counts-cut c.args.plan_counts.now c.counts_room-counted.ensures s.plan-counts s.counted)
+    (counts-cut c.args.plan_counts.now c.counts_room-counted.ensures s.plan_counts s.counted)
 
 pub returns : goal.returns
 returns c =
@@ -105,30 +105,30 @@ returns c =
     let k = c.run_sized.auto in
     let n = c.run_sized.new in
     let e = c.counts_room-counted.ensures ∙ s.counted in
-    sized-ran _ _ s.file s.room _ _ c.run_sized.ensures
+    sized_ran _ _ s.file s.room _ _ c.run_sized.ensures
     (record {
       types = length_front c.args.types.now n.types c.args.asked.bodies k.types;
       flags = length_front c.args.flags.now n.flags c.args.asked.bodies k.flags;
       pairs = length_front c.args.pairs.now n.pairs (2 * c.args.asked.manifolds + c.args.asked.joint_ends) k.pairs;
-      island-pairs = length_front c.args.island_pairs.now n.island_pairs (2 * c.args.asked.manifolds + c.args.asked.joint_ends) k.island_pairs;
-      counts = counts-worn c.args.frame.now _ c.args.counts.now n.counts e k.counts;
-      island-counts = counts-worn c.args.frame.now _ c.args.island_counts.now n.island_counts e k.island_counts;
+      island_pairs = length_front c.args.island_pairs.now n.island_pairs (2 * c.args.asked.manifolds + c.args.asked.joint_ends) k.island_pairs;
+      counts = counts_worn c.args.frame.now _ c.args.counts.now n.counts e k.counts;
+      island_counts = counts_worn c.args.frame.now _ c.args.island_counts.now n.island_counts e k.island_counts;
       enabled = length_front c.args.enabled.now n.enabled c.args.asked.joints k.enabled;
       numbers = length_front c.args.numbers.now n.numbers (c.args.asked.manifolds + c.args.asked.joints) k.numbers;
       plan = record {
-        dynamic-bodies = k.dynamic_bodies;
+        dynamic_bodies = k.dynamic_bodies;
         endpoints = k.endpoints;
-        body-offsets = k.body_offsets;
-        body-constraints = k.body_constraints;
-        scratch-offsets = k.scratch_offsets;
-        constraint-colors = k.constraint_colors;
-        color-stamps = k.color_stamps;
-        body-stamps = k.body_stamps;
-        color-offsets = k.color_offsets;
-        colored-constraints = k.colored_constraints;
-        color-body-offsets = k.color_body_offsets;
-        color-bodies = k.color_bodies;
-        constraint-body-positions = k.constraint_body_positions;
+        body_offsets = k.body_offsets;
+        body_constraints = k.body_constraints;
+        scratch_offsets = k.scratch_offsets;
+        constraint_colors = k.constraint_colors;
+        color_stamps = k.color_stamps;
+        body_stamps = k.body_stamps;
+        color_offsets = k.color_offsets;
+        colored_constraints = k.colored_constraints;
+        color_body_offsets = k.color_body_offsets;
+        color_bodies = k.color_bodies;
+        constraint_body_positions = k.constraint_body_positions;
       };
-      plan-counts = counts-worn c.args.frame.now _ c.args.plan_counts.now n.plan_counts e k.plan_counts;
+      plan_counts = counts_worn c.args.frame.now _ c.args.plan_counts.now n.plan_counts e k.plan_counts;
     })

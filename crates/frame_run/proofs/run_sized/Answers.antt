@@ -2,7 +2,7 @@
 use mathlib.Core.Path.{refl}
 use native.Mathlib.Omega.{arith}
 use Rattle.plan_questions.specs.Plans.{tables_of}
-use Rattle.frame_run.proofs.Runs.{roomy_of, prepared-cut, room_cut, types-known, ran}
+use Rattle.frame_run.proofs.Runs.{roomy_of, prepared_cut, room_cut, types_are_known, ran}
 use Rattle.frame_run.proofs.run_sized.Goals as goal
 
 pub fill-filling-requires-clause-roomy : goal.fill-filling-requires-clause-roomy
@@ -15,24 +15,24 @@ pub run_islands-tally-requires-clause-prepared : goal.run_islands-tally-requires
 run_islands-tally-requires-clause-prepared c =
     let f = c.fill-filling in
     let r = c.requires.roomy_sized in
-    prepared-cut c.args.frame.now c.requires.decodable.file f.new.types f.new.flags f.new.pairs f.new.counts f.new.enabled _ _ f.new.numbers f.result f.ensures
+    prepared_cut c.args.frame.now c.requires.decodable.file f.new.types f.new.flags f.new.pairs f.new.counts f.new.enabled _ _ f.new.numbers f.result f.ensures
     _ _ _ _ _ _ _ _ r
     (record {
-      dynamic-bodies = refl;
+      dynamic_bodies = refl;
       endpoints = refl;
-      body-offsets = refl;
-      body-constraints = refl;
-      scratch-offsets = f.auto.scratch_offsets;
-      constraint-colors = f.auto.keys;
-      color-stamps = refl;
-      body-stamps = f.auto.on_bodies;
-      color-offsets = f.auto.offsets;
-      colored-constraints = refl;
-      color-body-offsets = refl;
-      color-bodies = refl;
-      constraint-body-positions = refl;
+      body_offsets = refl;
+      body_constraints = refl;
+      scratch_offsets = f.auto.scratch_offsets;
+      constraint_colors = f.auto.keys;
+      color_stamps = refl;
+      body_stamps = f.auto.on_bodies;
+      color_offsets = f.auto.offsets;
+      colored_constraints = refl;
+      color_body_offsets = refl;
+      color_bodies = refl;
+      constraint_body_positions = refl;
     })
-    (omega (arith, f.auto.manifold_islands, r.islands.manifold-islands)) (omega (arith, f.auto.joint_islands, r.islands.joint-islands))
+    (omega (arith, f.auto.manifold_islands, r.islands.manifold_islands)) (omega (arith, f.auto.joint_islands, r.islands.joint_islands))
     c.args.manifolds c.requires.decodable.manifolds
 
 pub run_islands-tally-requires-clause-room : goal.run_islands-tally-requires-clause-room
@@ -43,7 +43,7 @@ run_islands-tally-requires-clause-room c =
 pub run_islands-tally-requires-clause-known : goal.run_islands-tally-requires-clause-known
 run_islands-tally-requires-clause-known c =
     let f = c.fill-filling in
-    types-known c.args.frame.now c.requires.decodable.file f.new.types f.new.flags f.new.pairs f.new.counts f.new.enabled _ _ f.new.numbers f.result f.ensures
+    types_are_known c.args.frame.now c.requires.decodable.file f.new.types f.new.flags f.new.pairs f.new.counts f.new.enabled _ _ f.new.numbers f.result f.ensures
 
 pub returns : goal.returns
 returns c =

@@ -1,10 +1,10 @@
 use native.Mathlib.Omega.{arith}
-use Rattle.gathering.proofs.Collects.{collecting-none, collecting-more}
+use Rattle.gathering.proofs.Collects.{collecting_none, collecting_more}
 use Rattle.gathering.proofs.collect.Goals as goal
 
 pub loop-at-init : goal.loop-at-init
-loop-at-init c = collecting-none _ _ _
+loop-at-init c = collecting_none _ _ _
 
 pub loop-at-preserved : goal.loop-at-preserved
 loop-at-preserved c =
-    collecting-more c.args.stamp c.args.body_stamps.now c.args.part.now c.loop-at.part c.loop-at.body c.loop-at.at c.loop-at.invariant c.requires.1 (omega arith)
+    collecting_more c.args.stamp c.args.body_stamps.now c.args.part.now c.loop-at.part c.loop-at.body c.loop-at.at c.loop-at.invariant c.requires.1 (omega arith)

@@ -1,11 +1,11 @@
 use native.Mathlib.Omega.{arith}
 use Rattle.parts.specs.Parts.{part_at}
 use Rattle.parts.proofs.Parts.{parts-length, parts-at}
-use Rattle.gathering.proofs.Groups.{gathering-none, members-cut, part-below, group-fresh, end-small, gathering-more}
+use Rattle.gathering.proofs.Groups.{gathering_none, members-cut, part_below, group_fresh, end_small, gathering_more}
 use Rattle.gathering.proofs.gather.Goals as goal
 
 pub loop-color-init : goal.loop-color-init
-loop-color-init c = gathering-none c.requires.gatherable
+loop-color-init c = gathering_none c.requires.gatherable
 
 pub between-members-requires : goal.between-members-requires
 between-members-requires c = members-cut c.requires.gatherable c.loop-color.color c.loop-color-test.true
@@ -15,14 +15,14 @@ list_bodies-end-requires-clause-all_present c =
     let bounds = c.args.bounds.now in
     let endpoints = c.args.endpoints.now in
     rw c.between-members.ensures
-    (λ r h. c.requires.bounded r (part-below c.requires.gatherable (part_at bounds endpoints) (parts-length _ bounds endpoints) (parts-at _ bounds endpoints) c.loop-color.color c.loop-color-test.true r h))
+    (λ r h. c.requires.bounded r (part_below c.requires.gatherable (part_at bounds endpoints) (parts-length _ bounds endpoints) (parts-at _ bounds endpoints) c.loop-color.color c.loop-color-test.true r h))
 
 pub list_bodies-end-requires-clause-fresh : goal.list_bodies-end-requires-clause-fresh
 list_bodies-end-requires-clause-fresh c =
     let bounds = c.args.bounds.now in
     let endpoints = c.args.endpoints.now in
     rw c.between-members.ensures
-    (group-fresh c.requires.gatherable (part_at bounds endpoints) (parts-length _ bounds endpoints) (parts-at _ bounds endpoints) c.loop-color.color c.loop-color-test.true c.loop-color.invariant)
+    (group_fresh c.requires.gatherable (part_at bounds endpoints) (parts-length _ bounds endpoints) (parts-at _ bounds endpoints) c.loop-color.color c.loop-color-test.true c.loop-color.invariant)
 
 pub overflow_cast-color_body_offsets : goal.overflow_cast-color_body_offsets
 overflow_cast-color_body_offsets c =
@@ -30,7 +30,7 @@ overflow_cast-color_body_offsets c =
     let endpoints = c.args.endpoints.now in
     omega (
       arith,
-      end-small
+      end_small
           c.requires.gatherable
           (part_at bounds endpoints)
           (parts-length _ bounds endpoints)
@@ -46,7 +46,7 @@ pub loop-color-preserved : goal.loop-color-preserved
 loop-color-preserved c =
     let bounds = c.args.bounds.now in
     let endpoints = c.args.endpoints.now in
-    gathering-more
+    gathering_more
     c.requires.gatherable
     (part_at bounds endpoints)
     (parts-length _ bounds endpoints)

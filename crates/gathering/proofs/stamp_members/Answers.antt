@@ -1,7 +1,7 @@
 use native.Mathlib.Omega.{arith}
 use Rattle.parts.specs.Parts.{part_at}
 use Rattle.gathering.proofs.Ends.{next-part}
-use Rattle.gathering.proofs.Counts.{counted_none, counted-add, counted_next, counted-fits, stampable-next}
+use Rattle.gathering.proofs.Counts.{counted_none, counted-add, counted_next, counted-fits, stampable_next}
 use Rattle.gathering.proofs.stamp_members.Goals as goal
 
 pub loop-i-init : goal.loop-i-init
@@ -10,7 +10,7 @@ loop-i-init c = (omega arith, counted_none _ _ 0)
 pub stamp_part-count-requires : goal.stamp_part-count-requires
 stamp_part-count-requires c =
     rw c.part-bodies.ensures
-    (stampable-next c.loop-i.invariant.1 (next-part (part_at c.args.bounds.now c.args.endpoints.now) c.args.members.now c.loop-i.i c.loop-i-test.true) c.requires.stampable)
+    (stampable_next c.loop-i.invariant.1 (next-part (part_at c.args.bounds.now c.args.endpoints.now) c.args.members.now c.loop-i.i c.loop-i-test.true) c.requires.stampable)
 
 pub overflow_add-count : goal.overflow_add-count
 overflow_add-count c =

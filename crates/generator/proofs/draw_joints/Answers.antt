@@ -1,14 +1,14 @@
 use Rattle.std.proofs.Common.{◌%◌, [], ◌∷◌, ◌++◌, arith, length-append}
-use Rattle.frame_file.specs.Written.{pairBytes}
-use Rattle.generator.specs.Draws.{draw, pairDrawn}
+use Rattle.frame_file.specs.Written.{pair_bytes}
+use Rattle.generator.specs.Draws.{draw, pair_drawn}
 use Rattle.generator.proofs.Calls.{two-bodies}
-use Rattle.generator.proofs.Loops.{drawn-first, drawn-next, joints, joints-none, joints-size, joints-next, pair_size}
+use Rattle.generator.proofs.Loops.{drawn_first, drawn_next, joints, joints-none, joints_size, joints-next, pair_size}
 use Rattle.generator.proofs.draw_joints.Goals as goal
 
 pub loop-i-init : goal.loop-i-init
 loop-i-init c =
     let a = c.args in
-    (omega arith, drawn-first 3 5 (joints a.before a.bodies) a.at a.before a.out.now (joints-none a.before a.bodies) (joints-size a.before a.bodies))
+    (omega arith, drawn_first 3 5 (joints a.before a.bodies) a.at a.before a.out.now (joints-none a.before a.bodies) (joints_size a.before a.bodies))
 
 pub draw_joint-state-requires : goal.draw_joint-state-requires
 draw_joint-state-requires c =
@@ -21,8 +21,8 @@ loop-i-preserved c =
     let l = c.loop-i in
     let p = c.draw_joint-state in (
       omega (arith, c.loop-i-test.true),
-      drawn-next 3 5 (joints a.before a.bodies) a.at a.before a.out.now (joints-none a.before a.bodies) (joints-size a.before a.bodies) l.i l.out l.state l.invariant.1
-          (pairBytes (pairDrawn a.bodies 0 l.state) ++ (draw 2 l.state % 2) ∷ []) p.new.out p.result
-          (joints-next a.before a.bodies l.i l.state l.invariant.1.state-left) p.ensures.0
-          (omega (arith, length-append (pairBytes (pairDrawn a.bodies 0 l.state)) ((draw 2 l.state % 2) ∷ []), pair_size a.bodies l.state, c.loop-i-test.true, c.requires.0)) p.ensures.1,
+      drawn_next 3 5 (joints a.before a.bodies) a.at a.before a.out.now (joints-none a.before a.bodies) (joints_size a.before a.bodies) l.i l.out l.state l.invariant.1
+          (pair_bytes (pair_drawn a.bodies 0 l.state) ++ (draw 2 l.state % 2) ∷ []) p.new.out p.result
+          (joints-next a.before a.bodies l.i l.state l.invariant.1.state_left) p.ensures.0
+          (omega (arith, length-append (pair_bytes (pair_drawn a.bodies 0 l.state)) ((draw 2 l.state % 2) ∷ []), pair_size a.bodies l.state, c.loop-i-test.true, c.requires.0)) p.ensures.1,
     )

@@ -1,14 +1,14 @@
 use Rattle.std.proofs.Common.{arith}
-use Rattle.frame_file.specs.Written.{pairBytes}
-use Rattle.generator.specs.Draws.{pairDrawn}
+use Rattle.frame_file.specs.Written.{pair_bytes}
+use Rattle.generator.specs.Draws.{pair_drawn}
 use Rattle.generator.proofs.Calls.{two-bodies}
-use Rattle.generator.proofs.Loops.{drawn-first, drawn-next, manifolds, manifolds-none, manifolds-size, manifolds-turn, pair_size}
+use Rattle.generator.proofs.Loops.{drawn_first, drawn_next, manifolds, manifolds-none, manifolds_size, manifolds_turn, pair_size}
 use Rattle.generator.proofs.draw_manifolds.Goals as goal
 
 pub loop-i-init : goal.loop-i-init
 loop-i-init c =
     let a = c.args in
-    (omega arith, drawn-first 2 4 (manifolds a.before a.bodies) a.at a.before a.out.now (manifolds-none a.before a.bodies) (manifolds-size a.before a.bodies))
+    (omega arith, drawn_first 2 4 (manifolds a.before a.bodies) a.at a.before a.out.now (manifolds-none a.before a.bodies) (manifolds_size a.before a.bodies))
 
 pub draw_pair-state-requires : goal.draw_pair-state-requires
 draw_pair-state-requires c =
@@ -21,8 +21,8 @@ loop-i-preserved c =
     let l = c.loop-i in
     let p = c.draw_pair-state in (
       omega (arith, c.loop-i-test.true),
-      drawn-next 2 4 (manifolds a.before a.bodies) a.at a.before a.out.now (manifolds-none a.before a.bodies) (manifolds-size a.before a.bodies) l.i l.out l.state l.invariant.1
-          (pairBytes (pairDrawn a.bodies 0 l.state)) p.new.out p.result
-          (manifolds-turn a.before a.bodies l.i l.state l.invariant.1.state-left) p.ensures.0
+      drawn_next 2 4 (manifolds a.before a.bodies) a.at a.before a.out.now (manifolds-none a.before a.bodies) (manifolds_size a.before a.bodies) l.i l.out l.state l.invariant.1
+          (pair_bytes (pair_drawn a.bodies 0 l.state)) p.new.out p.result
+          (manifolds_turn a.before a.bodies l.i l.state l.invariant.1.state_left) p.ensures.0
           (omega (arith, pair_size a.bodies l.state, c.loop-i-test.true, c.requires.0)) p.ensures.1,
     )

@@ -1,18 +1,18 @@
 -- `first_refusal` puts the questions in order; each "no" has its law.
 use Rattle.std.proofs.Common.{sym, arith}
-use Rattle.generator.proofs.Calls.{no-3, no-13, no-6, no_none}
+use Rattle.generator.proofs.Calls.{no_3, no_13, no_6, no_none}
 use Rattle.generator.proofs.first_refusal.Goals as goal
 
 pub returns-then-not-few_each : goal.returns-then-not-few_each
-returns-then-not-few_each c = let a = c.args in no-3 a.bodies a.manifolds a.joints a.room (sym c.if-not-few_each.ensures)
+returns-then-not-few_each c = let a = c.args in no_3 a.bodies a.manifolds a.joints a.room (sym c.if-not-few_each.ensures)
 
 pub returns-then-not-pairs_possible : goal.returns-then-not-pairs_possible
-returns-then-not-pairs_possible c = let a = c.args in no-13 a.bodies a.manifolds a.joints a.room (sym c.if-not-few_each.ensures) (sym c.if-not-pairs_possible.ensures)
+returns-then-not-pairs_possible c = let a = c.args in no_13 a.bodies a.manifolds a.joints a.room (sym c.if-not-few_each.ensures) (sym c.if-not-pairs_possible.ensures)
 
 pub returns-then-room-file_length : goal.returns-then-room-file_length
 returns-then-room-file_length c =
     let a = c.args in
-    no-6 a.bodies a.manifolds a.joints a.room (sym c.if-not-few_each.ensures) (sym c.if-not-pairs_possible.ensures)
+    no_6 a.bodies a.manifolds a.joints a.room (sym c.if-not-few_each.ensures) (sym c.if-not-pairs_possible.ensures)
     (omega (arith, c.if-room-file_length.true, c.file_length.ensures))
 
 pub returns : goal.returns

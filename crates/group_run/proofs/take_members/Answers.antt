@@ -1,20 +1,20 @@
 use mathlib.Core.Path.{refl}
 use native.Mathlib.Omega.{arith}
-use Rattle.group_run.proofs.Appends.{going-first, going-room, going_more, going-last}
-use Rattle.group_run.proofs.Takes.{calls-next, calls-after, calls-end}
+use Rattle.group_run.proofs.Appends.{going_first, going_room, going_more, going_last}
+use Rattle.group_run.proofs.Takes.{calls_next, calls_after, calls_end}
 use Rattle.group_run.proofs.take_members.Goals as goal
 
 pub loop-m-init : goal.loop-m-init
-loop-m-init c = (omega arith, going-first refl)
+loop-m-init c = (omega arith, going_first refl)
 
 pub take_member-sum-requires-clause-room : goal.take_member-sum-requires-clause-room
-take_member-sum-requires-clause-room c = going-room c.requires.room c.loop-m.invariant.1 _ _ (calls-next _ _ _ _ _ _ _ c.loop-m-test.true)
+take_member-sum-requires-clause-room c = going_room c.requires.room c.loop-m.invariant.1 _ _ (calls_next _ _ _ _ _ _ _ c.loop-m-test.true)
 
 pub loop-m-preserved : goal.loop-m-preserved
 loop-m-preserved c = (
   omega arith,
-  going_more c.requires.room c.loop-m.invariant.1 _ _ _ _ (calls-after _ _ _ _ _ _ _ _ c.loop-m-test.true c.take_member-sum.ensures.after) c.take_member-sum.ensures.added,
+  going_more c.requires.room c.loop-m.invariant.1 _ _ _ _ (calls_after _ _ _ _ _ _ _ _ c.loop-m-test.true c.take_member-sum.ensures.after) c.take_member-sum.ensures.added,
 )
 
 pub returns : goal.returns
-returns c = going-last c.requires.room c.loop-m.invariant.1 (calls-end _ _ _ _ _ _ _ c.loop-m-test.false)
+returns c = going_last c.requires.room c.loop-m.invariant.1 (calls_end _ _ _ _ _ _ _ c.loop-m-test.false)

@@ -2,15 +2,15 @@
 use Prim.Native.Nat.{◌≤◌, ◌-◌}
 use mathlib.Core.List.{[]}
 use lib.ListN.{length, drop}
-use Rattle.schedules.specs.Runs.{callsFrom}
-use Rattle.group_run.specs.Appends.{seen, marksOnly}
+use Rattle.schedules.specs.Runs.{calls_from}
+use Rattle.group_run.specs.Appends.{seen, marks_only}
 use Rattle.group_run.proofs.Appends.{Going}
 use Rattle.group_run.proofs.take_members.Given as goal
 
 abbrev pub invariant-loop-m : goal.invariant-loop-m
 invariant-loop-m l = (l.m ≤ length l.members)
-    × Going (callsFrom (seen l.plan l.counts [] [] [] [] l.positions) l.numbers l.island l.group (marksOnly l.initial.marks l.count) l.members)
-    (callsFrom (seen l.plan l.counts [] [] [] [] l.positions) l.numbers l.island l.group (marksOnly l.marks l.count) (drop l.m l.members)) l.initial.turns l.initial.sum l.turns l.sum
+    × Going (calls_from (seen l.plan l.counts [] [] [] [] l.positions) l.numbers l.island l.group (marks_only l.initial.marks l.count) l.members)
+    (calls_from (seen l.plan l.counts [] [] [] [] l.positions) l.numbers l.island l.group (marks_only l.marks l.count) (drop l.m l.members)) l.initial.turns l.initial.sum l.turns l.sum
 
 abbrev pub decreases-loop-m : goal.decreases-loop-m
 decreases-loop-m l = length l.members - l.m

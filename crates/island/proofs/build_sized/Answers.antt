@@ -3,8 +3,8 @@ use Rattle.std.proofs.Common.{ℕ, List, Bool, true, false, ◌≡◌, length, r
 use mathlib.Core.Bool.{not, cond}
 use Rattle.lists.specs.Basics.{range}
 use Rattle.lists.proofs.Laws.{clashes}
-use Rattle.frame.specs.Frames.{Frame, frame_with, constraints, allSound, none}
-use Rattle.island_sets.specs.Sets.{rootOf}
+use Rattle.frame.specs.Frames.{Frame, frame_with, constraints, all_sound, none}
+use Rattle.island_sets.specs.Sets.{root_of}
 use Rattle.island_sets.specs.Steps.{Sets}
 use Rattle.island_sets.proofs.Starts.{fresh}
 use Rattle.island_joins.specs.Joins.{Joined}
@@ -14,8 +14,8 @@ use Rattle.island.proofs.Whole.{ready, weighed-sets}
 use Rattle.island.proofs.build_sized.Goals as goal
 
 -- each body is alone in the tables that were reset
-alone : (f : Frame) (p₀ s₀ b m j p z : List ℕ) → Sized f p₀ b m j → length s₀ ≡ length p₀ → p ≡ range (length p₀) → z ≡ replicate (length s₀) 1 → Sets p z × (rootOf p ≡ (λ (x : ℕ). x))
-alone f p₀ s₀ b m j p z h e = fresh (length p₀) (length s₀) p z (omega (arith, h.few, h.long-parents)) e
+alone : (f : Frame) (p₀ s₀ b m j p z : List ℕ) → Sized f p₀ b m j → length s₀ ≡ length p₀ → p ≡ range (length p₀) → z ≡ replicate (length s₀) 1 → Sets p z × (root_of p ≡ (λ (x : ℕ). x))
+alone f p₀ s₀ b m j p z h e = fresh (length p₀) (length s₀) p z (omega (arith, h.few, h.long_parents)) e
 
 pub join_frame-requires-clause-fit : goal.join_frame-requires-clause-fit
 join_frame-requires-clause-fit c =
@@ -25,12 +25,12 @@ join_frame-requires-clause-fit c =
     let q = c.requires in
     record {
       sets = (alone f a.parents.now a.sizes.now a.body_islands.now a.manifold_islands.now a.joint_islands.now r.new.parents r.new.sizes q.sized q.sizes_len r.ensures.0 r.ensures.1).0;
-      long-parents = r.auto.parents ∙ q.sized.long-parents;
-      long-bodies = r.auto.body_islands ∙ q.sized.long-bodies;
+      long_parents = r.auto.parents ∙ q.sized.long_parents;
+      long_bodies = r.auto.body_islands ∙ q.sized.long_bodies;
     }
 
 pub returns-then-not-join_frame : goal.returns-then-not-join_frame
-unfolding allSound
+unfolding all_sound
 returns-then-not-join_frame c =
     let a = c.args in
     let f = frame_with a.body_types.now a.manifolds.now a.joint_ends.now a.joint_counts.now a.enabled.now in
@@ -38,18 +38,18 @@ returns-then-not-join_frame c =
     let j = c.join_frame in
     let r = c.reset in
     let q = c.reset-then-not-join_frame in
-    let bad : allSound f ≡ false = sym j.ensures.answer ∙ c.if-not-join_frame.true in
+    let bad : all_sound f ≡ false = sym j.ensures.answer ∙ c.if-not-join_frame.true in
     record {
       refusal = ap (λ (t : Bool). cond t 0 7) (sym bad);
       refused = ap not (sym bad);
-      accepted = λ e. clashes (allSound f) e bad;
+      accepted = λ e. clashes (all_sound f) e bad;
       blank = λ e. record {
         count = refl;
-        parents = q.ensures.0 ∙ ap range (j.auto.parents ∙ r.auto.parents ∙ h.sized.long-parents);
-        sizes = q.ensures.1 ∙ ap (λ (n : ℕ). replicate n 1) (j.auto.sizes ∙ r.auto.sizes ∙ h.sizes_len ∙ h.sized.long-parents);
-        body-labels = q.ensures.2 ∙ ap (λ (n : ℕ). replicate n none) (j.auto.body_islands ∙ r.auto.body_islands ∙ h.sized.long-bodies);
-        manifold-labels = c.fill.ensures ∙ ap (λ (n : ℕ). replicate n none) h.sized.long-manifolds;
-        joint-labels = c.fill-then-not-join_frame.ensures ∙ ap (λ (n : ℕ). replicate n none) h.sized.long-joints;
+        parents = q.ensures.0 ∙ ap range (j.auto.parents ∙ r.auto.parents ∙ h.sized.long_parents);
+        sizes = q.ensures.1 ∙ ap (λ (n : ℕ). replicate n 1) (j.auto.sizes ∙ r.auto.sizes ∙ h.sizes_len ∙ h.sized.long_parents);
+        body_labels = q.ensures.2 ∙ ap (λ (n : ℕ). replicate n none) (j.auto.body_islands ∙ r.auto.body_islands ∙ h.sized.long_bodies);
+        manifold_labels = c.fill.ensures ∙ ap (λ (n : ℕ). replicate n none) h.sized.long_manifolds;
+        joint_labels = c.fill-then-not-join_frame.ensures ∙ ap (λ (n : ℕ). replicate n none) h.sized.long_joints;
       };
     }
 
@@ -58,19 +58,19 @@ module _ (f : Frame) (p₀ s₀ b₀ m j p₁ s₁ b₁ p s b : List ℕ) (h : S
     (ep : p₁ ≡ range (length p₀)) (es : s₁ ≡ replicate (length s₀) 1) (eb : b₁ ≡ replicate (length b₀) none)
     (lp : length p ≡ length p₀) (lb : length b ≡ length b₀) (w : Joined f.types (constraints f) p₁ b₁ p s b) where
   fits : Sized f p b m j
-  fits = record { few = h.few; long-parents = lp ∙ h.long-parents; long-bodies = lb ∙ h.long-bodies; long-manifolds = h.long-manifolds; long-joints = h.long-joints }
+  fits = record { few = h.few; long_parents = lp ∙ h.long_parents; long_bodies = lb ∙ h.long_bodies; long_manifolds = h.long_manifolds; long_joints = h.long_joints }
 
-  roots : rootOf p₁ ≡ (λ (x : ℕ). x)
+  roots : root_of p₁ ≡ (λ (x : ℕ). x)
   roots = (alone f p₀ s₀ b₀ m j p₁ s₁ h e ep es).1
 
-  joined-ready : allSound f ≡ true → Ready f p b m j
-  joined-ready = ready f p₁ b₁ p s b m j (length b₀) roots eb fits w
+  joined_ready : all_sound f ≡ true → Ready f p b m j
+  joined_ready = ready f p₁ b₁ p s b m j (length b₀) roots eb fits w
 
-  joined-sets : WeighedSets f p s
-  joined-sets = weighed-sets f p₁ b₁ p s b m j (length b₀) roots eb fits w
+  joined_sets : WeighedSets f p s
+  joined_sets = weighed-sets f p₁ b₁ p s b m j (length b₀) roots eb fits w
 
 pub label_frame-requires-clause-ready : goal.label_frame-requires-clause-ready
-unfolding allSound
+unfolding all_sound
 label_frame-requires-clause-ready c =
     let a = c.args in
     let f = frame_with a.body_types.now a.manifolds.now a.joint_ends.now a.joint_counts.now a.enabled.now in
@@ -78,11 +78,11 @@ label_frame-requires-clause-ready c =
     let r = c.reset in
     let j = c.join_frame in
     let ok = c.if-not-join_frame.false in
-    joined-ready f a.parents.now a.sizes.now a.body_islands.now a.manifold_islands.now a.joint_islands.now r.new.parents r.new.sizes r.new.body_islands j.new.parents j.new.sizes j.new.body_islands
+    joined_ready f a.parents.now a.sizes.now a.body_islands.now a.manifold_islands.now a.joint_islands.now r.new.parents r.new.sizes r.new.body_islands j.new.parents j.new.sizes j.new.body_islands
     h.sized h.sizes_len r.ensures.0 r.ensures.1 r.ensures.2 (j.auto.parents ∙ r.auto.parents) (j.auto.body_islands ∙ r.auto.body_islands) (j.ensures.joined ok) (sym j.ensures.answer ∙ ok)
 
 pub returns : goal.returns
-unfolding allSound
+unfolding all_sound
 returns c =
     let a = c.args in
     let f = frame_with a.body_types.now a.manifolds.now a.joint_ends.now a.joint_counts.now a.enabled.now in
@@ -90,12 +90,12 @@ returns c =
     let r = c.reset in
     let j = c.join_frame in
     let ok = c.if-not-join_frame.false in
-    let passed : allSound f ≡ true = sym j.ensures.answer ∙ ok in
-    let sets = joined-sets f a.parents.now a.sizes.now a.body_islands.now a.manifold_islands.now a.joint_islands.now r.new.parents r.new.sizes r.new.body_islands j.new.parents j.new.sizes j.new.body_islands
+    let passed : all_sound f ≡ true = sym j.ensures.answer ∙ ok in
+    let sets = joined_sets f a.parents.now a.sizes.now a.body_islands.now a.manifold_islands.now a.joint_islands.now r.new.parents r.new.sizes r.new.body_islands j.new.parents j.new.sizes j.new.body_islands
     h.sized h.sizes_len r.ensures.0 r.ensures.1 r.ensures.2 (j.auto.parents ∙ r.auto.parents) (j.auto.body_islands ∙ r.auto.body_islands) (j.ensures.joined ok) in
     record {
       refusal = ap (λ (t : Bool). cond t 0 7) (sym passed);
       refused = ap not (sym passed);
       accepted = λ e. (sets, c.label_frame.ensures);
-      blank = λ e. clashes (allSound f) passed e;
+      blank = λ e. clashes (all_sound f) passed e;
     }

@@ -1,7 +1,7 @@
 -- `island_joins::join_dynamic` meets its contract: two bytes are 2 and 2 exactly if they make the number 514; such a pair has one edge, and any other none.
 use Rattle.std.proofs.Common.{ℕ, length, ap, ◌∙◌}
-use Rattle.island_sets.specs.Sets.{rootOf, hang}
-use Rattle.island_joins.proofs.Joining.{join-off, join-on}
+use Rattle.island_sets.specs.Sets.{root_of, hang}
+use Rattle.island_joins.proofs.Joining.{join_off, join-on}
 use Rattle.island_joins.proofs.join_dynamic.Goals as goal
 
 pub returns-then-types-ne-BOTH_DYNAMIC : goal.returns-then-types-ne-BOTH_DYNAMIC
@@ -9,7 +9,7 @@ returns-then-types-ne-BOTH_DYNAMIC c =
     let a = c.args in
     let u = c.wide in
     let v = c.wide-2 in
-    (c.requires.0, join-off (length a.body_types.now) (rootOf a.parents.now) a.body_types.now a.a a.b u.result v.result u.ensures.0 v.ensures.0 v.ensures.1 c.if-types-ne-BOTH_DYNAMIC.true)
+    (c.requires.0, join_off (length a.body_types.now) (root_of a.parents.now) a.body_types.now a.a a.b u.result v.result u.ensures.0 v.ensures.0 v.ensures.1 c.if-types-ne-BOTH_DYNAMIC.true)
 
 pub returns : goal.returns
 returns c =
@@ -18,6 +18,6 @@ returns c =
     let v = c.wide-2 in
     let n = length a.body_types.now in (
       c.union.ensures.0,
-      c.union.ensures.1 ∙ ap (λ (m : ℕ). hang m (rootOf a.parents.now) a.a a.b) c.requires.1
-          ∙ join-on n (rootOf a.parents.now) a.body_types.now a.a a.b u.result v.result u.ensures.0 v.ensures.0 v.ensures.1 c.if-types-ne-BOTH_DYNAMIC.false,
+      c.union.ensures.1 ∙ ap (λ (m : ℕ). hang m (root_of a.parents.now) a.a a.b) c.requires.1
+          ∙ join-on n (root_of a.parents.now) a.body_types.now a.a a.b u.result v.result u.ensures.0 v.ensures.0 v.ensures.1 c.if-types-ne-BOTH_DYNAMIC.false,
     )

@@ -1,7 +1,7 @@
 -- `island_labels::label_all` meets its contract. The labels so far and those of the constraints to come make up them all.
 use Prim.Native.Nat.{◌-◌, ◌≤◌}
 use lib.ListN.{length, drop}
-use Rattle.frame.specs.Frames.{constraintsOf}
+use Rattle.frame.specs.Frames.{constraints_of}
 use Rattle.island_labels.proofs.Labelling.{Labelling}
 use Rattle.island_labels.proofs.label_all.Given as goal
 
@@ -9,7 +9,7 @@ abbrev pub invariant-loop-k : goal.invariant-loop-k
 invariant-loop-k l = record {
   near : l.i ≤ l.k;
   inside : l.k ≤ length l.pairs;
-  labels : Labelling (constraintsOf l.pairs l.enabled) (constraintsOf (drop l.k l.pairs) (drop l.i l.enabled)) l.body_islands l.initial.labels l.labels l.i;
+  labels : Labelling (constraints_of l.pairs l.enabled) (constraints_of (drop l.k l.pairs) (drop l.i l.enabled)) l.body_islands l.initial.labels l.labels l.i;
 }
 
 abbrev pub decreases-loop-k : goal.decreases-loop-k

@@ -3,9 +3,9 @@ use mathlib.Core.Path.{◌≡◌, sym, ap, ◌∙◌}
 use native.Mathlib.Omega.{arith}
 use lib.ListN.{length, take, drop}
 use Rattle.groups.proofs.Tables.{flatten-zero}
-use Rattle.group_run.proofs.Appends.{going-first, going-room, going_more}
-use Rattle.island_numbers.specs.Numbers.{countsAmong}
-use Rattle.island_run.proofs.Loop.{islands-first, first-ends, part_count, next_start, part-inside, part-few, counts-there, counts-taken, counts-few, ends_next, ends-there, ready, island-next}
+use Rattle.group_run.proofs.Appends.{going_first, going_room, going_more}
+use Rattle.island_numbers.specs.Numbers.{counts_among}
+use Rattle.island_run.proofs.Loop.{islands-first, first-ends, part_count, next_start, part_inside, part-few, counts_there, counts_taken, counts-few, ends_next, ends_there, ready, island_next}
 use Rattle.island_run.proofs.run_islands.Goals as goal
 use Rattle.island_run.proofs.run_islands.Goals.{After-part_end-end, After-count_ends}
 
@@ -14,21 +14,21 @@ below : (c : After-part_end-end) → c.loop-island.start ≤ c.part_end-end.resu
 below c = omega (arith, part_count c.requires.prepared c.loop-island-test.true c.loop-island.invariant.1 c.part_end-end.ensures)
 
 inside : (c : After-part_end-end) → c.part_end-end.result ≤ length c.args.numbers.now
-inside c = part-inside c.requires.prepared c.loop-island-test.true c.loop-island.invariant.1 c.part_end-end.ensures
+inside c = part_inside c.requires.prepared c.loop-island-test.true c.loop-island.invariant.1 c.part_end-end.ensures
 
-counts : (c : After-count_ends) → c.counts_between-part_counts.result.now ≡ countsAmong c.args.counts.now (take (c.part_end-end.result - c.loop-island.start) (drop c.loop-island.start c.args.numbers.now))
-counts c = c.counts_between-part_counts.ensures ∙ counts-taken c.requires.prepared c.loop-island-test.true c.loop-island.invariant.1 c.part_end-end.ensures c.collect.ensures.1
+counts : (c : After-count_ends) → c.counts_between-part_counts.result.now ≡ counts_among c.args.counts.now (take (c.part_end-end.result - c.loop-island.start) (drop c.loop-island.start c.args.numbers.now))
+counts c = c.counts_between-part_counts.ensures ∙ counts_taken c.requires.prepared c.loop-island-test.true c.loop-island.invariant.1 c.part_end-end.ensures c.collect.ensures.1
 
 there : (c : After-count_ends) → c.loop-island.ends_start + c.count_ends.result ≤ length c.collect.new.island_ends
 there c =
-    ends-there c.requires.prepared c.loop-island-test.true c.loop-island.invariant.1 c.part_end-end.ensures
+    ends_there c.requires.prepared c.loop-island-test.true c.loop-island.invariant.1 c.part_end-end.ensures
     (counts c) c.collect.ensures.0 c.loop-island.invariant.2 c.count_ends.ensures
 
 pub loop-island-init : goal.loop-island-init
-loop-island-init c = (omega arith, sym (ap length (flatten-zero _)), first-ends _ _, rw c.no_turns-tally.ensures (going-first (islands-first _ _ _ _ _ _)))
+loop-island-init c = (omega arith, sym (ap length (flatten-zero _)), first-ends _ _, rw c.no_turns-tally.ensures (going_first (islands-first _ _ _ _ _ _)))
 
 pub counts_between-part_counts-requires : goal.counts_between-part_counts-requires
-counts_between-part_counts-requires c = counts-there c.requires.prepared c.loop-island-test.true c.loop-island.invariant.1 c.part_end-end.ensures c.collect.ensures.1
+counts_between-part_counts-requires c = counts_there c.requires.prepared c.loop-island-test.true c.loop-island.invariant.1 c.part_end-end.ensures c.collect.ensures.1
 
 pub count_ends-requires : goal.count_ends-requires
 count_ends-requires c = (
@@ -58,26 +58,26 @@ run_island-tally-requires-clause-ready c =
     ready c.requires.prepared c.loop-island-test.true c.loop-island.invariant.1 c.part_end-end.ensures
     (counts (goal.at.run_island-tally-requires-clause-ready c).After-count_ends) c.collect.ensures.0 c.loop-island.invariant.2 c.count_ends.ensures _ _
     (record {
-      dynamic-bodies = c.loop-island.auto.dynamic_bodies;
+      dynamic_bodies = c.loop-island.auto.dynamic_bodies;
       endpoints = c.loop-island.auto.endpoints;
-      body-offsets = c.loop-island.auto.body_offsets;
-      body-constraints = c.loop-island.auto.body_constraints ∙ c.collect.auto.bounds;
-      scratch-offsets = c.loop-island.auto.scratch_offsets;
-      constraint-colors = c.loop-island.auto.constraint_colors;
-      color-stamps = c.loop-island.auto.color_stamps;
-      body-stamps = c.loop-island.auto.body_stamps;
-      color-offsets = c.loop-island.auto.color_offsets;
-      colored-constraints = c.loop-island.auto.colored_constraints;
-      color-body-offsets = c.loop-island.auto.color_body_offsets;
-      color-bodies = c.loop-island.auto.color_bodies;
-      constraint-body-positions = c.loop-island.auto.constraint_body_positions;
+      body_offsets = c.loop-island.auto.body_offsets;
+      body_constraints = c.loop-island.auto.body_constraints ∙ c.collect.auto.bounds;
+      scratch_offsets = c.loop-island.auto.scratch_offsets;
+      constraint_colors = c.loop-island.auto.constraint_colors;
+      color_stamps = c.loop-island.auto.color_stamps;
+      body_stamps = c.loop-island.auto.body_stamps;
+      color_offsets = c.loop-island.auto.color_offsets;
+      colored_constraints = c.loop-island.auto.colored_constraints;
+      color_body_offsets = c.loop-island.auto.color_body_offsets;
+      color_bodies = c.loop-island.auto.color_bodies;
+      constraint_body_positions = c.loop-island.auto.constraint_body_positions;
     })
     c.loop-island.auto.plan_counts
 
 pub run_island-tally-requires-clause-room : goal.run_island-tally-requires-clause-room
 run_island-tally-requires-clause-room c =
-    going-room c.requires.room c.loop-island.invariant.3 _ _
-    (island-next c.requires.prepared c.loop-island-test.true c.loop-island.invariant.1 c.part_end-end.ensures
+    going_room c.requires.room c.loop-island.invariant.3 _ _
+    (island_next c.requires.prepared c.loop-island-test.true c.loop-island.invariant.1 c.part_end-end.ensures
     (counts (goal.at.run_island-tally-requires-clause-room c).After-count_ends) c.collect.ensures.0 c.loop-island.invariant.2 c.count_ends.ensures _)
 
 pub loop-island-preserved : goal.loop-island-preserved
@@ -87,6 +87,6 @@ loop-island-preserved c =
       next_start c.requires.prepared c.loop-island-test.true c.loop-island.invariant.1 c.part_end-end.ensures,
       ends_next c.requires.prepared c.loop-island-test.true c.loop-island.invariant.1 c.part_end-end.ensures pc c.collect.ensures.0 c.loop-island.invariant.2 c.count_ends.ensures,
       going_more c.requires.room c.loop-island.invariant.3 _ _ _ _
-          (island-next c.requires.prepared c.loop-island-test.true c.loop-island.invariant.1 c.part_end-end.ensures pc c.collect.ensures.0 c.loop-island.invariant.2 c.count_ends.ensures _)
+          (island_next c.requires.prepared c.loop-island-test.true c.loop-island.invariant.1 c.part_end-end.ensures pc c.collect.ensures.0 c.loop-island.invariant.2 c.count_ends.ensures _)
           c.run_island-tally.ensures,
     )

@@ -3,7 +3,7 @@
 use Prim.Native.Nat.{◌-◌, ◌≤◌}
 use mathlib.Core.Path.{◌≡◌}
 use mathlib.Core.List.{◌++◌}
-use Rattle.lists.specs.Basics.{joinMap, rangeFrom}
+use Rattle.lists.specs.Basics.{join_map, range_from}
 use Rattle.turn_table.specs.Turns.{none}
 use Rattle.group_run.proofs.Appends.{Going}
 use Rattle.island_run.specs.Islands.{calls_at, calls_of}
@@ -15,7 +15,7 @@ invariant-loop-island l = (l.island ≤ l.islands)
     × (l.start ≡ start_of l.islands (l.manifold_islands ++ l.joint_islands) l.island)
     × (l.ends_start ≡ ends_before l.counts l.ends l.numbers l.start)
     × Going (calls_of l.types l.flags l.counts l.ends (l.manifold_islands ++ l.joint_islands) l.islands)
-    (joinMap (calls_at l.types l.flags l.counts l.ends (l.manifold_islands ++ l.joint_islands)) (rangeFrom l.island (l.islands - l.island))) l.initial.turns none l.turns l.tally
+    (join_map (calls_at l.types l.flags l.counts l.ends (l.manifold_islands ++ l.joint_islands)) (range_from l.island (l.islands - l.island))) l.initial.turns none l.turns l.tally
 
 abbrev pub decreases-loop-island : goal.decreases-loop-island
 decreases-loop-island l = l.islands - l.island

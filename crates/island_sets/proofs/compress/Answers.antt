@@ -1,16 +1,16 @@
 -- A link set to the root of its body changes no root, and the way goes on from where the link led before, with one link less to go.
 use Rattle.std.proofs.Common.{ℕ, List, ◌<◌, ◌≡◌, length, get_or, set, sym, ap, ◌∙◌, arith}
-use Rattle.island_sets.specs.Sets.{rootOf}
+use Rattle.island_sets.specs.Sets.{root_of}
 use Rattle.island_sets.specs.Steps.{Balanced, Shortened}
-use Rattle.island_sets.proofs.Weights.{shortened, shortened-then}
-use Rattle.island_sets.proofs.Ways.{read-inside, read-root, way-start, way-less, way_on}
+use Rattle.island_sets.proofs.Weights.{shortened, shortened_then}
+use Rattle.island_sets.proofs.Ways.{read_inside, read_root, way_start, way_less, way_on}
 use Rattle.island_sets.proofs.compress.Goals as goal
 
 -- once `start` is linked to the root
-first : (p : List ℕ) (start root : ℕ) → Balanced p × (start < length p) × (root ≡ rootOf p start) → Shortened p (set p start root)
+first : (p : List ℕ) (start root : ℕ) → Balanced p × (start < length p) × (root ≡ root_of p start) → Shortened p (set p start root)
 first p start root h = shortened p h.0 start root h.1 h.2
 
-balanced : (p : List ℕ) (start root : ℕ) → Balanced p × (start < length p) × (root ≡ rootOf p start) → Balanced (set p start root)
+balanced : (p : List ℕ) (start root : ℕ) → Balanced p × (start < length p) × (root ≡ root_of p start) → Balanced (set p start root)
 balanced p start root h = (h.0.0, (first p start root h).sets h.0.0 h.0.1)
 
 pub loop-body-init : goal.loop-body-init
@@ -18,14 +18,14 @@ loop-body-init c =
     let p = c.args.parents.now in
     let b = c.args.start in
     let f = first p b c.args.root c.requires in
-    way-start (set p b c.args.root) c.args.root (get_or p b 0) (omega (arith, f.long, read-inside p c.requires.0 b c.requires.1))
-    (c.requires.2 ∙ sym (read-root p c.requires.0 b c.requires.1) ∙ ap (λ (g : ℕ → ℕ). g (get_or p b 0)) (sym f.roots))
+    way_start (set p b c.args.root) c.args.root (get_or p b 0) (omega (arith, f.long, read_inside p c.requires.0 b c.requires.1))
+    (c.requires.2 ∙ sym (read_root p c.requires.0 b c.requires.1) ∙ ap (λ (g : ℕ → ℕ). g (get_or p b 0)) (sym f.roots))
 
 pub loop-body-smaller : goal.loop-body-smaller
 loop-body-smaller c =
     let a = c.args in
     let l = c.loop-body in
-    omega (arith, way-less (set a.parents.now a.start a.root) (balanced a.parents.now a.start a.root c.requires) a.root l.parents l.body l.invariant c.loop-body-test.true)
+    omega (arith, way_less (set a.parents.now a.start a.root) (balanced a.parents.now a.start a.root c.requires) a.root l.parents l.body l.invariant c.loop-body-test.true)
 
 pub loop-body-preserved : goal.loop-body-preserved
 loop-body-preserved c =
@@ -36,4 +36,4 @@ loop-body-preserved c =
 pub returns : goal.returns
 returns c =
     let a = c.args in
-    shortened-then a.parents.now (set a.parents.now a.start a.root) c.loop-body.parents (first a.parents.now a.start a.root c.requires) c.loop-body.invariant.short
+    shortened_then a.parents.now (set a.parents.now a.start a.root) c.loop-body.parents (first a.parents.now a.start a.root c.requires) c.loop-body.invariant.short

@@ -1,8 +1,8 @@
 -- The next body's number joins what is filled.
 use Rattle.std.proofs.Common.{ℕ, List, ◌+◌, ◌-◌, ◌<◌, ◌++◌, length, take, sym, ap, ◌∙◌, arith}
 use Rattle.std.proofs.Math.ListN.{length-set}
-use Rattle.lists.specs.Basics.{rangeFrom, range}
-use Rattle.lists.proofs.Fills.{fill-turn}
+use Rattle.lists.specs.Basics.{range_from, range}
+use Rattle.lists.proofs.Fills.{fill_turn}
 use Rattle.lists.proofs.Ranges.{range-next}
 use Rattle.island_sets.proofs.fill_self.Goals as goal
 
@@ -13,4 +13,4 @@ loop-body-preserved c =
     let t = l.parents in
     let i = l.body in
     let h : i < n = omega arith in
-    (omega arith, length-set t i i ∙ l.invariant.1, fill-turn t (rangeFrom (i + 1) (n - (i + 1))) (range n) i i c.loop-body-test.true (ap (λ (r : List ℕ). take i t ++ r) (sym (range-next n i h)) ∙ l.invariant.2))
+    (omega arith, length-set t i i ∙ l.invariant.1, fill_turn t (range_from (i + 1) (n - (i + 1))) (range n) i i c.loop-body-test.true (ap (λ (r : List ℕ). take i t ++ r) (sym (range-next n i h)) ∙ l.invariant.2))

@@ -3,11 +3,11 @@ use Prim.Native.Nat.{◌-◌, ◌≤◌}
 use mathlib.Core.Path.{◌≡◌}
 use mathlib.Core.List.{◌++◌}
 use lib.ListN.{length, take}
-use Rattle.lists.specs.Basics.{rangeFrom, range}
+use Rattle.lists.specs.Basics.{range_from, range}
 use Rattle.island_sets.proofs.fill_self.Given as goal
 
 abbrev pub invariant-loop-body : goal.invariant-loop-body
-invariant-loop-body l = (l.body ≤ length l.initial.parents) × (length l.parents ≡ length l.initial.parents) × (take l.body l.parents ++ rangeFrom l.body (length l.initial.parents - l.body) ≡ range (length l.initial.parents))
+invariant-loop-body l = (l.body ≤ length l.initial.parents) × (length l.parents ≡ length l.initial.parents) × (take l.body l.parents ++ range_from l.body (length l.initial.parents - l.body) ≡ range (length l.initial.parents))
 
 abbrev pub decreases-loop-body : goal.decreases-loop-body
 decreases-loop-body l = length l.initial.parents - l.body

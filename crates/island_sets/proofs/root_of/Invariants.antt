@@ -2,11 +2,11 @@
 use Prim.Native.Nat.{◌+◌, ◌<◌}
 use mathlib.Core.Path.{◌≡◌}
 use lib.ListN.{length}
-use Rattle.island_sets.specs.Sets.{rootOf, linksOf}
+use Rattle.island_sets.specs.Sets.{root_of, links_of}
 use Rattle.island_sets.proofs.root_of.Given as goal
 
 abbrev pub invariant-loop-root : goal.invariant-loop-root
-invariant-loop-root l = (l.root < length l.parents) × (rootOf l.parents l.root ≡ rootOf l.parents l.body) × (l.links + linksOf l.parents l.root ≡ linksOf l.parents l.body)
+invariant-loop-root l = (l.root < length l.parents) × (root_of l.parents l.root ≡ root_of l.parents l.body) × (l.links + links_of l.parents l.root ≡ links_of l.parents l.body)
 
 abbrev pub decreases-loop-root : goal.decreases-loop-root
-decreases-loop-root l = linksOf l.parents l.root
+decreases-loop-root l = links_of l.parents l.root

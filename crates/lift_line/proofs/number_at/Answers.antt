@@ -1,5 +1,5 @@
 use Rattle.std.proofs.Common.{sym, arith}
-use Rattle.lift_line.proofs.Numbers.{read_first, read_none, read_fits, read-turn}
+use Rattle.lift_line.proofs.Numbers.{read_first, read_none, read_fits, read_turn}
 use Rattle.lift_line.proofs.number_at.Goals as goal
 
 pub loop-read-init : goal.loop-read-init
@@ -15,4 +15,4 @@ pub overflow_add-value : goal.overflow_add-value
 overflow_add-value c = omega (arith, (read_fits _ _ _ _ _ c.loop-read.invariant _ c.byte_at-byte.ensures.0 (sym c.if-not-is_digit.ensures) c.loop-read-test.true).2)
 
 pub loop-read-preserved : goal.loop-read-preserved
-loop-read-preserved c = read-turn _ _ _ _ _ c.loop-read.invariant _ c.byte_at-byte.ensures.0 (sym c.if-not-is_digit.ensures) c.loop-read-test.true
+loop-read-preserved c = read_turn _ _ _ _ _ c.loop-read.invariant _ c.byte_at-byte.ensures.0 (sym c.if-not-is_digit.ensures) c.loop-read-test.true

@@ -1,5 +1,5 @@
 -- A group's members and bodies are the parts that stand for it, and its members have their positions among its bodies.
-use Rattle.locating.proofs.Settles.{settling-done, members-cut, bodies-cut, group-arranged, group-findable, group-low, settling-more}
+use Rattle.locating.proofs.Settles.{settling_done, members-cut, bodies-cut, group_arranged, group_findable, group_low, settling_more}
 use Rattle.locating.proofs.locate.Goals as goal
 
 pub between-members-requires : goal.between-members-requires
@@ -9,7 +9,7 @@ pub between-bodies-requires : goal.between-bodies-requires
 between-bodies-requires c = bodies-cut c.requires.locatable c.loop-color.color c.loop-color-test.true
 
 pub locate_members-requires-clause-arranged : goal.locate_members-requires-clause-arranged
-locate_members-requires-clause-arranged c = group-arranged c.requires.bounded c.requires.locatable c.loop-color.invariant c.loop-color-test.true c.between-members.ensures c.between-bodies.ensures
+locate_members-requires-clause-arranged c = group_arranged c.requires.bounded c.requires.locatable c.loop-color.invariant c.loop-color-test.true c.between-members.ensures c.between-bodies.ensures
 
 pub locate_members-requires-clause-findable : goal.locate_members-requires-clause-findable
 locate_members-requires-clause-findable c =
@@ -19,12 +19,12 @@ locate_members-requires-clause-findable c =
     let h = c.loop-color-test.true in
     let m = c.between-members.ensures in
     let b = c.between-bodies.ensures in
-    (group-findable w p v h m b, group-low w p v h m b)
+    (group_findable w p v h m b, group_low w p v h m b)
 
 pub loop-color-preserved : goal.loop-color-preserved
 loop-color-preserved c =
     let d = c.locate_members in
-    settling-more c.requires.bounded c.requires.locatable c.loop-color.invariant c.loop-color-test.true c.between-members.ensures c.between-bodies.ensures d.auto.places d.auto.constraint_body_positions d.ensures
+    settling_more c.requires.bounded c.requires.locatable c.loop-color.invariant c.loop-color-test.true c.between-members.ensures c.between-bodies.ensures d.auto.places d.auto.constraint_body_positions d.ensures
 
 pub returns : goal.returns
-returns c = settling-done c.requires.bounded c.requires.locatable c.loop-color.invariant c.loop-color-test.false
+returns c = settling_done c.requires.bounded c.requires.locatable c.loop-color.invariant c.loop-color-test.false

@@ -1,16 +1,16 @@
 -- The places of a member's endpoints lie inside the table, and what is written there touches no other member's.
 use Rattle.lists.specs.Basics.{mem}
 use Rattle.locating.specs.Locates.{PlacesKnown}
-use Rattle.locating.proofs.Locates.{locating-done, member-start, member-all, end-inside, places-many, locating-more}
-use Rattle.locating.proofs.Places.{known-listed, known-few}
+use Rattle.locating.proofs.Locates.{locating_done, member_start, member_all, end_inside, places-many, locating_more}
+use Rattle.locating.proofs.Places.{known_listed, known-few}
 use Rattle.locating.proofs.locate_members.Goals as goal
 use Rattle.locating.proofs.locate_members.Goals.{then-bodies-gt-FEW, else-bodies-gt-FEW}
 
 pub start-start-requires : goal.start-start-requires
-start-start-requires c = member-start c.requires.arranged c.loop-i.i c.loop-i-test.true
+start-start-requires c = member_start c.requires.arranged c.loop-i.i c.loop-i-test.true
 
 pub slice_bounds-locate_part-end : goal.slice_bounds-locate_part-end
-slice_bounds-locate_part-end c = end-inside c.requires.arranged c.loop-i.i c.loop-i-test.true c.loop-i.invariant c.part-ends.ensures c.start-start.ensures
+slice_bounds-locate_part-end c = end_inside c.requires.arranged c.loop-i.i c.loop-i-test.true c.loop-i.invariant c.part-ends.ensures c.start-start.ensures
 
 pub locate_part-requires : goal.locate_part-requires
 locate_part-requires c =
@@ -18,16 +18,16 @@ locate_part-requires c =
     let f = c.requires.findable.0 in
     let h = c.loop-i-test.true in
     let known : PlacesKnown c.args.bodies.now c.if-bodies-gt-FEW.places = elim c.if-bodies-gt-FEW.branch [
-      | then-bodies-gt-FEW b ↦ known-listed c.args.places.now c.requires.findable.1 b.list_places.auto.places b.list_places.ensures b.places-is
+      | then-bodies-gt-FEW b ↦ known_listed c.args.places.now c.requires.findable.1 b.list_places.auto.places b.list_places.ensures b.places-is
       | else-bodies-gt-FEW b ↦ known-few c.args.places.now c.requires.findable.1 b.if-bodies-gt-FEW.false b.places-is
     ] in (
       places-many w c.loop-i.i h c.loop-i.invariant c.part-ends.ensures c.start-start.ensures,
-      record { few = f.few; rising = f.rising; there = member-all w c.loop-i.i h (λ b. mem b c.args.bodies.now) _ c.part-ends.ensures f.there },
+      record { few = f.few; rising = f.rising; there = member_all w c.loop-i.i h (λ b. mem b c.args.bodies.now) _ c.part-ends.ensures f.there },
       known,
     )
 
 pub loop-i-preserved : goal.loop-i-preserved
-loop-i-preserved c = locating-more c.requires.arranged c.loop-i.i c.loop-i-test.true c.loop-i.invariant c.part-ends.ensures c.start-start.ensures _ c.locate_part.ensures
+loop-i-preserved c = locating_more c.requires.arranged c.loop-i.i c.loop-i-test.true c.loop-i.invariant c.part-ends.ensures c.start-start.ensures _ c.locate_part.ensures
 
 pub returns : goal.returns
-returns c = locating-done c.loop-i.invariant c.loop-i-test.false
+returns c = locating_done c.loop-i.invariant c.loop-i-test.false

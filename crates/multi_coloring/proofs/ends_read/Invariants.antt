@@ -3,12 +3,12 @@ use Prim.Native.Nat.{◌+◌, ◌-◌, ◌*◌, ◌≤◌}
 use mathlib.Core.Path.{◌≡◌}
 use mathlib.Core.List.{map}
 use lib.ListN.{length, drop}
-use Rattle.frame.specs.Frames.{endCount}
+use Rattle.frame.specs.Frames.{end_count}
 use Rattle.multi_coloring.specs.Counts.{count_read}
 use Rattle.multi_coloring.proofs.ends_read.Given as goal
 
 abbrev pub invariant-loop-constraint : goal.invariant-loop-constraint
-invariant-loop-constraint l = (l.constraint ≤ length l.counts) × (l.sum ≤ 4 * l.constraint) × (l.sum + endCount (map count_read (drop l.constraint l.counts)) ≡ endCount (map count_read l.counts))
+invariant-loop-constraint l = (l.constraint ≤ length l.counts) × (l.sum ≤ 4 * l.constraint) × (l.sum + end_count (map count_read (drop l.constraint l.counts)) ≡ end_count (map count_read l.counts))
 
 abbrev pub decreases-loop-constraint : goal.decreases-loop-constraint
 decreases-loop-constraint l = length l.counts - l.constraint

@@ -5,7 +5,7 @@ use native.Mathlib.Omega.{arith}
 use lib.ListN.{length, take, drop, length-drop}
 use lib.Seq.{length-take-le}
 use Rattle.std.proofs.lemmas.List.{take_all}
-use Rattle.multi_coloring.proofs.Lookups.{four-copied}
+use Rattle.multi_coloring.proofs.Lookups.{four_copied}
 use Rattle.multi_coloring.proofs.places_at.Goals as goal
 
 pub returns-clause-places : goal.returns-clause-places
@@ -14,4 +14,4 @@ returns-clause-places c =
     let rest = drop c.args.start table in
     let inside : c.args.count ≤ length rest = omega (arith, length-drop c.args.start table, c.requires.0) in
     let whole : take (length table - c.args.start) rest ≡ rest = take_all (length table - c.args.start) rest (omega (arith, length-drop c.args.start table)) in
-    (rw whole at c.copy.ensures) ∙ four-copied (take c.args.count rest) c.args.count (length-take-le c.args.count rest inside) c.requires.1
+    (rw whole at c.copy.ensures) ∙ four_copied (take c.args.count rest) c.args.count (length-take-le c.args.count rest inside) c.requires.1

@@ -5,17 +5,17 @@ use mathlib.Core.List.{List, map}
 use native.Mathlib.Omega.{arith}
 use lib.ListN.{get_or, length, length-map}
 use borrow.Author.Tests.{eqb-true, eqb-false}
-use Rattle.lists.proofs.Laws.{getD-map-lt}
+use Rattle.lists.proofs.Laws.{get_or-map-lt}
 use Rattle.plan_questions.proofs.Scans.{same_stop, same_turn}
 use Rattle.multi_coloring.specs.Counts.{count_read}
 use Rattle.multi_coloring.proofs.same_counts.Goals as goal
 
 module _ (remembered : List ℕ) (i : ℕ) (h : i < length remembered) where
-  read-inside : i < length (map count_read remembered)
-  read-inside = omega (arith, length-map remembered count_read)
+  read_inside : i < length (map count_read remembered)
+  read_inside = omega (arith, length-map remembered count_read)
 
   read-at : get_or (map count_read remembered) i 0 ≡ count_read (get_or remembered i 0)
-  read-at = getD-map-lt count_read remembered i 0 0 h
+  read-at = get_or-map-lt count_read remembered i 0 0 h
 
 pub returns-then-not-same_count : goal.returns-then-not-same_count
 returns-then-not-same_count c =
@@ -23,7 +23,7 @@ returns-then-not-same_count c =
     let remembered = c.args.remembered.now in
     let h : i < length remembered = omega arith in
     let ne = eqb-false _ _ (sym c.same_count.ensures ∙ c.if-not-same_count.true) in
-    sym (same_stop c.args.counts.now (map count_read remembered) i c.loop-constraint-test.true (read-inside remembered i h) (λ z. ne (z ∙ read-at remembered i h))) ∙ c.loop-constraint.invariant.1
+    sym (same_stop c.args.counts.now (map count_read remembered) i c.loop-constraint-test.true (read_inside remembered i h) (λ z. ne (z ∙ read-at remembered i h))) ∙ c.loop-constraint.invariant.1
 
 pub loop-constraint-preserved : goal.loop-constraint-preserved
 loop-constraint-preserved c =
@@ -31,4 +31,4 @@ loop-constraint-preserved c =
     let remembered = c.args.remembered.now in
     let h : i < length remembered = omega arith in
     let e = eqb-true _ _ (sym c.same_count.ensures ∙ c.if-not-same_count.false) in
-    (omega arith, same_turn c.args.counts.now (map count_read remembered) i c.loop-constraint-test.true (read-inside remembered i h) (e ∙ sym (read-at remembered i h)) ∙ c.loop-constraint.invariant.1)
+    (omega arith, same_turn c.args.counts.now (map count_read remembered) i c.loop-constraint-test.true (read_inside remembered i h) (e ∙ sym (read-at remembered i h)) ∙ c.loop-constraint.invariant.1)

@@ -1,19 +1,19 @@
 -- `update_refusal`: the tests are the questions, in their order.
 use mathlib.Core.Path.{sym, ◌∙◌}
-use Rattle.multi_coloring.specs.Counts.{multiUpdateRefusal}
+use Rattle.multi_coloring.specs.Counts.{multi_update_refusal}
 use Rattle.multi_coloring.proofs.Questions.{sound-counted}
 use Rattle.multi_coloring.proofs.update_refusal.Goals as goal
 
 pub returns-then-not-flags-counts : goal.returns-then-not-flags-counts
-unfolding multiUpdateRefusal
+unfolding multi_update_refusal
 returns-then-not-flags-counts c = rw c.if-not-flags-counts.true
 
 pub returns-then-not-counts_fill : goal.returns-then-not-counts_fill
-unfolding multiUpdateRefusal
+unfolding multi_update_refusal
 returns-then-not-counts_fill c = rw (c.if-not-flags-counts.false, sym c.counts_fill.ensures, c.if-not-counts_fill.true)
 
 pub returns-then-not-at_most-counts_known : goal.returns-then-not-at_most-counts_known
-unfolding multiUpdateRefusal
+unfolding multi_update_refusal
 returns-then-not-at_most-counts_known c = rw (
   c.if-not-flags-counts.false,
   sym c.counts_fill.ensures,
@@ -24,7 +24,7 @@ returns-then-not-at_most-counts_known c = rw (
 )
 
 pub returns-then-not-room : goal.returns-then-not-room
-unfolding multiUpdateRefusal
+unfolding multi_update_refusal
 returns-then-not-room c = rw (
   c.if-not-flags-counts.false,
   sym c.counts_fill.ensures,
@@ -36,7 +36,7 @@ returns-then-not-room c = rw (
 )
 
 pub returns-then-not-all_fit : goal.returns-then-not-all_fit
-unfolding multiUpdateRefusal
+unfolding multi_update_refusal
 returns-then-not-all_fit c = rw (
   c.if-not-flags-counts.false,
   sym c.counts_fill.ensures,
@@ -50,7 +50,7 @@ returns-then-not-all_fit c = rw (
 )
 
 pub returns : goal.returns
-unfolding multiUpdateRefusal
+unfolding multi_update_refusal
 returns c = rw (
   c.if-not-flags-counts.false,
   sym c.counts_fill.ensures,

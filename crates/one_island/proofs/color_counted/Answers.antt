@@ -1,6 +1,6 @@
 -- `color_counted`: the same of constraints that have a count each.
-use Rattle.one_island.proofs.Plans.{counts-colored}
+use Rattle.one_island.proofs.Plans.{counts_colored}
 use Rattle.one_island.proofs.color_counted.Goals as goal
 
 pub returns : goal.returns
-returns c = counts-colored _ _ _ _ _ _ _ c.requires.ready c.requires.some _ _ _ _ c.new-fresh.ensures c.update-answer.ensures c.plan_after.ensures c.numbers_of.ensures
+returns c = counts_colored _ _ _ _ _ _ _ c.requires.ready c.requires.some _ _ _ _ c.new-fresh.ensures c.update-answer.ensures c.plan_after.ensures c.numbers_of.ensures

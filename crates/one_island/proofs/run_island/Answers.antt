@@ -28,7 +28,7 @@ run_groups-requires-clause-countable c =
       constraints = c.color_island-plan.ensures.constraints;
       few = k.few;
       known = k.known;
-      bounds-of = c.bound_counts.ensures;
+      bounds_of = c.bound_counts.ensures;
       long = omega (arith, c.bound_counts.auto.bounds, length-take-le _ _ (roomy (goal.at.run_groups-requires-clause-countable c).After-color_island-plan));
       inside = omega (arith, k.positions, c.color_island-plan.auto.constraint_body_positions);
     }

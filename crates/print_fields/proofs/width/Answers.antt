@@ -1,7 +1,7 @@
 use mathlib.Core.Path.{ap}
 use lib.ListN.{length, length-append}
 use native.Mathlib.Omega.{arith}
-use Rattle.print_fields.proofs.Digits.{decimal-last, decimal-one, decimal-few}
+use Rattle.print_fields.proofs.Digits.{decimal_last, decimal-one, decimal-few}
 use Rattle.print_fields.proofs.width.Goals as goal
 
 pub overflow_add-digits : goal.overflow_add-digits
@@ -9,7 +9,7 @@ overflow_add-digits c = omega (arith, decimal-few c.args.n, c.loop-rest.invarian
 
 pub loop-rest-preserved : goal.loop-rest-preserved
 loop-rest-preserved c =
-    let e = decimal-last c.loop-rest.rest (omega (arith, c.ranges.n.fits)) c.loop-rest-test.true in
+    let e = decimal_last c.loop-rest.rest (omega (arith, c.ranges.n.fits)) c.loop-rest-test.true in
     (omega (arith, simp length-append at (ap length e)), omega arith)
 
 pub returns : goal.returns

@@ -2,15 +2,15 @@
 -- are in their table.
 use Rattle.std.proofs.Common.{ap, arith, ◌∙◌}
 use Rattle.run_answer.specs.declared.Report.{Report}
-use Rattle.print_pieces.proofs.Answers.{turns-asked}
-use Rattle.print_pieces.proofs.Pieces.{first-stands, turns_placed}
+use Rattle.print_pieces.proofs.Answers.{turns_asked}
+use Rattle.print_pieces.proofs.Pieces.{first_stands, turns_placed}
 use Rattle.print_pieces.proofs.first_piece.Goals.{then-count-gt0, else-count-gt0}
 use Rattle.print_pieces.proofs.first_piece.Goals as goal
 
 pub place_joints-requires : goal.place_joints-requires
 place_joints-requires c =
     let count = ap (λ (r : Report). r.turns) c.report_of-count.ensures ∙ c.answer_to-answer.ensures.turns in
-    (turns-asked c.args.frame.now (omega (arith, count, c.if-count-gt0.true)), omega arith)
+    (turns_asked c.args.frame.now (omega (arith, count, c.if-count-gt0.true)), omega arith)
 
 pub put_lines-requires : goal.put_lines-requires
 put_lines-requires c =
@@ -27,5 +27,5 @@ returns-clause-piece c =
     let n = c.report_of-count in
     let f = c.put_first_line-line in
     let l = c.put_lines in
-    first-stands c.args.frame.now c.args.turns.now a.new.turns c.args.out.now f.new.out l.new.out a.result n.result.turns f.result l.result
+    first_stands c.args.frame.now c.args.turns.now a.new.turns c.args.out.now f.new.out l.new.out a.result n.result.turns f.result l.result
     (omega arith) f.auto.out a.ensures (ap (λ (r : Report). r.turns) n.ensures) f.ensures l.ensures.0 l.ensures.1

@@ -1,6 +1,6 @@
 -- The lines stand at the buffer's start.
 use native.Mathlib.Omega.{arith}
-use Rattle.print_pieces.proofs.Pieces.{next-stands, turns_placed}
+use Rattle.print_pieces.proofs.Pieces.{next_stands, turns_placed}
 use Rattle.print_pieces.proofs.next_piece.Goals as goal
 
 pub put_lines-requires : goal.put_lines-requires
@@ -9,4 +9,4 @@ put_lines-requires c = turns_placed c.args.frame.now c.args.turns.now c.args.pla
 pub returns : goal.returns
 returns c =
     let l = c.put_lines in
-    next-stands c.args.frame.now c.args.turns.now c.args.out.now l.new.out c.args.piece l.result (omega arith) l.ensures.0 l.ensures.1
+    next_stands c.args.frame.now c.args.turns.now c.args.out.now l.new.out c.args.piece l.result (omega arith) l.ensures.0 l.ensures.1

@@ -1,12 +1,12 @@
 -- `printing::put_turn` meets its contract: the endpoints of a constraint of the file stand where `ends_of` says.
 use native.Mathlib.Omega.{arith}
-use Rattle.printing.proofs.Turns.{no-constraint, with_ends}
+use Rattle.printing.proofs.Turns.{no_constraint, with_ends}
 use Rattle.printing.proofs.put_turn.Goals as goal
 
 pub returns-then-constraint_count-constraint : goal.returns-then-constraint_count-constraint
 returns-then-constraint_count-constraint c =
     let a = c.args in
-    no-constraint a.frame.now a.out.now a.at a.island a.group a.constraint (omega (arith, c.constraint_count.ensures, c.if-constraint_count-constraint.true))
+    no_constraint a.frame.now a.out.now a.at a.island a.group a.constraint (omega (arith, c.constraint_count.ensures, c.if-constraint_count-constraint.true))
 
 pub returns : goal.returns
 returns c =

@@ -5,18 +5,18 @@ use mathlib.Core.List.{[], ◌++◌}
 use native.Mathlib.Omega.{arith}
 use borrow.Author.Tests.{leb-true}
 use lib.ListN.{length}
-use Rattle.frame.specs.Files.{halvesFrom}
-use Rattle.schedules.specs.Print.{turnLine}
+use Rattle.frame.specs.Files.{halves_from}
+use Rattle.schedules.specs.Print.{turn_line}
 use Rattle.print_fields.specs.Puts.{longest}
 use Rattle.print_fields.proofs.Puts.{Wrote, wrote_none, wrote_then}
 use Rattle.print_fields.proofs.Fields.{number, number_short}
-use Rattle.printing.proofs.Lines.{no_room, with-room, ends_line, ends-short, turn-fields}
+use Rattle.printing.proofs.Lines.{no_room, with_room, ends_line, ends_short, turn_fields}
 use Rattle.printing.proofs.put_turn_line.Goals as goal
 
 pub returns-then-not-line_fits : goal.returns-then-not-line_fits
 returns-then-not-line_fits c =
     let a = c.args in
-    no_room (turnLine a.island a.group a.constraint (halvesFrom a.frame.now a.ends.at a.ends.count)) a.out.now a.at (sym c.if-not-line_fits.ensures)
+    no_room (turn_line a.island a.group a.constraint (halves_from a.frame.now a.ends.at a.ends.count)) a.out.now a.at (sym c.if-not-line_fits.ensures)
 
 pub put_number-with_group-requires : goal.put_number-with_group-requires
 put_number-with_group-requires c =
@@ -67,9 +67,9 @@ returns c =
     let constraint : Wrote (ni ++ nk ++ nn) a.out.now a.at r.new.out r.result 84 =
     wrote_then (ni ++ nk) nn a.out.now q.new.out r.new.out a.at q.result r.result 21 84 group r.ensures (number_short a.constraint 32)
     in
-    let short = ends-short a.frame.now a.ends.at a.ends.count c.requires.some.0 in
+    let short = ends_short a.frame.now a.ends.at a.ends.count c.requires.some.0 in
     let ends : Wrote (ni ++ nk ++ nn ++ es) a.out.now a.at s.new.out s.result 0 =
     wrote_then (ni ++ nk ++ nn) es a.out.now r.new.out s.new.out a.at r.result s.result 84 0 constraint s.ensures (omega (arith, short, c.requires.some.1))
     in
-    with-room (ni ++ nk ++ nn ++ es) (turnLine a.island a.group a.constraint (halvesFrom a.frame.now a.ends.at a.ends.count)) a.out.now a.at s.new.out s.result (sym c.if-not-line_fits.ensures)
-    (turn-fields a.frame.now a.ends.at a.ends.count c.requires.some.0 a.island a.group a.constraint) ends.put
+    with_room (ni ++ nk ++ nn ++ es) (turn_line a.island a.group a.constraint (halves_from a.frame.now a.ends.at a.ends.count)) a.out.now a.at s.new.out s.result (sym c.if-not-line_fits.ensures)
+    (turn_fields a.frame.now a.ends.at a.ends.count c.requires.some.0 a.island a.group a.constraint) ends.put

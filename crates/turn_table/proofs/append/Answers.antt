@@ -1,7 +1,7 @@
 -- `append`: a take that is refused adds nothing.
 use borrow.Author.Tests.{ne_eqb}
-use Rattle.turn_table.proofs.Turns.{appended-none}
+use Rattle.turn_table.proofs.Turns.{appended_none}
 use Rattle.turn_table.proofs.append.Goals as goal
 
 pub returns-then-taken-ne0 : goal.returns-then-taken-ne0
-returns-then-taken-ne0 c = rw (ne_eqb _ _ c.if-taken-ne0.true) (appended-none _ _)
+returns-then-taken-ne0 c = rw (ne_eqb _ _ c.if-taken-ne0.true) (appended_none _ _)

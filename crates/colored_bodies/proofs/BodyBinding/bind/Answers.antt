@@ -1,6 +1,6 @@
 -- The tables are filled as far as the count goes; a refused bind has a count of 0, and fills nothing.
 use mathlib.Core.Path.{refl, ◌∙◌}
-use Rattle.colored_bodies.proofs.Fills.{fillable, bound-is, list-padded}
+use Rattle.colored_bodies.proofs.Fills.{fillable, bound_is, list_padded}
 use Rattle.colored_bodies.proofs.BodyBinding.bind.Goals as goal
 
 pub copy-requires : goal.copy-requires
@@ -16,4 +16,4 @@ returns c =
     let asked = c.bind_refusal-refusal.ensures in
     let counted = c.bound_count-count.ensures in
     let h = fillable _ _ _ _ asked counted in
-    record { refusal = asked; binding = rw (c.copy.ensures ∙ list-padded _ _ h.listed h.room, c.mark_bodies.ensures) (bound-is _ _ _ _ asked counted) }
+    record { refusal = asked; binding = rw (c.copy.ensures ∙ list_padded _ _ h.listed h.room, c.mark_bodies.ensures) (bound_is _ _ _ _ asked counted) }

@@ -1,23 +1,23 @@
 -- `body_positions_for_constraint`: the three tests are the questions, in their order.
 use borrow.Author.Tests.{le-leb, lt-leb, lt-ltb, le-ltb}
-use Rattle.plan_questions.specs.Plans.{positionsRefusal}
+use Rattle.plan_questions.specs.Plans.{positions_refusal}
 use Rattle.constraint_coloring.proofs.ConstraintColoring.body_positions_for_constraint.Goals as goal
 
 pub returns-then-self-gt-MAX_PAIRS : goal.returns-then-self-gt-MAX_PAIRS
-unfolding positionsRefusal
+unfolding positions_refusal
 returns-then-self-gt-MAX_PAIRS c =
     let a = lt-leb _ _ c.if-self-gt-MAX_PAIRS.true in
     record { refusal = simp a; refused = simp a; values = simp a }
 
 pub returns-then-constraint_body_positions-self : goal.returns-then-constraint_body_positions-self
-unfolding positionsRefusal
+unfolding positions_refusal
 returns-then-constraint_body_positions-self c =
     let a = le-leb _ _ c.if-self-gt-MAX_PAIRS.false in
     let b = lt-leb _ _ c.if-constraint_body_positions-self.true in
     record { refusal = simp (a, b); refused = simp (a, b); values = simp (a, b) }
 
 pub returns-then-self-constraint : goal.returns-then-self-constraint
-unfolding positionsRefusal
+unfolding positions_refusal
 returns-then-self-constraint c =
     let a = le-leb _ _ c.if-self-gt-MAX_PAIRS.false in
     let b = le-leb _ _ c.if-constraint_body_positions-self.false in
@@ -25,7 +25,7 @@ returns-then-self-constraint c =
     record { refusal = simp (a, b, d); refused = simp (a, b, d); values = simp (a, b, d) }
 
 pub returns : goal.returns
-unfolding positionsRefusal
+unfolding positions_refusal
 returns c =
     let a = le-leb _ _ c.if-self-gt-MAX_PAIRS.false in
     let b = le-leb _ _ c.if-constraint_body_positions-self.false in

@@ -3,9 +3,9 @@
 use mathlib.Core.Path.{◌≡◌, refl, sym, ap, ◌∙◌}
 use mathlib.Core.Bool.{Bool}
 use native.Mathlib.Omega.{arith}
-use Rattle.parts.proofs.Parts.{parts-pairs}
-use Rattle.plan_questions.specs.Plans.{Tables, tables_of, roomy_with, updateRefusal}
-use Rattle.constraint_coloring.specs.Calls.{holds, refusalWith}
+use Rattle.parts.proofs.Parts.{parts_pairs}
+use Rattle.plan_questions.specs.Plans.{Tables, tables_of, roomy_with, update_refusal}
+use Rattle.constraint_coloring.specs.Calls.{holds, refusal_with}
 use Rattle.constraint_coloring.proofs.Accepted.{accepted, buildable}
 use Rattle.constraint_coloring.proofs.Updates.{built, refused, unchanged, changed}
 use Rattle.constraint_coloring.proofs.ConstraintColoring.update.Goals as goal
@@ -20,9 +20,9 @@ entry c =
     c.args.constraint_body_positions.now
 
 -- the refusal
-asked : (c : After-update_refusal-refusal) → c.update_refusal-refusal.result ≡ refusalWith (entry c) c.args.flags.now c.args.pairs.now
-unfolding refusalWith roomy_with
-asked c = c.update_refusal-refusal.ensures ∙ ap (λ (room : Bool). updateRefusal c.args.flags.now c.args.pairs.now room) c.roomy-room.ensures
+asked : (c : After-update_refusal-refusal) → c.update_refusal-refusal.result ≡ refusal_with (entry c) c.args.flags.now c.args.pairs.now
+unfolding refusal_with roomy_with
+asked c = c.update_refusal-refusal.ensures ∙ ap (λ (room : Bool). update_refusal c.args.flags.now c.args.pairs.now room) c.roomy-room.ensures
 
 pub returns-then-refusal-ne0 : goal.returns-then-refusal-ne0
 returns-then-refusal-ne0 c =
@@ -33,7 +33,7 @@ pub remembers-requires : goal.remembers-requires
 remembers-requires c =
     let q = (goal.at.remembers-requires c).After-update_refusal-refusal in
     let o = accepted _ _ (entry q) (sym (asked q) ∙ c.if-refusal-ne0.false) in
-    (o.dynamic-bodies, omega (arith, o.even, o.endpoints))
+    (o.dynamic_bodies, omega (arith, o.even, o.endpoints))
 
 pub returns-then-remembers : goal.returns-then-remembers
 unfolding holds
@@ -50,6 +50,6 @@ pub returns : goal.returns
 unfolding holds
 returns c =
     let q = (goal.at.returns c).After-update_refusal-refusal in
-    let e : refusalWith (entry q) q.args.flags.now q.args.pairs.now ≡ 0 = sym (asked q) ∙ c.if-refusal-ne0.false in
+    let e : refusal_with (entry q) q.args.flags.now q.args.pairs.now ≡ 0 = sym (asked q) ∙ c.if-refusal-ne0.false in
     changed _ _ _ (entry q) _ _ e (sym c.remembers.ensures ∙ c.if-remembers.false)
-    (built (entry q) _ (rw (parts-pairs _ _ (accepted _ _ (entry q) e).even) at c.build_plan.ensures) refl refl refl)
+    (built (entry q) _ (rw (parts_pairs _ _ (accepted _ _ (entry q) e).even) at c.build_plan.ensures) refl refl refl)

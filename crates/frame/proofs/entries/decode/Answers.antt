@@ -2,7 +2,7 @@
 use Rattle.std.proofs.Common.{◌≡◌, ℕ, ◌+◌, ◌*◌, ◌-◌, ◌<◌, ◌≤◌, List, ◌++◌, length, take, map, refl, sym, ap, ◌∙◌, arith, length-set}
 use Rattle.lists.proofs.Fills.{whole, fill_end}
 use Rattle.frame.specs.Files.{byte, count_at, entry_end}
-use Rattle.frame.proofs.Walks.{walk-whole, walk-next, entry-turn, ends-long, ends-next-long, ends-none, ends-none-long, places-none, part-long, table-long, table-turn}
+use Rattle.frame.proofs.Walks.{walk_whole, walk_next, entry_turn, ends_long, ends-next_long, ends-none, ends-none_long, places-none, part_long, table_long, table_turn}
 use Rattle.frame.proofs.entries.decode.Goals as goal
 use Rattle.frame.proofs.entries.decode.Goals.{After-loop-j}
 
@@ -14,51 +14,51 @@ loop-j-init c =
     let e : n - 0 ≡ n = whole n in
     record {
       few = omega arith;
-      ends-long = refl;
-      counts-long = c.requires.counts;
-      enabled-long = refl;
+      ends_long = refl;
+      counts_long = c.requires.counts;
+      enabled_long = refl;
       walked = rw e c.requires.walked;
-      room = rw e (omega (arith, c.requires.ends, ends-long bs s n));
+      room = rw e (omega (arith, c.requires.ends, ends_long bs s n));
       ends = rw e;
       counts = rw e;
       enabled = rw e;
     }
 
 pub overflow_add-at : goal.overflow_add-at
-overflow_add-at c = let l = c.loop-j in let w = walk-whole c.args.bytes.now l.at _ (omega (arith, l.invariant.enabled-long, c.loop-j-test.true)) l.invariant.walked in omega (arith, w.begun)
+overflow_add-at c = let l = c.loop-j in let w = walk_whole c.args.bytes.now l.at _ (omega (arith, l.invariant.enabled_long, c.loop-j-test.true)) l.invariant.walked in omega (arith, w.begun)
 
 pub bounds-bytes-at : goal.bounds-bytes-at
-bounds-bytes-at c = let l = c.loop-j in let w = walk-whole c.args.bytes.now l.at _ (omega (arith, l.invariant.enabled-long, c.loop-j-test.true)) l.invariant.walked in omega (arith, w.begun)
+bounds-bytes-at c = let l = c.loop-j in let w = walk_whole c.args.bytes.now l.at _ (omega (arith, l.invariant.enabled_long, c.loop-j-test.true)) l.invariant.walked in omega (arith, w.begun)
 
 pub bounds-bytes-at-in-loop-j : goal.bounds-bytes-at-in-loop-j
-bounds-bytes-at-in-loop-j c = let l = c.loop-j in let w = walk-whole c.args.bytes.now l.at _ (omega (arith, l.invariant.enabled-long, c.loop-j-test.true)) l.invariant.walked in omega (arith, w.begun)
+bounds-bytes-at-in-loop-j c = let l = c.loop-j in let w = walk_whole c.args.bytes.now l.at _ (omega (arith, l.invariant.enabled_long, c.loop-j-test.true)) l.invariant.walked in omega (arith, w.begun)
 
 pub overflow_add-counts : goal.overflow_add-counts
-overflow_add-counts c = let l = c.loop-j in let w = walk-whole c.args.bytes.now l.at _ (omega (arith, l.invariant.enabled-long, c.loop-j-test.true)) l.invariant.walked in omega (arith, w.begun)
+overflow_add-counts c = let l = c.loop-j in let w = walk_whole c.args.bytes.now l.at _ (omega (arith, l.invariant.enabled_long, c.loop-j-test.true)) l.invariant.walked in omega (arith, w.begun)
 
 pub bounds-bytes-at-in-loop-j-2 : goal.bounds-bytes-at-in-loop-j-2
-bounds-bytes-at-in-loop-j-2 c = let l = c.loop-j in let w = walk-whole c.args.bytes.now l.at _ (omega (arith, l.invariant.enabled-long, c.loop-j-test.true)) l.invariant.walked in omega (arith, w.begun)
+bounds-bytes-at-in-loop-j-2 c = let l = c.loop-j in let w = walk_whole c.args.bytes.now l.at _ (omega (arith, l.invariant.enabled_long, c.loop-j-test.true)) l.invariant.walked in omega (arith, w.begun)
 
 pub overflow_add-at-in-loop-j : goal.overflow_add-at-in-loop-j
-overflow_add-at-in-loop-j c = let l = c.loop-j in let w = walk-whole c.args.bytes.now l.at _ (omega (arith, l.invariant.enabled-long, c.loop-j-test.true)) l.invariant.walked in omega (arith, w.begun)
+overflow_add-at-in-loop-j c = let l = c.loop-j in let w = walk_whole c.args.bytes.now l.at _ (omega (arith, l.invariant.enabled_long, c.loop-j-test.true)) l.invariant.walked in omega (arith, w.begun)
 
 pub slice_bounds-decode_halves-end : goal.slice_bounds-decode_halves-end
 slice_bounds-decode_halves-end c =
     let l = c.loop-j in
-    let some : 0 < length c.args.enabled.now - l.j = omega (arith, l.invariant.enabled-long, c.loop-j-test.true) in
-    omega (arith, l.invariant.room, l.invariant.ends-long, ends-next-long c.args.bytes.now l.at (length c.args.enabled.now - l.j) _ some refl, c.wide-count.ensures.0)
+    let some : 0 < length c.args.enabled.now - l.j = omega (arith, l.invariant.enabled_long, c.loop-j-test.true) in
+    omega (arith, l.invariant.room, l.invariant.ends_long, ends-next_long c.args.bytes.now l.at (length c.args.enabled.now - l.j) _ some refl, c.wide-count.ensures.0)
 
 pub decode_halves-requires : goal.decode_halves-requires
 decode_halves-requires c =
     let l = c.loop-j in
     let bs = c.args.bytes.now in
-    let h : l.j < length c.args.enabled.now = omega (arith, l.invariant.enabled-long, c.loop-j-test.true) in
-    let w = walk-whole bs l.at _ (omega arith) l.invariant.walked in
-    let inside : l.k + c.wide-count.result ≤ length l.ends = omega (arith, l.invariant.room, l.invariant.ends-long, ends-next-long bs l.at (length c.args.enabled.now - l.j) _ (omega arith) refl, c.wide-count.ensures.0) in
-    omega (arith, part-long l.ends l.k c.wide-count.result inside, w.ended, c.wide-count.ensures.0)
+    let h : l.j < length c.args.enabled.now = omega (arith, l.invariant.enabled_long, c.loop-j-test.true) in
+    let w = walk_whole bs l.at _ (omega arith) l.invariant.walked in
+    let inside : l.k + c.wide-count.result ≤ length l.ends = omega (arith, l.invariant.room, l.invariant.ends_long, ends-next_long bs l.at (length c.args.enabled.now - l.j) _ (omega arith) refl, c.wide-count.ensures.0) in
+    omega (arith, part_long l.ends l.k c.wide-count.result inside, w.ended, c.wide-count.ensures.0)
 
 pub overflow_add-at-in-loop-j-3 : goal.overflow_add-at-in-loop-j-3
-overflow_add-at-in-loop-j-3 c = let l = c.loop-j in let w = walk-whole c.args.bytes.now l.at _ (omega (arith, l.invariant.enabled-long, c.loop-j-test.true)) l.invariant.walked in omega (arith, w.ended, c.wide-count.ensures.0)
+overflow_add-at-in-loop-j-3 c = let l = c.loop-j in let w = walk_whole c.args.bytes.now l.at _ (omega (arith, l.invariant.enabled_long, c.loop-j-test.true)) l.invariant.walked in omega (arith, w.ended, c.wide-count.ensures.0)
 
 pub loop-j-preserved : goal.loop-j-preserved
 loop-j-preserved c =
@@ -66,22 +66,22 @@ loop-j-preserved c =
     let bs = c.args.bytes.now in
     let n = length c.args.enabled.now in
     let count = c.wide-count.result in
-    let h : l.j < n = omega (arith, l.invariant.enabled-long, c.loop-j-test.true) in
+    let h : l.j < n = omega (arith, l.invariant.enabled_long, c.loop-j-test.true) in
     let some : 0 < n - l.j = omega arith in
     let next : l.at + (2 + 2 * count) ≡ entry_end bs l.at = omega (arith, c.wide-count.ensures.0) in
     let less : n - l.j - 1 ≡ n - (l.j + 1) = omega arith in
-    let long = ends-next-long bs l.at (n - l.j) _ some next in
-    let inside : l.k + count ≤ length l.ends = omega (arith, l.invariant.room, l.invariant.ends-long, long, c.wide-count.ensures.0) in
+    let long = ends-next_long bs l.at (n - l.j) _ some next in
+    let inside : l.k + count ≤ length l.ends = omega (arith, l.invariant.room, l.invariant.ends_long, long, c.wide-count.ensures.0) in
     record {
       few = omega arith;
-      ends-long = table-long bs l.ends _ l.at l.k count c.wide-count.ensures.0 inside c.decode_halves.ensures ∙ l.invariant.ends-long;
-      counts-long = simp length-set l.invariant.counts-long;
-      enabled-long = simp length-set l.invariant.enabled-long;
-      walked = rw less at (walk-next bs l.at (n - l.j) _ some l.invariant.walked next);
+      ends_long = table_long bs l.ends _ l.at l.k count c.wide-count.ensures.0 inside c.decode_halves.ensures ∙ l.invariant.ends_long;
+      counts_long = simp length-set l.invariant.counts_long;
+      enabled_long = simp length-set l.invariant.enabled_long;
+      walked = rw less at (walk_next bs l.at (n - l.j) _ some l.invariant.walked next);
       room = rw (← less) (omega (arith, l.invariant.room, long, c.wide-count.ensures.0));
-      ends = rw (← less) (table-turn bs l.ends _ l.at l.k count c.wide-count.ensures.0 inside c.decode_halves.ensures _ (n - l.j) _ some next l.invariant.ends);
-      counts = entry-turn bs (count_at bs) l.counts _ l.at n l.j _ _ (omega (arith, l.invariant.counts-long)) h refl next l.invariant.counts;
-      enabled = entry-turn bs (byte bs) l.enabled _ l.at n l.j _ _ (omega (arith, l.invariant.enabled-long)) h refl next l.invariant.enabled;
+      ends = rw (← less) (table_turn bs l.ends _ l.at l.k count c.wide-count.ensures.0 inside c.decode_halves.ensures _ (n - l.j) _ some next l.invariant.ends);
+      counts = entry_turn bs (count_at bs) l.counts _ l.at n l.j _ _ (omega (arith, l.invariant.counts_long)) h refl next l.invariant.counts;
+      enabled = entry_turn bs (byte bs) l.enabled _ l.at n l.j _ _ (omega (arith, l.invariant.enabled_long)) h refl next l.invariant.enabled;
     }
 
 pub returns : goal.returns
@@ -89,9 +89,9 @@ returns c =
     let l = c.loop-j in
     let bs = c.args.bytes.now in
     let n = length c.args.enabled.now in
-    let none : n - l.j ≡ 0 = omega (arith, l.invariant.enabled-long, c.loop-j-test.false) in
+    let none : n - l.j ≡ 0 = omega (arith, l.invariant.enabled_long, c.loop-j-test.false) in
     record {
-      ends = fill_end l.ends _ l.k (omega (arith, l.invariant.room, l.invariant.ends-long, ends-none-long bs l.at (n - l.j) none)) (ap (λ (xs : List ℕ). take l.k l.ends ++ xs) (sym (ends-none bs l.at (n - l.j) none)) ∙ l.invariant.ends);
-      counts = fill_end l.counts _ l.j (omega (arith, l.invariant.counts-long, l.invariant.enabled-long, c.loop-j-test.false)) (ap (λ (ps : List ℕ). take l.j l.counts ++ map (count_at bs) ps) (sym (places-none bs l.at (n - l.j) none)) ∙ l.invariant.counts);
-      enabled = fill_end l.enabled _ l.j (omega (arith, l.invariant.enabled-long, c.loop-j-test.false)) (ap (λ (ps : List ℕ). take l.j l.enabled ++ map (byte bs) ps) (sym (places-none bs l.at (n - l.j) none)) ∙ l.invariant.enabled);
+      ends = fill_end l.ends _ l.k (omega (arith, l.invariant.room, l.invariant.ends_long, ends-none_long bs l.at (n - l.j) none)) (ap (λ (xs : List ℕ). take l.k l.ends ++ xs) (sym (ends-none bs l.at (n - l.j) none)) ∙ l.invariant.ends);
+      counts = fill_end l.counts _ l.j (omega (arith, l.invariant.counts_long, l.invariant.enabled_long, c.loop-j-test.false)) (ap (λ (ps : List ℕ). take l.j l.counts ++ map (count_at bs) ps) (sym (places-none bs l.at (n - l.j) none)) ∙ l.invariant.counts);
+      enabled = fill_end l.enabled _ l.j (omega (arith, l.invariant.enabled_long, c.loop-j-test.false)) (ap (λ (ps : List ℕ). take l.j l.enabled ++ map (byte bs) ps) (sym (places-none bs l.at (n - l.j) none)) ∙ l.invariant.enabled);
     }

@@ -3,15 +3,15 @@ use Prim.Native.Nat.{◌≤◌, ◌-◌}
 use mathlib.Core.Path.{◌≡◌}
 use mathlib.Core.List.{◌++◌}
 use lib.ListN.{length, take}
-use Rattle.frame.specs.Files.{entriesRefusal, placesFrom, jointsAt, countJ}
+use Rattle.frame.specs.Files.{entries_refusal, places_from, joints_at, count_j}
 use Rattle.frame.proofs.entries.entry_places.Given as goal
 
 abbrev pub invariant-loop-j : goal.invariant-loop-j
 invariant-loop-j l = record {
   few : l.j ≤ length l.initial.places;
   long : length l.places ≡ length l.initial.places;
-  walked : entriesRefusal l.bytes l.at (length l.initial.places - l.j) ≡ 0;
-  places : take l.j l.places ++ placesFrom l.bytes l.at (length l.initial.places - l.j) ≡ placesFrom l.bytes (jointsAt l.bytes) (countJ l.bytes);
+  walked : entries_refusal l.bytes l.at (length l.initial.places - l.j) ≡ 0;
+  places : take l.j l.places ++ places_from l.bytes l.at (length l.initial.places - l.j) ≡ places_from l.bytes (joints_at l.bytes) (count_j l.bytes);
 }
 
 abbrev pub decreases-loop-j : goal.decreases-loop-j

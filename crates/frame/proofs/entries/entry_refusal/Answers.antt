@@ -1,13 +1,13 @@
 -- `frame::entries::entry_refusal`: the three questions of an entry, in their order.
 use Rattle.std.proofs.Common.{sym, ◌∙◌, arith}
-use Rattle.frame.proofs.Walks.{entry-short, entry-wrong, entry-cut, entry-passes}
+use Rattle.frame.proofs.Walks.{entry_short, entry_wrong, entry-cut, entry-passes}
 use Rattle.frame.proofs.entries.entry_refusal.Goals as goal
 
 pub returns-then-left-lt2 : goal.returns-then-left-lt2
-returns-then-left-lt2 c = entry-short c.args.bytes.now c.args.at (omega arith)
+returns-then-left-lt2 c = entry_short c.args.bytes.now c.args.at (omega arith)
 
 pub returns-then-not-counted : goal.returns-then-not-counted
-returns-then-not-counted c = entry-wrong c.args.bytes.now c.args.at (omega arith) c.wide-count.result c.wide-count.ensures.0 (sym c.counted.ensures ∙ c.if-not-counted.true)
+returns-then-not-counted c = entry_wrong c.args.bytes.now c.args.at (omega arith) c.wide-count.result c.wide-count.ensures.0 (sym c.counted.ensures ∙ c.if-not-counted.true)
 
 pub returns-then-left-count : goal.returns-then-left-count
 returns-then-left-count c = entry-cut c.args.bytes.now c.args.at (omega arith) c.wide-count.result c.wide-count.ensures.0 (sym c.counted.ensures ∙ c.if-not-counted.false) (omega arith)

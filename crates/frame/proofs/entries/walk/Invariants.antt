@@ -3,15 +3,15 @@
 use Prim.Native.Nat.{◌≤◌, ◌+◌}
 use mathlib.Core.Path.{◌≡◌}
 use lib.ListN.{length}
-use Rattle.frame.specs.Files.{entriesRefusal, endsFrom}
+use Rattle.frame.specs.Files.{entries_refusal, ends_from}
 use Rattle.frame.proofs.entries.walk.Given as goal
 
 abbrev pub invariant-loop-left : goal.invariant-loop-left
 invariant-loop-left l = record {
   inside : l.at ≤ length l.bytes;
   few : l.ends ≤ l.at;
-  refusal : entriesRefusal l.bytes l.at l.left ≡ entriesRefusal l.bytes l.from l.joints;
-  ends : l.ends + length (endsFrom l.bytes l.at l.left) ≡ length (endsFrom l.bytes l.from l.joints);
+  refusal : entries_refusal l.bytes l.at l.left ≡ entries_refusal l.bytes l.from l.joints;
+  ends : l.ends + length (ends_from l.bytes l.at l.left) ≡ length (ends_from l.bytes l.from l.joints);
 }
 
 abbrev pub decreases-loop-left : goal.decreases-loop-left

@@ -1,16 +1,16 @@
 -- The endpoints of a constraint lie inside the list, and its answer decides, or is passed by.
 use Rattle.std.proofs.Common.{◌∙◌, sym, arith}
-use Rattle.frame.proofs.Counted.{ends-inside, ends-next, counted-next, counted-end}
+use Rattle.frame.proofs.Counted.{ends_inside, ends-next, counted-next, counted-end}
 use Rattle.frame.proofs.multi.all_fit.Goals as goal
 
 pub overflow_add-k : goal.overflow_add-k
-overflow_add-k c = omega (arith, ends-inside c.args.counts.now c.args.ends.now c.loop-i.i c.requires)
+overflow_add-k c = omega (arith, ends_inside c.args.counts.now c.args.ends.now c.loop-i.i c.requires)
 
 pub offset_bounds-ends-k : goal.offset_bounds-ends-k
-offset_bounds-ends-k c = omega (arith, ends-inside c.args.counts.now c.args.ends.now c.loop-i.i c.requires)
+offset_bounds-ends-k c = omega (arith, ends_inside c.args.counts.now c.args.ends.now c.loop-i.i c.requires)
 
 pub slice_bounds-sound_ends-end : goal.slice_bounds-sound_ends-end
-slice_bounds-sound_ends-end c = omega (arith, ends-inside c.args.counts.now c.args.ends.now c.loop-i.i c.requires)
+slice_bounds-sound_ends-end c = omega (arith, ends_inside c.args.counts.now c.args.ends.now c.loop-i.i c.requires)
 
 pub returns-then-not-sound_ends : goal.returns-then-not-sound_ends
 returns-then-not-sound_ends c =

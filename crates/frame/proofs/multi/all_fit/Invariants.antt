@@ -4,11 +4,11 @@ use Prim.Native.Nat.{◌≤◌, ◌-◌}
 use mathlib.Core.Path.{◌≡◌}
 use lib.ListN.{length, take, drop}
 use Rattle.lists.specs.Basics.{all}
-use Rattle.frame.specs.Frames.{endCount, counted_of, sound}
+use Rattle.frame.specs.Frames.{end_count, counted_of, sound}
 use Rattle.frame.proofs.multi.all_fit.Given as goal
 
 abbrev pub invariant-loop-i : goal.invariant-loop-i
-invariant-loop-i l = (l.i ≤ length l.counts) × (l.k ≡ endCount (take l.i l.counts)) × (all (sound l.bodies) (drop l.i (counted_of l.counts l.ends l.enabled)) ≡ all (sound l.bodies) (counted_of l.counts l.ends l.enabled))
+invariant-loop-i l = (l.i ≤ length l.counts) × (l.k ≡ end_count (take l.i l.counts)) × (all (sound l.bodies) (drop l.i (counted_of l.counts l.ends l.enabled)) ≡ all (sound l.bodies) (counted_of l.counts l.ends l.enabled))
 
 abbrev pub decreases-loop-i : goal.decreases-loop-i
 decreases-loop-i l = length l.counts - l.i

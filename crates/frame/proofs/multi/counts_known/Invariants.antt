@@ -3,11 +3,11 @@ use Prim.Native.Nat.{◌≤◌, ◌-◌}
 use mathlib.Core.Path.{◌≡◌}
 use mathlib.Core.Bool.{◌&&◌}
 use lib.ListN.{length, drop}
-use Rattle.frame.specs.Frames.{countsKnown}
+use Rattle.frame.specs.Frames.{counts_known}
 use Rattle.frame.proofs.multi.counts_known.Given as goal
 
 abbrev pub invariant-loop-i : goal.invariant-loop-i
-invariant-loop-i l = (l.i ≤ length l.counts) × ((l.known && countsKnown (drop l.i l.counts)) ≡ countsKnown l.counts)
+invariant-loop-i l = (l.i ≤ length l.counts) × ((l.known && counts_known (drop l.i l.counts)) ≡ counts_known l.counts)
 
 abbrev pub decreases-loop-i : goal.decreases-loop-i
 decreases-loop-i l = length l.counts - l.i

@@ -2,11 +2,11 @@
 use Prim.Native.Nat.{◌≤◌, ◌-◌, ◌+◌, ◌*◌}
 use mathlib.Core.Path.{◌≡◌}
 use lib.ListN.{length, drop}
-use Rattle.frame.specs.Frames.{endCount}
+use Rattle.frame.specs.Frames.{end_count}
 use Rattle.frame.proofs.multi.sum_counts.Given as goal
 
 abbrev pub invariant-loop-i : goal.invariant-loop-i
-invariant-loop-i l = (l.i ≤ length l.counts) × (l.sum ≤ 256 * l.i) × (l.sum + endCount (drop l.i l.counts) ≡ endCount l.counts)
+invariant-loop-i l = (l.i ≤ length l.counts) × (l.sum ≤ 256 * l.i) × (l.sum + end_count (drop l.i l.counts) ≡ end_count l.counts)
 
 abbrev pub decreases-loop-i : goal.decreases-loop-i
 decreases-loop-i l = length l.counts - l.i

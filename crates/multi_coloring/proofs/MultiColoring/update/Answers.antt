@@ -5,8 +5,8 @@ use mathlib.Core.Bool.{Bool, ◌&&◌}
 use lib.Dec.{leb}
 use lib.ListN.{length}
 use Rattle.plan_questions.specs.Plans.{Tables, tables_of, roomy_with}
-use Rattle.multi_coloring.specs.Counts.{multiUpdateRefusal}
-use Rattle.multi_coloring.specs.Calls.{multiHolds, multiRefusalWith}
+use Rattle.multi_coloring.specs.Counts.{multi_update_refusal}
+use Rattle.multi_coloring.specs.Calls.{multi_holds, multi_refusal_with}
 use Rattle.multi_coloring.proofs.Accepted.{accepted}
 use Rattle.multi_coloring.proofs.Updates.{refused, unchanged, changed}
 use Rattle.multi_coloring.proofs.MultiColoring.update.Goals as goal
@@ -21,9 +21,9 @@ entry c =
     c.args.constraint_body_positions.now
 
 -- the refusal
-asked : (c : After-update_refusal-refusal) → c.update_refusal-refusal.result ≡ multiRefusalWith (entry c) c.args.counts.now c.args.flags.now c.args.ends.now c.args.counts_in.now
-unfolding multiRefusalWith roomy_with
-asked c = c.update_refusal-refusal.ensures ∙ ap (λ (room : Bool). multiUpdateRefusal c.args.flags.now c.args.ends.now c.args.counts_in.now (leb (length c.args.counts_in.now) (length c.args.counts.now) && room)) c.roomy_with.ensures
+asked : (c : After-update_refusal-refusal) → c.update_refusal-refusal.result ≡ multi_refusal_with (entry c) c.args.counts.now c.args.flags.now c.args.ends.now c.args.counts_in.now
+unfolding multi_refusal_with roomy_with
+asked c = c.update_refusal-refusal.ensures ∙ ap (λ (room : Bool). multi_update_refusal c.args.flags.now c.args.ends.now c.args.counts_in.now (leb (length c.args.counts_in.now) (length c.args.counts.now) && room)) c.roomy_with.ensures
 
 pub returns-then-refusal-ne0 : goal.returns-then-refusal-ne0
 returns-then-refusal-ne0 c =
@@ -37,7 +37,7 @@ remembers-requires c =
     (o.tables.0, o.tables.1.0, o.room)
 
 pub returns-then-remembers : goal.returns-then-remembers
-unfolding multiHolds
+unfolding multi_holds
 returns-then-remembers c =
     let q = (goal.at.returns-then-remembers c).After-update_refusal-refusal in
     unchanged _ _ _ _ (entry q) _ (sym (asked q) ∙ c.if-refusal-ne0.false) (sym c.remembers.ensures ∙ c.if-remembers.true)
@@ -46,7 +46,7 @@ pub rebuild-plan-requires : goal.rebuild-plan-requires
 rebuild-plan-requires c = sym (asked (goal.at.rebuild-plan-requires c).After-update_refusal-refusal) ∙ c.if-refusal-ne0.false
 
 pub returns : goal.returns
-unfolding multiHolds
+unfolding multi_holds
 returns c =
     let q = (goal.at.returns c).After-update_refusal-refusal in
     let n = c.rebuild-plan.new in
