@@ -40,6 +40,8 @@ pub fn run_file(file: &[u8], turns: &mut [u16]) -> Answer
     let mut color_body_offsets = [0u16; Frame::MAX_PAIRS + 1];
     let mut color_bodies = [0u16; ENTRIES];
     let mut constraint_body_positions = [0u16; ENTRIES];
+    // The largest tables: none has more than 64 KiB.
+    prove!(2 * pairs.len() <= 65536);
     frame_run::run(
         file,
         &mut parents,
