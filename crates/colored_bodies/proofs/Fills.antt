@@ -1,15 +1,9 @@
 -- A bind fills its tables from the front: the first bodies and their marks, padded. An accepted
 -- list is no longer than the types and stays below them, so each turn finds its type and its place.
-use Prim.Native.Nat.{ℕ, zero, suc, ◌+◌, ◌-◌, ◌≤◌, ◌<◌}
-use mathlib.Core.Path.{◌≡◌, refl, sym, ap, ◌∙◌}
-use mathlib.Core.Bool.{Bool, true, false, ◌&&◌, cond}
-use mathlib.Core.List.{List, [], ◌∷◌, ◌++◌, map, map-append}
-use native.Mathlib.Numerals.{add-one}
-use native.Mathlib.Omega.{arith}
-use lib.Dec.{leb, eqb}
-use lib.ListN.{length, get_or, set, take, drop, replicate, length-append, length-map}
-use lib.Seq.{take-suc, set_at, take_all, append_snoc, length-take-le}
-use borrow.Author.Tests.{leb-true, eqb-true}
+use Rattle.std.proofs.Common.{ℕ, zero, suc, ◌+◌, ◌-◌, ◌≤◌, ◌<◌, ◌≡◌, refl, sym, ap, ◌∙◌, Bool, true, false, ◌&&◌, cond, List, [], ◌∷◌, ◌++◌, map, add-one, arith, leb, eqb, length, get_or, set, take, drop, replicate, length-append, take-suc, take_all, length-take-le, leb-true, eqb-true}
+use mathlib.Core.List.{map-append}
+use Rattle.std.proofs.Math.ListN.{length-map}
+use Rattle.std.proofs.Math.Seq.{set_at, append_snoc}
 use Rattle.lists.specs.Basics.{rises}
 use Rattle.frame.specs.Questions.{types_known}
 use Rattle.colored_bodies.specs.Bindings.{last_below, bind_refusal, mark_of, padded, bound_of, bind_of}

@@ -1,16 +1,10 @@
 -- Takes of two to four positions. Positions that pass questions 5 and 9 are at most four places; in rising order they are still places,
 -- and the take of each in turn is a clause of `refusal_from` and `marks_from`. The flags are read before anything is taken.
-use Prim.Native.Nat.{ℕ, ◌+◌, ◌≤◌, ◌<◌}
-use mathlib.Core.Path.{◌≡◌, refl, sym, ap, ◌∙◌}
-use mathlib.Core.Bool.{Bool, true, false, ◌&&◌, cond}
-use mathlib.Core.List.{List, [], ◌∷◌, ◌++◌, map, map-append, map-map}
-use native.Mathlib.Omega.{arith}
-use native.Mathlib.Numerals.{add-one}
-use lib.Dec.{leb, ltb, eqb}
-use lib.ListN.{length, get_or, set, take, drop, replicate, length-map, drop_of_length-le}
-use lib.Seq.{drop-cons, length-take-le, take_all, take_at}
+use Rattle.std.proofs.Common.{ℕ, ◌+◌, ◌≤◌, ◌<◌, ◌≡◌, refl, sym, ap, ◌∙◌, Bool, true, false, ◌&&◌, cond, List, [], ◌∷◌, ◌++◌, map, arith, add-one, leb, ltb, eqb, length, get_or, set, take, drop, replicate, drop_of_length-le, drop-cons, length-take-le, take_all, take_at, ltb-true, le-leb, leb-true, eqb-true, eq-eqb, ne_eqb}
+use mathlib.Core.List.{map-append, map-map}
+use Rattle.std.proofs.Math.ListN.{length-map}
 use mir.Val.{bool_byte}
-use borrow.Author.Tests.{ltb-true, le-leb, lt-leb, leb-true, eqb-true, eq-eqb, ne_eqb}
+use Rattle.std.proofs.lemmas.Bool.{lt-leb}
 use Rattle.std.proofs.lemmas.Bool.Decides.{nat_tests}
 use Rattle.lists.specs.Basics.{all, one, distinct, sorted, four}
 use Rattle.lists.proofs.Bits.{byte_one}

@@ -1,14 +1,9 @@
 -- Takes from a binding of which some bodies are gone: a take of bodies that are there, at their places, hands exactly them and leaves
 -- the binding with them gone. So takes that share no dynamic body all succeed, in any order.
-use Prim.Native.Nat.{ℕ, ◌+◌, ◌-◌, ◌≤◌, ◌<◌}
-use mathlib.Core.Path.{◌≡◌, refl, sym, ap, ◌∙◌}
-use mathlib.Core.Bool.{Bool, true, false, not, ◌&&◌, ◌||◌, cond}
-use mathlib.Core.List.{List, [], ◌∷◌, ◌++◌, map, map-map}
-use native.Mathlib.Omega.{arith}
-use lib.Dec.{leb, ltb, eqb}
-use lib.ListN.{length, get_or, replicate, length-map, length-append, length-replicate, length-set, get_or-append, get_or-eq_default}
-use lib.Seq.{get_or-set_same, get_or-set_other, ext_get_or, get_or-append-add}
-use borrow.Author.Tests.{eqb-true, eqb-false, ltb-true, ltb-false, lt-ltb, not-true}
+use Rattle.std.proofs.Common.{ℕ, ◌+◌, ◌-◌, ◌≤◌, ◌<◌, ◌≡◌, refl, sym, ap, ◌∙◌, Bool, true, false, not, ◌&&◌, ◌||◌, cond, List, [], ◌∷◌, ◌++◌, map, arith, leb, ltb, eqb, length, get_or, replicate, length-append, length-set, get_or-set_same, get_or-set_other, ext_get_or, get_or-append-add, eqb-true, ltb-true, ltb-false, lt-ltb}
+use mathlib.Core.List.{map-map}
+use Rattle.std.proofs.Math.ListN.{length-map, length-replicate, get_or-append, get_or-eq_default}
+use Rattle.std.proofs.lemmas.Bool.{eqb-false, not-true}
 use Rattle.lists.specs.Basics.{all, count, one, mem, place, distinct, insert, sorted}
 use Rattle.lists.proofs.Laws.{and_left, and_right, and_both, or_right, clashes, by_cases, not-true-false, bool_ext, mem_self, mem-map, map-mem, map_ext_in, get_or-map-lt, place-lt, place_get, get_place, distinct-map, all_intro, all_map, distinct-count, count-distinct, mem-count, count-any, replicate-at}
 use Rattle.frame.specs.Frames.{conflicts, counted}

@@ -1,15 +1,8 @@
 -- A walk for color k, constraint by constraint: what stands in the tables when i of the uncolored constraints are passed. Constraints are
 -- lists of bodies, of whatever length.
-use Prim.Native.Nat.{ℕ, ◌+◌, ◌-◌, ◌≤◌, ◌<◌}
-use mathlib.Core.Path.{◌≡◌, refl, sym, ap, ◌∙◌}
-use mathlib.Core.Bool.{Bool, true, false, not, ◌&&◌, ◌||◌, and-false, or-false, cond}
-use mathlib.Core.List.{List, [], ◌∷◌, ◌++◌, append-nil, append_assoc}
-use native.Mathlib.Numerals.{add-one}
-use native.Mathlib.Omega.{arith}
-use lib.Dec.{leb, ltb, eqb}
-use lib.ListN.{length, get_or, take, set, length-set}
-use lib.Seq.{take-suc, take_all, take-suc-set, take-set-le, get_or-take, get_or-set_other, length-take-le}
-use borrow.Author.Tests.{eqb-true, eq-eqb, ne_eqb, ltb-true, ltb-false, le-leb}
+use Rattle.std.proofs.Common.{ℕ, ◌+◌, ◌-◌, ◌≤◌, ◌<◌, ◌≡◌, refl, sym, ap, ◌∙◌, Bool, true, false, not, ◌&&◌, ◌||◌, cond, List, [], ◌∷◌, ◌++◌, append-nil, append_assoc, add-one, arith, leb, ltb, eqb, length, get_or, take, set, length-set, take-suc, take_all, take-suc-set, get_or-take, get_or-set_other, length-take-le, eqb-true, eq-eqb, ne_eqb, ltb-true, ltb-false, le-leb}
+use Rattle.std.proofs.Math.Bool.{and-false, or-false}
+use Rattle.std.proofs.Math.Seq.{take-set-le}
 use Rattle.lists.specs.Basics.{one, any, all, filter, range, mem}
 use Rattle.lists.proofs.Laws.{by_cases, all_in, get_or-mem, all_get_d, cond-or}
 use Rattle.lists.proofs.Ranges.{filter-append}

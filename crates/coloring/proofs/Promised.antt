@@ -1,13 +1,6 @@
 -- What the promised colors tell a walk: a constraint that has no color below k is promised color k exactly if it conflicts with no
 -- earlier constraint of color k. Constraints are lists of bodies here, of whatever length.
-use Prim.Native.Nat.{ℕ, ◌+◌, ◌≤◌, ◌<◌}
-use mathlib.Core.Path.{◌≡◌, sym, ap, ◌∙◌}
-use mathlib.Core.Bool.{Bool, true, ◌&&◌}
-use mathlib.Core.List.{List, []}
-use native.Mathlib.Omega.{arith}
-use lib.Dec.{leb, ltb, eqb}
-use lib.ListN.{length, get_or, take}
-use borrow.Author.Tests.{eqb-true, eq-eqb, ltb-true, lt-ltb, leb-true, le-leb}
+use Rattle.std.proofs.Common.{ℕ, ◌+◌, ◌≤◌, ◌<◌, ◌≡◌, sym, ap, ◌∙◌, Bool, true, ◌&&◌, List, [], arith, leb, ltb, eqb, length, get_or, take, eqb-true, eq-eqb, ltb-true, lt-ltb, leb-true, le-leb}
 use Rattle.lists.specs.Basics.{any, range, mem, rises}
 use Rattle.lists.proofs.Laws.{and_left, and_right, and_both, bool_ext, any_in, any_out, get_or-mem, filter-mem, mem-filter, in_range, range_high, rises-filter}
 use Rattle.lists.proofs.Scans.{rises-before, before-rises}

@@ -1,7 +1,5 @@
 -- The samples of the coloring in the paper's order: the colors, and the constraints left uncolored after each walk.
-use Prim.Native.Nat.{ℕ, suc}
-use mathlib.Core.Path.{◌≡◌, refl}
-use mathlib.Core.List.{List, [], ◌∷◌, map}
+use Rattle.std.proofs.Common.{ℕ, suc, ◌≡◌, refl, List, [], ◌∷◌, map}
 use Rattle.lists.specs.Basics.{range}
 use Rattle.groups.specs.Groups.{clash, free_from, free, used_by, color_from, colors_of, group_count}
 use Rattle.coloring.specs.Coloring.{uncolored}

@@ -1,15 +1,10 @@
 -- The walks one after another, a color each: before the walk for color k the constraints that are promised a lower color have it, and stand
 -- in their groups.
-use Prim.Native.Nat.{ℕ, zero, suc, ◌+◌, ◌-◌, ◌≤◌, ◌<◌}
-use mathlib.Core.Path.{◌≡◌, refl, sym, ap, ◌∙◌}
-use mathlib.Core.Bool.{and-false}
-use mathlib.Core.List.{List, [], ◌∷◌, ◌++◌}
-use native.Mathlib.Numerals.{add-one}
-use native.Mathlib.Omega.{arith}
-use lib.Dec.{leb, ltb, eqb}
-use lib.ListN.{length, get_or, set, take, drop, replicate, take-append-drop, length-set, length-replicate, get_or-replicate}
-use lib.Seq.{ext_get_or, take-nil, take_all, take-suc-set, drop_at, drop-drop, drop-set-lt, length-take-le}
-use borrow.Author.Tests.{eqb-true, eqb-false, ltb-true, ltb-false, lt-ltb, le-leb}
+use Rattle.std.proofs.Common.{ℕ, zero, suc, ◌+◌, ◌-◌, ◌≤◌, ◌<◌, ◌≡◌, refl, sym, ap, ◌∙◌, List, [], ◌∷◌, ◌++◌, add-one, arith, leb, ltb, eqb, length, get_or, set, take, drop, replicate, take-append-drop, length-set, ext_get_or, take_all, take-suc-set, drop_at, drop-drop, drop-set-lt, length-take-le, eqb-true, ltb-true, ltb-false, lt-ltb, le-leb}
+use Rattle.std.proofs.Math.Bool.{and-false}
+use Rattle.std.proofs.Math.ListN.{length-replicate, get_or-replicate}
+use Rattle.std.proofs.Math.Seq.{take-nil}
+use Rattle.std.proofs.lemmas.Bool.{eqb-false}
 use Rattle.lists.specs.Basics.{range, mem, place}
 use Rattle.lists.proofs.Laws.{clashes, by_cases, get_or-mem, max_in, all_intro, place-lt, place_get}
 use Rattle.lists.proofs.Ranges.{map-range-suc}

@@ -1,12 +1,9 @@
 -- Laws of `join`: joining never raises a number, keeps equal numbers equal, makes the numbers of an edge's two bodies equal,
 -- and leads from no body to another but along edges.
-use Prim.Native.Nat.{ℕ, ◌≤◌, min, max}
-use native.Mathlib.Omega.{arith}
-use native.Mathlib.Decide.{dec_le}
-use mathlib.Core.Path.{◌≡◌, refl, sym, ap, ◌∙◌, subst}
-use mathlib.Core.Logic.{◌⊎◌, inl, inr, ⊎_elim}
+use Rattle.std.proofs.Common.{ℕ, ◌≤◌, min, max, arith, ◌≡◌, refl, sym, ap, ◌∙◌, subst, ◌⊎◌, inl, inr, ⊎_elim, List, [], ◌∷◌}
+use Rattle.std.proofs.Math.Decide.{dec_le}
+use mathlib.Core.List.{Memᴰ}
 use mathlib.Core.List.Memᴰ
-use mathlib.Core.List.{List, [], ◌∷◌, Memᴰ}
 use Rattle.island_sets.specs.Sets.{relabel, merge}
 use Rattle.island_sets.proofs.Merges.{relabel_cases, relabel-le, relabel-left, relabel_right}
 use Rattle.connected_sets.specs.Islands.{Edge, join}

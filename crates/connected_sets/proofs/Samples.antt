@@ -1,7 +1,5 @@
 -- The samples of weighted union (document 02, request 7): each body's root and its set's number of bodies.
-use Prim.Native.Nat.{ℕ}
-use mathlib.Core.Path.{◌≡◌, refl}
-use mathlib.Core.List.{List, [], ◌∷◌, map}
+use Rattle.std.proofs.Common.{ℕ, ◌≡◌, refl, List, [], ◌∷◌, map}
 use Rattle.frame.specs.Frames.{frame_of, bodies, dynamic}
 use Rattle.island_sets.specs.Sets.{size_in, winner}
 use Rattle.connected_sets.specs.Islands.{edges_of, edges, lowest, heaviest, set_size}

@@ -1,17 +1,11 @@
 -- Islands are the connected sets. `lowest` is the lowest body of the connected set, and two bodies have the same one exactly if they are connected:
 -- an edge is a link, so `lowest` never leaves the set, and every link is an edge or goes over two, so it is the same all over the set.
 -- An island's number counts the lowest bodies below its own, so labels are equal exactly for connected bodies, and rise with the lowest bodies.
-use Prim.Native.Nat.{ℕ, ◌≤◌, ◌<◌}
-use native.Mathlib.Omega.{arith}
-use native.Mathlib.Decide.{dec_lt}
-use mathlib.Core.Path.{◌≡◌, refl, sym, ap, ◌∙◌, subst}
-use mathlib.Core.Logic.{⊎_elim}
-use mathlib.Core.Bool.{true, false}
+use Rattle.std.proofs.Common.{ℕ, ◌≤◌, ◌<◌, arith, ◌≡◌, refl, sym, ap, ◌∙◌, subst, ⊎_elim, true, false, List, [], ◌∷◌, map, eqb, length, get_or, eqb-true, eq-eqb}
+use Rattle.std.proofs.Math.Decide.{dec_lt}
+use mathlib.Core.List.{Memᴰ}
+use Rattle.std.proofs.Math.ListN.{get_or-eq_default}
 use mathlib.Core.List.Memᴰ
-use mathlib.Core.List.{List, [], ◌∷◌, map, Memᴰ}
-use lib.Dec.{eqb}
-use lib.ListN.{length, get_or, get_or-eq_default}
-use borrow.Author.Tests.{eqb-true, eq-eqb}
 use Rattle.lists.specs.Basics.{any, count, range, mem, filter}
 use Rattle.lists.proofs.Laws.{and_left, and_right, and_both, or_left, or_right, or_cases, clashes, by_cases, mem_self, any_in, any_out, filter-mem, mem-filter, get_or_listed}
 use Rattle.lists.proofs.Counts.{count-le, count_past, count_same}

@@ -1,10 +1,6 @@
 -- Joining by weight and joining by lowest body make the same sets: so two bodies have one root exactly if they are connected, and the number of bodies
 -- that have a root is the size of its connected set.
-use Prim.Native.Nat.{ℕ}
-use mathlib.Core.Path.{◌≡◌, refl, sym, ◌∙◌}
-use mathlib.Core.List.{List, [], ◌∷◌, ◌++◌}
-use lib.ListN.{length}
-use borrow.Author.Tests.{eqb-true, eq-eqb}
+use Rattle.std.proofs.Common.{ℕ, ◌≡◌, refl, sym, ◌∙◌, List, [], ◌∷◌, ◌++◌, length, eqb-true, eq-eqb}
 use Rattle.frame.specs.Frames.{Frame, constraints}
 use Rattle.island_sets.specs.Sets.{merge, size_in, hang}
 use Rattle.island_sets.specs.Steps.{SameSets, LowestOf}

@@ -1,15 +1,7 @@
 -- The stages of a build make up the plan: what the walks leave is what the listing of groups needs, and what that leaves is what the
 -- definition of the plan gives.
-use Prim.Native.Nat.{ℕ, ◌+◌, ◌*◌, ◌≤◌, ◌<◌}
-use mathlib.Core.Path.{◌≡◌, refl, sym, ap, ◌∙◌}
-use mathlib.Core.Bool.{true, ◌&&◌}
-use mathlib.Core.List.{List, [], ◌∷◌, ◌++◌}
-use native.Mathlib.Omega.{arith}
-use native.Mathlib.Numerals.{add-one}
-use lib.Dec.{leb, ltb}
-use lib.ListN.{length, get_or, take, drop}
-use lib.Seq.{take_at, take-append-le}
-use borrow.Author.Tests.{leb-true}
+use Rattle.std.proofs.Common.{ℕ, ◌+◌, ◌*◌, ◌≤◌, ◌<◌, ◌≡◌, refl, sym, ap, ◌∙◌, true, ◌&&◌, List, [], ◌∷◌, ◌++◌, arith, add-one, leb, ltb, length, get_or, take, drop, take_at, leb-true}
+use Rattle.std.proofs.Math.Seq.{take-append-le}
 use Rattle.lists.specs.Basics.{sum_of, max_of, range, over, all, distinct}
 use Rattle.lists.proofs.Laws.{and_left, and_right, all_weaken}
 use Rattle.lists.proofs.Ranges.{length-join_map}

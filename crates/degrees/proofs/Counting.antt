@@ -1,16 +1,9 @@
 -- A live constraint has two different endpoints, so one more at each of these two places is one more for each body that it is on. What is
 -- counted and what is still to come make up the whole.
-use Prim.Native.Nat.{ℕ, ◌+◌, ◌≤◌, ◌<◌, max}
-use mathlib.Core.Path.{◌≡◌, refl, sym, ap, ◌∙◌}
-use mathlib.Core.Bool.{Bool, true, false, not, ◌&&◌, ◌||◌}
-use mathlib.Core.List.{List, [], ◌∷◌}
-use native.Mathlib.Omega.{arith}
-use native.Mathlib.Numerals.{add-one}
-use lib.Dec.{ltb, eqb}
+use Rattle.std.proofs.Common.{ℕ, ◌+◌, ◌≤◌, ◌<◌, max, ◌≡◌, refl, sym, ap, ◌∙◌, Bool, true, false, not, ◌&&◌, ◌||◌, List, [], ◌∷◌, arith, add-one, ltb, eqb, length, get_or, set, drop, replicate, length-set, get_or-set_same, get_or-set_other, eqb-true, eq-eqb, ne_eqb, ltb-true}
 use mir.Val.{bool_byte}
-use lib.ListN.{length, get_or, set, drop, replicate, length-set, length-replicate, get_or-replicate}
-use lib.Seq.{get_or-set_same, get_or-set_other}
-use borrow.Author.Tests.{eqb-true, eqb-false, eq-eqb, ne_eqb, ltb-true, not-true}
+use Rattle.std.proofs.Math.ListN.{length-replicate, get_or-replicate}
+use Rattle.std.proofs.lemmas.Bool.{eqb-false, not-true}
 use Rattle.lists.specs.Basics.{one, all, count, max_of, range, mem}
 use Rattle.lists.proofs.Laws.{and_left, and_right, and_both, by_cases, or_right, mem_self, range_high, all_append, count-few}
 use Rattle.lists.proofs.Bits.{byte_one}

@@ -1,16 +1,9 @@
 -- Constraints by their endpoints: a live one that passes question 7 has endpoints that are all different and have places in the tables, so
 -- each counts once, for as much as the constraint does.
-use Prim.Native.Nat.{ℕ, ◌+◌, ◌≤◌, ◌<◌}
-use mathlib.Core.Path.{◌≡◌, refl, ap, ◌∙◌}
-use mathlib.Core.Bool.{Bool, true, false, not, ◌&&◌, ◌||◌, or-false, or_assoc, cond}
-use mathlib.Core.List.{List, [], ◌∷◌}
-use native.Mathlib.Omega.{arith}
-use native.Mathlib.Numerals.{add-one}
-use lib.Dec.{ltb, eqb}
+use Rattle.std.proofs.Common.{ℕ, ◌+◌, ◌≤◌, ◌<◌, ◌≡◌, refl, ap, ◌∙◌, Bool, true, false, not, ◌&&◌, ◌||◌, cond, List, [], ◌∷◌, arith, add-one, ltb, eqb, length, get_or, drop, drop_of_length-le, drop-cons, eqb-true}
+use Rattle.std.proofs.Math.Bool.{or-false, or_assoc}
 use mir.Val.{bool_byte}
-use lib.ListN.{length, get_or, drop, drop_of_length-le}
-use lib.Seq.{drop-cons}
-use borrow.Author.Tests.{eqb-true, not-true}
+use Rattle.std.proofs.lemmas.Bool.{not-true}
 use Rattle.lists.specs.Basics.{one, any, all, mem, distinct}
 use Rattle.lists.proofs.Laws.{and_left, and_right, by_cases}
 use Rattle.frame.specs.Frames.{frame_of, on, touches, sound}

@@ -1,11 +1,5 @@
 -- The ways in which reading a file ends, each from what the code found.
-use Prim.Native.Nat.{ℕ}
-use mathlib.Core.Path.{◌≡◌, sym, ◌∙◌}
-use mathlib.Core.Bool.{true, false}
-use mathlib.Core.List.{List}
-use native.Mathlib.Omega.{arith}
-use lib.Dec.{eqb}
-use borrow.Author.Tests.{ne_eqb}
+use Rattle.std.proofs.Common.{ℕ, ◌≡◌, sym, ◌∙◌, true, false, List, arith, eqb, ne_eqb}
 use Rattle.frame.specs.Questions.{asked}
 use Rattle.frame.specs.Files.{head_questions, file_questions}
 use Rattle.frame.specs.Joints.{joints_refusal}

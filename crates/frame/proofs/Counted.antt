@@ -1,15 +1,7 @@
 -- Constraints that have a count each, one by one: the one at place i has that many endpoints behind those of the i before it. A loop
 -- over them keeps its place among the endpoints as `end_count (take i cs)`, and the constraints from place i on as `drop i`.
-use Prim.Native.Nat.{ℕ, zero, suc, ◌+◌, ◌-◌, ◌*◌, ◌≤◌, ◌<◌}
-use mathlib.Core.Path.{◌≡◌, refl, ap, ◌∙◌}
-use mathlib.Core.Bool.{Bool, true, ◌&&◌}
-use mathlib.Core.List.{List, [], ◌∷◌}
-use native.Mathlib.Omega.{arith}
-use native.Mathlib.Numerals.{add-one}
-use lib.Dec.{leb, ltb, eqb}
-use lib.ListN.{length, get_or, take, drop, drop_of_length-le}
-use lib.Seq.{drop-nil, drop-cons, drop-drop}
-use borrow.Author.Tests.{leb-true}
+use Rattle.std.proofs.Common.{ℕ, zero, suc, ◌+◌, ◌-◌, ◌*◌, ◌≤◌, ◌<◌, ◌≡◌, refl, ap, ◌∙◌, Bool, true, ◌&&◌, List, [], ◌∷◌, arith, add-one, leb, ltb, eqb, length, get_or, take, drop, drop_of_length-le, drop-cons, drop-drop, leb-true}
+use Rattle.std.proofs.Math.Seq.{drop-nil}
 use Rattle.lists.specs.Basics.{all, distinct}
 use Rattle.lists.proofs.Laws.{and_left, and_right}
 use Rattle.frame.specs.Frames.{Constraint, counted, counted_of, joints_of, counts_known, end_count, fits, sound}

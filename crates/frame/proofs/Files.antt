@@ -1,14 +1,6 @@
 -- What the answer of questions 1 to 5 says of a file, by its version, and what constraints its frame has.
-use Prim.Native.Nat.{ℕ, zero, suc, ◌+◌, ◌-◌, ◌*◌, ◌≤◌, ◌<◌}
-use mathlib.Core.Path.{◌≡◌, refl, sym, ap, ◌∙◌}
-use mathlib.Core.Bool.{Bool, true, false, not, ◌&&◌, ◌||◌, cond}
-use mathlib.Core.List.{List, [], ◌∷◌, ◌++◌, map}
-use native.Mathlib.Omega.{arith}
-use native.Mathlib.Nat.{mul-suc}
-use lib.Dec.{leb, ltb, eqb}
-use lib.ListN.{length, get_or, drop, replicate, length-append, length-map, length-drop, length-replicate, get_or-append}
-use lib.Seq.{length-take-le, get_or-append-add}
-use borrow.Author.Tests.{leb-true, eqb-true, eq-eqb, ne_eqb, ltb-true, ltb-false}
+use Rattle.std.proofs.Common.{ℕ, zero, suc, ◌+◌, ◌-◌, ◌*◌, ◌≤◌, ◌<◌, ◌≡◌, refl, sym, ap, ◌∙◌, Bool, true, false, not, ◌&&◌, ◌||◌, cond, List, [], ◌∷◌, ◌++◌, map, arith, mul-suc, leb, ltb, eqb, length, get_or, drop, replicate, length-append, length-drop, length-take-le, get_or-append-add, leb-true, eqb-true, eq-eqb, ne_eqb, ltb-true, ltb-false}
+use Rattle.std.proofs.Math.ListN.{length-map, length-replicate, get_or-append}
 use Rattle.lists.specs.Basics.{all}
 use Rattle.lists.proofs.Laws.{and_left, and_right, and_both, by_cases, all_append, get_or-map-lt}
 use Rattle.frame.specs.Frames.{Constraint, Frame, nothing, constraints, constraint_at, constraints_of, counted_of, frame_of, counts_known, end_count}

@@ -1,15 +1,9 @@
 -- The joints of a version 2 file, entry after entry. An entry that passes lies inside the file and has a count of two to four; a walk that
 -- passes gives this of each entry in turn, and what a loop has found so far and the places still to come make up the whole.
-use Prim.Native.Nat.{ℕ, zero, suc, ◌+◌, ◌-◌, ◌*◌, ◌≤◌, ◌<◌}
-use mathlib.Core.Path.{◌≡◌, refl, sym, ap, ◌∙◌}
-use mathlib.Core.Bool.{Bool, true, false, cond}
-use mathlib.Core.List.{List, [], ◌∷◌, ◌++◌, map, append_assoc}
-use native.Mathlib.Omega.{arith}
-use lib.Dec.{leb, eqb}
-use lib.ListN.{length, get_or, take, drop, set, length-append, length-map, length-drop}
-use lib.Seq.{length-take-le, take_at, drop_at}
+use Rattle.std.proofs.Common.{ℕ, zero, suc, ◌+◌, ◌-◌, ◌*◌, ◌≤◌, ◌<◌, ◌≡◌, refl, sym, ap, ◌∙◌, Bool, true, false, cond, List, [], ◌∷◌, ◌++◌, map, append_assoc, arith, leb, eqb, length, get_or, take, drop, set, length-append, length-drop, length-take-le, take_at, drop_at, leb-true, le-leb, eq-eqb, ne_eqb, eqb-true}
+use Rattle.std.proofs.Math.ListN.{length-map}
 use borrow.Rule.Slice.PartMut.{post_of, put_mid, same_len_mid}
-use borrow.Author.Tests.{leb-true, le-leb, lt-leb, eq-eqb, ne_eqb, eqb-true}
+use Rattle.std.proofs.lemmas.Bool.{lt-leb}
 use Rattle.lists.specs.Basics.{join_map}
 use Rattle.lists.proofs.Laws.{and_left, and_right, and_both, by_cases}
 use Rattle.lists.proofs.Fills.{fill_turn}

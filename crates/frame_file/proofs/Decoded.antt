@@ -1,15 +1,7 @@
 -- Reading a written frame gives the frame back, and its file passes every question. Each part of the file stands right behind the one
 -- before, so what stands at the place where reading looks for a part is that part and then the rest. There a number of 16 bits is read
 -- back since n / 256 * 256 + n % 256 is n, and pairs and joints are read back one after another.
-use Prim.Native.Nat.{ℕ, zero, suc, ◌+◌, ◌-◌, ◌*◌, ◌/◌, ◌%◌}
-use mathlib.Core.Path.{◌≡◌, refl, sym, ap, ◌∙◌}
-use mathlib.Core.Bool.{true, false, ◌&&◌, ◌||◌}
-use mathlib.Core.List.{List, [], ◌∷◌, ◌++◌}
-use native.Mathlib.Omega.{arith}
-use lib.Dec.{leb, ltb, eqb}
-use lib.ListN.{length, take, drop, length-append}
-use lib.Seq.{get_or-drop, drop-drop, take_at, drop_at}
-use borrow.Author.Tests.{lt-ltb, le-leb, eq-eqb}
+use Rattle.std.proofs.Common.{ℕ, zero, suc, ◌+◌, ◌-◌, ◌*◌, ◌/◌, ◌%◌, ◌≡◌, refl, sym, ap, ◌∙◌, true, false, ◌&&◌, ◌||◌, List, [], ◌∷◌, ◌++◌, arith, leb, ltb, eqb, length, take, drop, length-append, get_or-drop, drop-drop, take_at, drop_at, lt-ltb, le-leb, eq-eqb}
 use Rattle.frame.specs.Frames.{frame_of, all_sound}
 use Rattle.frame.specs.Questions.{few_each, pair_count, types_known, bits}
 use Rattle.frame.specs.Files.{byte, half, word, count_b, count_m, count_j, pairs_at, joints_at, pairs_from, enabled_from, types_in, manifolds_in, joints_in, enabled_in, second, decode, frame_refusal}

@@ -1,9 +1,5 @@
 -- The header, the types, the pairs and the joints, each written behind the one before, are the file; what lies past it is kept.
-use Prim.Native.Nat.{ℕ, ◌+◌, ◌*◌, ◌≤◌}
-use mathlib.Core.Path.{◌≡◌, refl, ◌∙◌}
-use mathlib.Core.List.{List, ◌++◌}
-use native.Mathlib.Omega.{arith}
-use lib.ListN.{length, length-append}
+use Rattle.std.proofs.Common.{ℕ, ◌+◌, ◌*◌, ◌≤◌, ◌≡◌, refl, ◌∙◌, List, ◌++◌, arith, length, length-append}
 use Rattle.lists.specs.Basics.{over, put}
 use Rattle.lists.proofs.Puts.{put_long, put_then, put_first}
 use Rattle.frame.specs.Questions.{pair_count}

@@ -1,10 +1,6 @@
 -- What was put at a place, and then something right behind it, was put together; so two bytes are a number of 16 bits, two of those one of 32
 -- bits or a pair, and the parts of the header the header.
-use Prim.Native.Nat.{ℕ, ◌+◌, ◌-◌, ◌*◌, ◌/◌, ◌%◌, ◌≤◌}
-use mathlib.Core.Path.{◌≡◌, ap, ◌∙◌}
-use mathlib.Core.List.{List, [], ◌∷◌, ◌++◌}
-use native.Mathlib.Omega.{arith}
-use lib.ListN.{length, set, length-set}
+use Rattle.std.proofs.Common.{ℕ, ◌+◌, ◌-◌, ◌*◌, ◌/◌, ◌%◌, ◌≤◌, ◌≡◌, ap, ◌∙◌, List, [], ◌∷◌, ◌++◌, arith, length, set, length-set}
 use Rattle.lists.specs.Basics.{put}
 use Rattle.lists.proofs.Puts.{set-put, put_long, put_then}
 use Rattle.frame_file.specs.Written.{half_bytes, word_bytes, file_length, header_bytes, pair_bytes}

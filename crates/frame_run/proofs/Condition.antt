@@ -1,8 +1,5 @@
 -- Condition 3 of the code: the contract of `run` reports what the definition's run reports, and that is condition 3's report.
-use Prim.Native.Nat.{ℕ}
-use mathlib.Core.Path.{◌≡◌, refl, sym, ◌∙◌}
-use mathlib.Core.Bool.{true, cond}
-use mathlib.Core.List.{List, [], ◌∷◌}
+use Rattle.std.proofs.Common.{ℕ, ◌≡◌, refl, sym, ◌∙◌, true, cond, List, [], ◌∷◌}
 use Rattle.frame.specs.Frames.{all_sound}
 use Rattle.frame.specs.Questions.{question, asked}
 use Rattle.frame.specs.Files.{decode, file_questions, frame_refusal}

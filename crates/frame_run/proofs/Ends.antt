@@ -1,12 +1,8 @@
 -- The endpoints of all constraints as they stand in the frame's tables. Taken apart by the counts of all constraints, or as pairs where there
 -- are none, they are the endpoints of the frame's constraints, one list each.
-use Prim.Native.Nat.{ℕ, zero, suc, ◌+◌, ◌*◌, ◌≤◌, ◌<◌}
-use mathlib.Core.Path.{◌≡◌, refl, sym, ap, ap₂, ◌∙◌}
-use mathlib.Core.Bool.{true}
-use mathlib.Core.List.{List, [], ◌∷◌, ◌++◌, map}
-use native.Mathlib.Omega.{arith}
-use lib.ListN.{length, get_or, take, drop, replicate, length-append, length-drop, get_or-map}
-use lib.Seq.{take-append-le, drop-append-le}
+use Rattle.std.proofs.Common.{ℕ, zero, suc, ◌+◌, ◌*◌, ◌≤◌, ◌<◌, ◌≡◌, refl, sym, ap, ap₂, ◌∙◌, true, List, [], ◌∷◌, ◌++◌, map, arith, length, get_or, take, drop, replicate, length-append, length-drop}
+use Rattle.std.proofs.Math.ListN.{get_or-map}
+use Rattle.std.proofs.Math.Seq.{take-append-le, drop-append-le}
 use Rattle.lists.proofs.Laws.{by_cases, and_both, all_append, no_length}
 use Rattle.lists.proofs.Ranges.{map-append}
 use Rattle.lists.proofs.Sums.{sum_append}

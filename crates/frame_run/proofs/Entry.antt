@@ -1,14 +1,7 @@
 -- What the entry adds to a run on tables of the frame's sizes: the first of questions 1 to 6 that gets a "no" is the run's refusal and
 -- changes nothing; otherwise the tables have room, and the run's answer is that of the tables cut to size.
-use Prim.Native.Nat.{ℕ, ◌+◌, ◌*◌, ◌≤◌}
-use mathlib.Core.Path.{◌≡◌, refl, sym, ap, ◌∙◌}
-use mathlib.Core.Bool.{Bool, true, false, cond}
-use mathlib.Core.List.{List, [], ◌∷◌, ◌++◌}
-use native.Mathlib.Omega.{arith}
-use lib.Dec.{leb, eqb}
-use lib.ListN.{length, take, drop}
-use lib.Seq.{length-take-le, length_front}
-use borrow.Author.Tests.{leb-true, ne_eqb}
+use Rattle.std.proofs.Common.{ℕ, ◌+◌, ◌*◌, ◌≤◌, ◌≡◌, refl, sym, ap, ◌∙◌, Bool, true, false, cond, List, [], ◌∷◌, ◌++◌, arith, leb, eqb, length, take, drop, length-take-le, leb-true, ne_eqb}
+use Rattle.std.proofs.Math.Seq.{length_front}
 use Rattle.lists.specs.Basics.{all}
 use Rattle.lists.proofs.Laws.{by_cases, and_left, and_right, no_length}
 use Rattle.frame.specs.Frames.{all_sound}

@@ -1,13 +1,9 @@
 -- The constraints with label i in the frame's tables are those of island i, and what is collected for them are its endpoints and, with counts,
 -- its counts. So the islands' calls made from the tables are the run's, and each island's update is accepted.
-use Prim.Native.Nat.{ℕ, ◌+◌, ◌*◌, ◌≤◌, ◌<◌}
-use mathlib.Core.Path.{◌≡◌, refl, sym, ap, ◌∙◌}
-use mathlib.Core.Bool.{Bool, true, false, ◌&&◌}
-use mathlib.Core.List.{List, [], ◌∷◌, map, map-map}
-use native.Mathlib.Omega.{arith}
-use lib.Dec.{eqb}
-use lib.ListN.{length, get_or, length-map, get_or-map}
-use borrow.Author.Tests.{eqb-true, eqb-false, eq-eqb, ne_eqb}
+use Rattle.std.proofs.Common.{ℕ, ◌+◌, ◌*◌, ◌≤◌, ◌<◌, ◌≡◌, refl, sym, ap, ◌∙◌, Bool, true, false, ◌&&◌, List, [], ◌∷◌, map, arith, eqb, length, get_or, eqb-true, eq-eqb, ne_eqb}
+use mathlib.Core.List.{map-map}
+use Rattle.std.proofs.Math.ListN.{length-map, get_or-map}
+use Rattle.std.proofs.lemmas.Bool.{eqb-false}
 use Rattle.lists.specs.Basics.{join_map, range, mem, place}
 use Rattle.lists.proofs.Laws.{by_cases, clashes, filter-mem, range_high, get_d_any, length-range, filter-length-le, count-few, sum_one, no_length, map_ext_in, place-lt, place_get}
 use Rattle.lists.proofs.Ranges.{filter_ext_in, join_map_ext_in}

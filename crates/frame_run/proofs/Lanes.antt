@@ -1,9 +1,6 @@
 -- Lanes of the code: by its contract an accepted call leaves the run's turns from place 0 of the turn table on, as many as it reports; so two
 -- turns of the table are apart as two turns of the run are.
-use Prim.Native.Nat.{ℕ}
-use mathlib.Core.Path.{◌≡◌, sym, ap, ◌∙◌, subst}
-use mathlib.Core.List.{List}
-use native.Mathlib.Omega.{arith}
+use Rattle.std.proofs.Common.{ℕ, ◌≡◌, sym, ap, ◌∙◌, subst, List, arith}
 use Rattle.lists.specs.Basics.{over, join_map}
 use Rattle.frame.specs.Frames.{turn_count}
 use Rattle.frame.specs.Files.{second, decode}

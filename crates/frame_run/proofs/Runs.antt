@@ -1,14 +1,9 @@
 -- Once the tables are filled, the islands' calls are the run's, or none after 7. Their endpoints and counts can be collected, and they fit the
 -- turn table by the theorem: a turn for each constraint that touches a dynamic body.
-use Prim.Native.Nat.{ℕ, ◌+◌, ◌*◌, ◌/◌, ◌≤◌, ◌<◌}
-use mathlib.Core.Path.{◌≡◌, refl, sym, ap, ◌∙◌}
-use mathlib.Core.Bool.{Bool, true, false, cond}
-use mathlib.Core.List.{List, [], ◌∷◌, ◌++◌, map}
-use native.Mathlib.Omega.{arith}
-use lib.Dec.{ltb, eqb}
-use lib.ListN.{length, take, length-map}
-use lib.Seq.{length_paste_head}
-use borrow.Author.Tests.{lt-ltb, eqb-true, eqb-false}
+use Rattle.std.proofs.Common.{ℕ, ◌+◌, ◌*◌, ◌/◌, ◌≤◌, ◌<◌, ◌≡◌, refl, sym, ap, ◌∙◌, Bool, true, false, cond, List, [], ◌∷◌, ◌++◌, map, arith, ltb, eqb, length, take, lt-ltb, eqb-true}
+use Rattle.std.proofs.Math.ListN.{length-map}
+use Rattle.std.proofs.Math.Seq.{length_paste_head}
+use Rattle.std.proofs.lemmas.Bool.{eqb-false}
 use Rattle.lists.specs.Basics.{join_map}
 use Rattle.lists.proofs.Laws.{by_cases}
 use Rattle.lists.proofs.Puts.{put_first}

@@ -1,15 +1,10 @@
 -- Every island has a constraint, since its lowest body is on one, and that constraint has the body's label; every other label is none. So
 -- the labels of an accepted frame can be sorted by island; after a refusal there are none.
-use Prim.Native.Nat.{ℕ, zero, suc, ◌≤◌, ◌<◌}
-use mathlib.Core.Path.{◌≡◌, refl, sym, ap, ◌∙◌}
-use mathlib.Core.Bool.{Bool, true, false, ◌||◌}
+use Rattle.std.proofs.Common.{ℕ, zero, suc, ◌≤◌, ◌<◌, ◌≡◌, refl, sym, ap, ◌∙◌, Bool, true, false, ◌||◌, List, [], ◌∷◌, map, ⊎_elim, arith, ltb, eqb, length, replicate, eqb-true, eq-eqb, ltb-true, ltb-false, lt-ltb}
+use mathlib.Core.List.{Memᴰ}
+use Rattle.std.proofs.Math.ListN.{length-map, length-replicate}
+use Rattle.std.proofs.lemmas.Bool.{eqb-false}
 use mathlib.Core.List.Memᴰ
-use mathlib.Core.List.{List, [], ◌∷◌, map, Memᴰ}
-use mathlib.Core.Logic.{⊎_elim}
-use native.Mathlib.Omega.{arith}
-use lib.Dec.{ltb, eqb}
-use lib.ListN.{length, length-map, replicate, length-replicate}
-use borrow.Author.Tests.{eqb-true, eqb-false, eq-eqb, ltb-true, ltb-false, lt-ltb}
 use Rattle.lists.specs.Basics.{one, any, all, count, range, mem}
 use Rattle.lists.proofs.Laws.{by_cases, or_cases, or_left, or_right, and_left, and_right, clashes, all_map}
 use Rattle.frame.specs.Frames.{Constraint, Frame, constraints, dynamic, on, none}

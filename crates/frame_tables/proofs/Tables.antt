@@ -1,14 +1,9 @@
 -- Once questions 1 to 6 are passed, an islands call asks only 7, with counts or without. Its labels, read from the front of the lent tables,
 -- are the frame's, or none after 7, and either way they can be sorted.
-use Prim.Native.Nat.{ℕ, ◌+◌, ◌*◌, ◌/◌, ◌%◌, ◌≤◌}
-use mathlib.Core.Path.{◌≡◌, refl, sym, ap, ◌∙◌, subst}
-use mathlib.Core.Bool.{true, cond}
-use mathlib.Core.List.{List, [], ◌∷◌, ◌++◌, map}
-use native.Mathlib.Omega.{arith}
-use lib.Dec.{eqb}
-use lib.ListN.{length, take, drop, replicate, length-map, length-append, length-replicate, replicate-append-replicate}
-use lib.Seq.{drop-nil, take_at, drop_at, length-take-le}
-use borrow.Author.Tests.{le-leb, eq-eqb, eqb-true, eqb-false}
+use Rattle.std.proofs.Common.{ℕ, ◌+◌, ◌*◌, ◌/◌, ◌%◌, ◌≤◌, ◌≡◌, refl, sym, ap, ◌∙◌, subst, true, cond, List, [], ◌∷◌, ◌++◌, map, arith, eqb, length, take, drop, replicate, length-append, take_at, drop_at, length-take-le, le-leb, eq-eqb, eqb-true}
+use Rattle.std.proofs.Math.ListN.{length-map, length-replicate, replicate-append-replicate}
+use Rattle.std.proofs.Math.Seq.{drop-nil}
+use Rattle.std.proofs.lemmas.Bool.{eqb-false}
 use Rattle.lists.proofs.Laws.{by_cases, no_length}
 use Rattle.lists.proofs.Ranges.{map-append}
 use Rattle.frame.specs.Frames.{Frame, constraints, none, end_count, all_sound, degree_max}

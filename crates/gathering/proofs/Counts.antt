@@ -1,13 +1,6 @@
 -- Counting by stamps: stamping one list of bodies and then another is stamping both, and the count goes on from where it stands. It is
 -- at most the number of bodies passed, so it fits.
-use Prim.Native.Nat.{ℕ, ◌+◌, ◌≤◌, ◌<◌}
-use mathlib.Core.Path.{◌≡◌, refl, sym, ap, ◌∙◌}
-use mathlib.Core.Bool.{true, not}
-use mathlib.Core.List.{List, [], ◌∷◌, ◌++◌}
-use native.Mathlib.Omega.{arith}
-use lib.Dec.{eqb, ltb}
-use lib.ListN.{length, get_or, set, length-append}
-use borrow.Author.Tests.{ltb-true}
+use Rattle.std.proofs.Common.{ℕ, ◌+◌, ◌≤◌, ◌<◌, ◌≡◌, refl, sym, ap, ◌∙◌, true, not, List, [], ◌∷◌, ◌++◌, arith, eqb, ltb, length, get_or, set, length-append, ltb-true}
 use mir.Val.{bool_byte}
 use Rattle.lists.proofs.Laws.{by_cases, and_left, all_in, all_intro}
 use Rattle.gathering.specs.Gathers.{lacking, stamp_all, Stampable, Counted}

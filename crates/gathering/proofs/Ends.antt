@@ -1,15 +1,7 @@
 -- The endpoints of constraints, one after another: a group's bodies are those among its members' endpoints, and there are no more of
 -- them than endpoints. A list is passed body by body, or constraint by constraint.
-use Prim.Native.Nat.{ℕ, ◌+◌, ◌≤◌, ◌<◌}
-use mathlib.Core.Path.{◌≡◌, sym, ap, ◌∙◌}
-use mathlib.Core.Bool.{true, or-false}
-use mathlib.Core.List.{List, [], ◌∷◌, ◌++◌, append-nil}
-use native.Mathlib.Omega.{arith}
-use native.Mathlib.Numerals.{add-one}
-use lib.Dec.{eqb}
-use lib.ListN.{length, get_or, take, drop, length-append, take-append-drop}
-use lib.Seq.{take-suc, length-take-le}
-use borrow.Author.Tests.{eqb-true}
+use Rattle.std.proofs.Common.{ℕ, ◌+◌, ◌≤◌, ◌<◌, ◌≡◌, sym, ap, ◌∙◌, true, List, [], ◌∷◌, ◌++◌, append-nil, arith, add-one, eqb, length, get_or, take, drop, length-append, take-append-drop, take-suc, length-take-le, eqb-true}
+use Rattle.std.proofs.Math.Bool.{or-false}
 use Rattle.lists.specs.Basics.{one, sum_of, count, range, mem, join_map}
 use Rattle.lists.proofs.Sums.{sum_le, sum_swap, length-filter}
 use Rattle.lists.proofs.Laws.{any_in, get_or-mem, one-any, at_most_one, sum_one}

@@ -1,15 +1,9 @@
 -- All groups. The endpoints of the groups before k are at most those of all constraints, and a group has at most as many bodies as
 -- endpoints, so the bodies of the groups fit the table; the part of group k starts where the bodies of the groups before it end.
-use Prim.Native.Nat.{ℕ, zero, suc, ◌+◌, ◌*◌, ◌≤◌, ◌<◌}
-use mathlib.Core.Path.{◌≡◌, refl, sym, ap, ◌∙◌}
-use mathlib.Core.Bool.{Bool, true, false}
-use mathlib.Core.List.{List, [], ◌∷◌, ◌++◌}
-use native.Mathlib.Omega.{arith}
-use native.Mathlib.Numerals.{add-one}
-use lib.Dec.{eqb, ltb}
-use lib.ListN.{length, get_or, set, take, drop, length-append, length-set, get_or-eq_default}
-use lib.Seq.{take_at, take-length, take-suc-set, drop-append-add, drop-drop}
-use borrow.Author.Tests.{eqb-true, eqb-false, lt-ltb, le-ltb, ltb-true, ltb-false}
+use Rattle.std.proofs.Common.{ℕ, zero, suc, ◌+◌, ◌*◌, ◌≤◌, ◌<◌, ◌≡◌, refl, sym, ap, ◌∙◌, Bool, true, false, List, [], ◌∷◌, ◌++◌, arith, add-one, eqb, ltb, length, get_or, set, take, drop, length-append, length-set, take_at, take-suc-set, drop-drop, eqb-true, lt-ltb, le-ltb, ltb-true, ltb-false}
+use Rattle.std.proofs.Math.ListN.{get_or-eq_default}
+use Rattle.std.proofs.Math.Seq.{take-length, drop-append-add}
+use Rattle.std.proofs.lemmas.Bool.{eqb-false}
 use Rattle.lists.specs.Basics.{one, all, sum_of, range, mem, over, join_map}
 use Rattle.lists.proofs.Sums.{sum_le, sum_ext, sum_add, sum_filter, sum_get_or}
 use Rattle.lists.proofs.Laws.{by_cases, all_intro, all_get_d}

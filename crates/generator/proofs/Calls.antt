@@ -1,6 +1,6 @@
 -- The questions in order, one "no" after another.
 use Rattle.std.proofs.Common.{◌≡◌, ℕ, ◌+◌, ◌<◌, ◌≤◌, true, false, eqb, leb, arith, eq-eqb, eqb-true, le-leb, leb-true}
-use borrow.Author.Tests.{lt-leb}
+use Rattle.std.proofs.lemmas.Bool.{lt-leb}
 use Rattle.lists.proofs.Laws.{or_cases, or_left, or_right}
 use Rattle.frame.specs.Questions.{few_each}
 use Rattle.frame.proofs.Questions.{passed}

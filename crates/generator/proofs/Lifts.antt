@@ -2,7 +2,7 @@
 -- are draws modulo 3 and 2, and its pairs are sound: body b lies 1 to B - 1 places behind body a, counted round the B bodies, so it is never a.
 -- With fewer than two bodies there are no pairs. What is known of a written file then gives both.
 use Rattle.std.proofs.Common.{◌≡◌, ℕ, zero, suc, ◌+◌, ◌-◌, ◌*◌, ◌%◌, ◌<◌, ◌≤◌, Bool, true, eqb, ltb, leb, List, [], ◌∷◌, map, length, take, drop, sym, refl, ◌∙◌, mod-lt, mod-eq_of_lt, arith, take_at, ltb-false, ltb-true, lt-ltb, ne_eqb, le-leb}
-use native.Mathlib.Nat.{mod-eq-sub-mod}
+use Rattle.std.proofs.Math.Nat.{mod-eq-sub-mod}
 use Rattle.lists.specs.Basics.{all, join_map, range}
 use Rattle.lists.proofs.Laws.{and_both, by_cases, all_append}
 use Rattle.frame.specs.Frames.{constraint, constraints_of, frame_of, sound, all_sound}

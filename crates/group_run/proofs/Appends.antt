@@ -1,11 +1,6 @@
 -- Every loop of the run keeps one invariant: the calls done and those still to come are the whole, and what is done has been added. So a
 -- turn of a loop moves the next calls from the one list to the other, and at the end all are done.
-use Prim.Native.Nat.{ℕ, ◌+◌, ◌-◌, ◌<◌}
-use mathlib.Core.Path.{◌≡◌, sym, ap, ◌∙◌}
-use mathlib.Core.List.{List, [], ◌++◌, append_assoc, append-nil}
-use native.Mathlib.Omega.{arith}
-use lib.Dec.{eqb}
-use lib.ListN.{length, length-append}
+use Rattle.std.proofs.Common.{ℕ, ◌+◌, ◌-◌, ◌<◌, ◌≡◌, sym, ap, ◌∙◌, List, [], ◌++◌, append_assoc, append-nil, arith, eqb, length, length-append}
 use Rattle.lists.specs.Basics.{count, put, join_map, range_from}
 use Rattle.lists.proofs.Puts.{length-put, put-put}
 use Rattle.lists.proofs.Ranges.{filter-append, join_map-append, range-next}

@@ -1,7 +1,6 @@
 -- Takes by marks are takes by value. The contract of a take by marks gives its refusal, which bodies are "dynamic" and the marks; the bodies
 -- are read at the positions, and a turn and its takes depend on the refusal and on how many are "dynamic" alone.
-use mathlib.Core.Path.{refl, sym}
-use mathlib.Core.List.{[], ◌∷◌}
+use Rattle.std.proofs.Common.{refl, sym, [], ◌∷◌}
 use Rattle.colored_bodies.specs.Answers.{with_bodies}
 use Rattle.colored_bodies.proofs.Pairs.{takes_by}
 use Rattle.colored_bodies.proofs.Positions.{takes_at}

@@ -1,14 +1,9 @@
 -- The greedy coloring is proper and least, and no color is above the number of earlier conflicts.
-use Prim.Native.Nat.{ℕ, zero, suc, ◌+◌, ◌-◌, ◌*◌, ◌≤◌, ◌<◌}
-use mathlib.Core.Path.{◌≡◌, refl, sym, ap, ◌∙◌}
-use mathlib.Core.Bool.{Bool, true, false, ◌&&◌}
-use mathlib.Core.List.{List, [], ◌∷◌, ◌++◌, append_assoc, append-nil}
-use native.Mathlib.Omega.{arith}
-use native.Mathlib.Nat.{max-le, mul-le-mul_right}
-use lib.Dec.{leb, ltb, eqb}
-use lib.ListN.{length, get_or, length-append, get_or-append}
-use lib.Seq.{get_or_at}
-use borrow.Author.Tests.{eqb-true, eqb-false, ltb-true, ltb-false, leb-true}
+use Rattle.std.proofs.Common.{ℕ, zero, suc, ◌+◌, ◌-◌, ◌*◌, ◌≤◌, ◌<◌, ◌≡◌, refl, sym, ap, ◌∙◌, Bool, true, false, ◌&&◌, List, [], ◌∷◌, ◌++◌, append_assoc, append-nil, arith, mul-le-mul_right, leb, ltb, eqb, length, get_or, length-append, eqb-true, ltb-true, ltb-false, leb-true}
+use Rattle.std.proofs.Math.Nat.{max-le}
+use Rattle.std.proofs.Math.ListN.{get_or-append}
+use Rattle.std.proofs.Math.Seq.{get_or_at}
+use Rattle.std.proofs.lemmas.Bool.{eqb-false}
 use Rattle.lists.specs.Basics.{one, any, all, sum_of, max_of, count, mem}
 use Rattle.lists.proofs.Sums.{sum_swap, sum_le, sum_append, sum_times, sum_zero}
 use Rattle.lists.proofs.Laws.{or_left, or_cases, and_left, and_right, and_both, or_right, clashes, by_cases, not-true-false, one-any, any_append, any_in, any_out, mem_self, sum_le_in, sum_one, pigeonhole, count-few}

@@ -1,11 +1,7 @@
 -- Constraints that have a count each. Taken apart by their own lengths, lists that stand one after another are themselves, whatever stands
 -- behind them; and the parts by counts have these counts as lengths.
-use Prim.Native.Nat.{ℕ, ◌≤◌}
-use mathlib.Core.Path.{◌≡◌, refl, ap₂}
-use mathlib.Core.List.{List, [], ◌∷◌, ◌++◌, map, append_assoc}
-use native.Mathlib.Omega.{arith}
-use lib.ListN.{length, drop, length-drop}
-use lib.Seq.{take-append_seam, drop-append_seam, length-take-le}
+use Rattle.std.proofs.Common.{ℕ, ◌≤◌, ◌≡◌, refl, ap₂, List, [], ◌∷◌, ◌++◌, map, append_assoc, arith, length, drop, length-drop, length-take-le}
+use Rattle.std.proofs.Math.Seq.{take-append_seam, drop-append_seam}
 use Rattle.lists.specs.Basics.{sum_of, join_map}
 use Rattle.groups.specs.Groups.{counted_parts}
 

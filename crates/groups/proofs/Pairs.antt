@@ -1,9 +1,5 @@
 -- The endpoint pairs one by one: constraint i has its two bodies at places 2 × i and 2 × i + 1 of the list.
-use Prim.Native.Nat.{ℕ, zero, suc, ◌+◌, ◌*◌, ◌≤◌, ◌<◌}
-use mathlib.Core.Path.{◌≡◌, refl, ap}
-use mathlib.Core.List.{List, [], ◌∷◌, ◌++◌}
-use native.Mathlib.Omega.{arith}
-use lib.ListN.{length, get_or}
+use Rattle.std.proofs.Common.{ℕ, zero, suc, ◌+◌, ◌*◌, ◌≤◌, ◌<◌, ◌≡◌, refl, ap, List, [], ◌∷◌, ◌++◌, arith, length, get_or}
 use Rattle.lists.specs.Basics.{sum_of}
 use Rattle.groups.specs.Groups.{pairs_of}
 

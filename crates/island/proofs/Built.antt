@@ -1,6 +1,5 @@
 -- What an islands call leaves is told by its number and its count: equal ones tell the same.
-use Prim.Native.Nat.{ℕ}
-use mathlib.Core.Path.{◌≡◌}
+use Rattle.std.proofs.Common.{ℕ, ◌≡◌}
 use Rattle.frame.specs.Frames.{Frame}
 use Rattle.island.specs.Calls.{IslandTables, Built}
 

@@ -1,14 +1,8 @@
 -- The entries. Where questions 3 to 6 get a "yes" the tables are long enough, and the frame is built on their first places; so what stands there, with the rest of each table behind it,
 -- is what the contract says. Where one gets a "no" nothing is written.
-use Prim.Native.Nat.{ℕ, ◌+◌, ◌≤◌, ◌/◌}
-use native.Mathlib.Omega.{arith}
-use mathlib.Core.Path.{◌≡◌, refl, sym, ap, ◌∙◌, subst}
-use mathlib.Core.Bool.{Bool, true, false, not, ◌&&◌, cond}
-use mathlib.Core.List.{List, [], ◌∷◌, ◌++◌, map}
-use lib.Dec.{leb, eqb}
-use lib.ListN.{length, take, drop, replicate, length-map, length-replicate}
-use lib.Seq.{length-take-le, take_at, drop_at}
-use borrow.Author.Tests.{leb-true, eqb-true, eqb-false, ne_eqb}
+use Rattle.std.proofs.Common.{ℕ, ◌+◌, ◌≤◌, ◌/◌, arith, ◌≡◌, refl, sym, ap, ◌∙◌, subst, Bool, true, false, not, ◌&&◌, cond, List, [], ◌∷◌, ◌++◌, map, leb, eqb, length, take, drop, replicate, length-take-le, take_at, drop_at, leb-true, eqb-true, ne_eqb}
+use Rattle.std.proofs.Math.ListN.{length-map, length-replicate}
+use Rattle.std.proofs.lemmas.Bool.{eqb-false}
 use Rattle.lists.specs.Basics.{over}
 use Rattle.lists.proofs.Laws.{and_left, and_right, length-range}
 use Rattle.frame.specs.Frames.{Frame, frame_of, frame_with, constraints_of, joints_of, counts_known, end_count, bodies, all_sound, none}

@@ -1,12 +1,7 @@
 -- The labels of constraints. Of a live constraint's bodies the dynamic ones have its island, and any other has none, which is above every island:
 -- so the least of their labels is the constraint's.
-use Prim.Native.Nat.{ℕ, ◌≤◌}
-use native.Mathlib.Omega.{arith}
-use mathlib.Core.Path.{◌≡◌, refl, ap, ◌∙◌}
-use mathlib.Core.Bool.{Bool, true, false, ◌&&◌, cond}
-use mathlib.Core.List.{List, [], ◌∷◌, map, Memᴰ}
-use lib.Dec.{eqb}
-use lib.ListN.{length, get_or}
+use Rattle.std.proofs.Common.{ℕ, ◌≤◌, arith, ◌≡◌, refl, ap, ◌∙◌, Bool, true, false, ◌&&◌, cond, List, [], ◌∷◌, map, eqb, length, get_or}
+use mathlib.Core.List.{Memᴰ}
 use Rattle.lists.specs.Basics.{any, mem, filter}
 use Rattle.lists.proofs.Laws.{and_both, or_right, by_cases, mem_self}
 use Rattle.frame.specs.Frames.{Constraint, Frame, constraints, dynamic, on, touches, none}

@@ -1,10 +1,5 @@
 -- A table that holds g at each place is the list of the values of g.
-use Prim.Native.Nat.{ℕ}
-use native.Mathlib.Omega.{arith}
-use mathlib.Core.Path.{◌≡◌, sym, ◌∙◌}
-use mathlib.Core.List.{List, map}
-use lib.ListN.{length, get_or}
-use lib.Seq.{ext_get_or}
+use Rattle.std.proofs.Common.{ℕ, arith, ◌≡◌, sym, ◌∙◌, List, map, length, get_or, ext_get_or}
 use Rattle.lists.specs.Basics.{range}
 use Rattle.lists.proofs.Ranges.{length-map-range, map-range-at}
 

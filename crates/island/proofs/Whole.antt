@@ -1,13 +1,8 @@
 -- A whole frame. Once all constraints are joined, a dynamic body is constrained exactly if it is in an island, and the bodies of one root are those of one
 -- connected set; so the numbers that `number` gives are the definition's, and with them the labels of the constraints.
-use Prim.Native.Nat.{ℕ}
-use native.Mathlib.Omega.{arith}
-use mathlib.Core.Path.{◌≡◌, refl, sym, ap, ◌∙◌, subst, fun_ext}
-use mathlib.Core.Bool.{Bool, true, false, not, ◌&&◌, cond}
+use Rattle.std.proofs.Common.{ℕ, arith, ◌≡◌, refl, sym, ap, ◌∙◌, subst, Bool, true, false, not, ◌&&◌, cond, List, map, eqb, length, get_or, replicate}
+use Rattle.std.proofs.Math.Path.{fun_ext}
 use mathlib.Core.List.Memᴰ
-use mathlib.Core.List.{List, map}
-use lib.Dec.{eqb}
-use lib.ListN.{length, get_or, replicate}
 use Rattle.lists.specs.Basics.{any, all, count, range}
 use Rattle.lists.proofs.Laws.{and_left, and_right, all_append, replicate-at}
 use Rattle.frame.specs.Frames.{Frame, constraints, dynamic, on, sound, all_sound, none}

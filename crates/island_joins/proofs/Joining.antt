@@ -1,17 +1,9 @@
 -- What constraints join, and which bodies they constrain. A live pair of dynamic bodies has one edge, any other pair none; a live constraint on more bodies has an edge from its
 -- first dynamic body to each later one. A live constraint constrains its bodies. What is joined by one list and then by another is joined by both together: so a loop over the
 -- constraints joins them all.
-use Prim.Native.Nat.{ℕ, ◌+◌, ◌*◌, ◌≤◌, ◌<◌}
-use native.Mathlib.Omega.{arith}
-use native.Mathlib.Decide.{ℕ_discrete, dec_lt}
-use native.Mathlib.Numerals.{add-one}
-use mathlib.Core.Path.{◌≡◌, refl, sym, ap, ◌∙◌, subst}
-use mathlib.Core.Bool.{Bool, true, false, ◌&&◌, ◌||◌, cond, and-true, or-false}
-use mathlib.Core.List.{List, [], ◌∷◌, ◌++◌, map, append_assoc, append-nil}
-use lib.Dec.{eqb}
-use lib.ListN.{length, get_or, set, take, drop, length-set, drop_of_length-le}
-use lib.Seq.{get_or-set_same, get_or-set_other, drop-cons, take_all}
-use borrow.Author.Tests.{eqb-true, eq-eqb, ne_eqb}
+use Rattle.std.proofs.Common.{ℕ, ◌+◌, ◌*◌, ◌≤◌, ◌<◌, arith, add-one, ◌≡◌, refl, sym, ap, ◌∙◌, subst, Bool, true, false, ◌&&◌, ◌||◌, cond, List, [], ◌∷◌, ◌++◌, map, append_assoc, append-nil, eqb, length, get_or, set, take, drop, length-set, drop_of_length-le, get_or-set_same, get_or-set_other, drop-cons, take_all, eqb-true, eq-eqb, ne_eqb}
+use Rattle.std.proofs.Math.Decide.{ℕ_discrete, dec_lt}
+use Rattle.std.proofs.Math.Bool.{and-true, or-false}
 use Rattle.lists.specs.Basics.{filter, any, all, mem}
 use Rattle.lists.proofs.Laws.{and_left, and_right, and_both, clashes, not-true-false, any_append, all_append, cond-or}
 use Rattle.lists.proofs.Ranges.{join_map-append}

@@ -1,14 +1,6 @@
 -- The labels of constraints: one, by the branches of `label_one` or the loop of `label_ends`, and the loops over lists.
-use Prim.Native.Nat.{ℕ, ◌+◌, ◌≤◌, ◌<◌, min}
-use native.Mathlib.Omega.{arith}
-use native.Mathlib.Numerals.{add-one}
-use mathlib.Core.Path.{◌≡◌, refl, sym, ap, ◌∙◌}
-use mathlib.Core.Bool.{Bool, true, ◌&&◌}
-use mathlib.Core.List.{List, [], ◌∷◌, ◌++◌, map}
-use lib.Dec.{eqb, ltb}
-use lib.ListN.{length, get_or, set, take, drop, length-append, length-take, length-map, drop_of_length-le}
-use lib.Seq.{drop-cons}
-use borrow.Author.Tests.{ltb-true}
+use Rattle.std.proofs.Common.{ℕ, ◌+◌, ◌≤◌, ◌<◌, min, arith, add-one, ◌≡◌, refl, sym, ap, ◌∙◌, Bool, true, ◌&&◌, List, [], ◌∷◌, ◌++◌, map, eqb, ltb, length, get_or, set, take, drop, length-append, length-take, drop_of_length-le, drop-cons, ltb-true}
+use Rattle.std.proofs.Math.ListN.{length-map}
 use Rattle.lists.specs.Basics.{all}
 use Rattle.lists.proofs.Laws.{and_left, and_right, get_d_any, all_in, get_or-mem}
 use Rattle.lists.proofs.Fills.{fill_turn, fill_end}

@@ -1,14 +1,8 @@
 -- What is collected for a list of numbers. A part of the numbers has a part of the endpoints and of the counts, as long as its counts say; and
 -- for all numbers, sorted by island, all endpoints and counts are collected.
-use Prim.Native.Nat.{ℕ, zero, suc, ◌+◌, ◌*◌, ◌≤◌, ◌<◌}
-use mathlib.Core.Path.{◌≡◌, refl, sym, ap, ◌∙◌}
-use mathlib.Core.Bool.{Bool, true}
-use mathlib.Core.List.{List, [], ◌∷◌, ◌++◌}
-use native.Mathlib.Omega.{arith}
-use lib.Dec.{eqb}
-use lib.ListN.{length, get_or, take, drop, length-append, length-drop, length-map, take-append-drop}
-use lib.Seq.{length-take-le, take_at, drop_at, take-add}
-use borrow.Author.Tests.{eq-eqb, ne_eqb, eqb-true, eqb-false}
+use Rattle.std.proofs.Common.{ℕ, zero, suc, ◌+◌, ◌*◌, ◌≤◌, ◌<◌, ◌≡◌, refl, sym, ap, ◌∙◌, Bool, true, List, [], ◌∷◌, ◌++◌, arith, eqb, length, get_or, take, drop, length-append, length-drop, take-append-drop, length-take-le, take_at, drop_at, take-add, eq-eqb, ne_eqb, eqb-true}
+use Rattle.std.proofs.Math.ListN.{length-map}
+use Rattle.std.proofs.lemmas.Bool.{eqb-false}
 use Rattle.lists.specs.Basics.{one, all, sum_of, range}
 use Rattle.lists.proofs.Laws.{by_cases, all_intro, sum_ext_in, range_high}
 use Rattle.lists.proofs.Sums.{sum_ext, sum_join_map, sum_filter, sum_swap, sum_map, sum_get_or, collapse}

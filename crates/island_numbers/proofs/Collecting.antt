@@ -1,14 +1,7 @@
 -- One turn of the loop over parts; and that the parts between the bounds of counts are the parts by counts, so that what is collected are the
 -- endpoints and counts of the listed constraints.
-use Prim.Native.Nat.{ℕ, ◌+◌, ◌*◌, ◌≤◌, ◌<◌}
-use mathlib.Core.Path.{◌≡◌, refl, sym, ap, ◌∙◌}
-use mathlib.Core.List.{List, [], ◌∷◌, ◌++◌, map, append_assoc}
-use native.Mathlib.Omega.{arith}
-use native.Mathlib.Numerals.{add-one}
-use lib.Dec.{ltb}
-use lib.ListN.{length, get_or, take, drop, length-append, length-map}
-use lib.Seq.{drop-cons, length-take-le, take_all, take_at}
-use borrow.Author.Tests.{eq-eqb, ne_eqb, ltb-true}
+use Rattle.std.proofs.Common.{ℕ, ◌+◌, ◌*◌, ◌≤◌, ◌<◌, ◌≡◌, refl, sym, ap, ◌∙◌, List, [], ◌∷◌, ◌++◌, map, append_assoc, arith, add-one, ltb, length, get_or, take, drop, length-append, drop-cons, length-take-le, take_all, take_at, eq-eqb, ne_eqb, ltb-true}
+use Rattle.std.proofs.Math.ListN.{length-map}
 use Rattle.lists.specs.Basics.{join_map}
 use Rattle.lists.proofs.Laws.{all_in, get_or-mem, no_length}
 use Rattle.lists.proofs.Ranges.{join_map_ext_in}

@@ -1,15 +1,8 @@
 -- In the sorted numbers each island's stand where the last island's end, and so do its endpoints and counts in what is collected in that
 -- order. So the part that is read off for island i is the list of its constraints, with their endpoints and counts, and running it takes the
 -- next calls of the whole.
-use Prim.Native.Nat.{ℕ, ◌+◌, ◌-◌, ◌*◌, ◌≤◌, ◌<◌}
-use mathlib.Core.Path.{◌≡◌, sym, ap, ◌∙◌}
-use mathlib.Core.Bool.{cond}
-use mathlib.Core.List.{List, [], ◌++◌}
-use native.Mathlib.Omega.{arith}
-use lib.Dec.{eqb}
-use lib.ListN.{length, take, drop, length-drop, drop_of_length-le}
-use lib.Seq.{length-take-le, take_all}
-use borrow.Author.Tests.{eqb-true, eqb-false, eq-eqb}
+use Rattle.std.proofs.Common.{ℕ, ◌+◌, ◌-◌, ◌*◌, ◌≤◌, ◌<◌, ◌≡◌, sym, ap, ◌∙◌, cond, List, [], ◌++◌, arith, eqb, length, take, drop, length-drop, drop_of_length-le, length-take-le, take_all, eqb-true, eq-eqb}
+use Rattle.std.proofs.lemmas.Bool.{eqb-false}
 use Rattle.lists.specs.Basics.{join_map, range_from}
 use Rattle.lists.proofs.Laws.{by_cases, no_length}
 use Rattle.lists.proofs.Fills.{whole}

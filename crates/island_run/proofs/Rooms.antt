@@ -1,9 +1,5 @@
 -- Question 6 asks for the tables' lengths alone, and fewer constraints and endpoints need less.
-use Prim.Native.Nat.{ℕ, ◌≤◌}
-use mathlib.Core.Path.{◌≡◌}
-use mathlib.Core.Bool.{true}
-use native.Mathlib.Omega.{arith}
-use lib.ListN.{length}
+use Rattle.std.proofs.Common.{ℕ, ◌≤◌, ◌≡◌, true, arith, length}
 use Rattle.plan_questions.specs.Plans.{Tables, roomy_with}
 use Rattle.plan_questions.proofs.Rooms.{fitted_with, with_fitted}
 

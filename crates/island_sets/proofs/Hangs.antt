@@ -1,15 +1,7 @@
 -- A root l is linked to a root w that weighs at least as much, and w's size grows by l's: the sets of w and l become one whose root is w, every other set
 -- stays, and the invariant holds. A union does just that with the loser of two roots under the winner; of a root and itself nothing changes.
-use Prim.Native.Nat.{ℕ, ◌+◌, ◌*◌, ◌≤◌, ◌<◌}
-use native.Mathlib.Omega.{arith}
-use native.Mathlib.Decide.{ℕ_discrete}
-use mathlib.Core.Path.{◌≡◌, refl, sym, ap, ◌∙◌, subst}
-use mathlib.Core.Bool.{Bool, true, false, cond}
-use mathlib.Core.List.{List}
-use lib.Dec.{eqb}
-use lib.ListN.{length, get_or, set, length-set}
-use lib.Seq.{get_or-set_same, get_or-set_other}
-use borrow.Author.Tests.{eqb-true, eq-eqb, ne_eqb}
+use Rattle.std.proofs.Common.{ℕ, ◌+◌, ◌*◌, ◌≤◌, ◌<◌, arith, ◌≡◌, refl, sym, ap, ◌∙◌, subst, Bool, true, false, cond, List, eqb, length, get_or, set, length-set, get_or-set_same, get_or-set_other, eqb-true, eq-eqb, ne_eqb}
+use Rattle.std.proofs.Math.Decide.{ℕ_discrete}
 use Rattle.lists.specs.Basics.{one, range}
 use Rattle.lists.proofs.Laws.{by_cases, length-range, sum_one}
 use Rattle.lists.proofs.Sums.{sum_ext, sum_add, sum_le}
@@ -130,13 +122,13 @@ module _ (p s : List ℕ) (h : Sets p s) (w l : ℕ) (kw : w < length p) (kl : l
   unfolding Told
   told_hung b k = go (ℕ_discrete (root_of p b) l) (ℕ_discrete (root_of p b) w)
     where
-      at : ℕ → Type 0
-      at z = get_or (set s w total) z 0 ≡ size_in (length p) (λ x. moved w l (root_of p x)) z
+      SizeAt : ℕ → Type 0
+      SizeAt z = get_or (set s w total) z 0 ≡ size_in (length p) (λ x. moved w l (root_of p x)) z
 
-      go : Dec (root_of p b ≡ l) → Dec (root_of p b ≡ w) → at (moved w l (root_of p b))
-      go (yes e) d = subst at (sym (moved_here w l (root_of p b) e)) (weight_top ∙ total_is)
-      go (no n) (yes e) = subst at (sym (moved_other w l (root_of p b) n ∙ e)) (weight_top ∙ total_is)
-      go (no n) (no m) = subst at (sym (moved_other w l (root_of p b) n))
+      go : Dec (root_of p b ≡ l) → Dec (root_of p b ≡ w) → SizeAt (moved w l (root_of p b))
+      go (yes e) d = subst SizeAt (sym (moved_here w l (root_of p b) e)) (weight_top ∙ total_is)
+      go (no n) (yes e) = subst SizeAt (sym (moved_other w l (root_of p b) n ∙ e)) (weight_top ∙ total_is)
+      go (no n) (no m) = subst SizeAt (sym (moved_other w l (root_of p b) n))
           (weight_other (root_of p b) m ∙ told_at p s h b k ∙ sym (size_other (length p) (root_of p) w l (root_of p b) m n))
 
   pub sets_hung : Sets (set p l w) (set s w total)

@@ -1,13 +1,8 @@
 -- Joining by weight and joining by lowest body make the same sets. Either step gives one number, that of a's set or of b's, to both sets, and leaves the rest:
 -- so after it two bodies are together exactly if they were, or each was with a or with b. That only asks which bodies were together before.
-use Prim.Native.Nat.{ℕ, ◌≤◌, min}
-use native.Mathlib.Omega.{arith}
-use native.Mathlib.Decide.{dec_le}
-use mathlib.Core.Logic.{⊎_elim}
-use mathlib.Core.Path.{◌≡◌, refl, sym, ap, ◌∙◌}
-use mathlib.Core.Bool.{Bool, true, false, ◌&&◌, ◌||◌, cond}
-use lib.Dec.{eqb, ltb}
-use borrow.Author.Tests.{eqb-true, eqb-false, eq-eqb, ne_eqb}
+use Rattle.std.proofs.Common.{ℕ, ◌≤◌, min, arith, ⊎_elim, ◌≡◌, refl, sym, ap, ◌∙◌, Bool, true, false, ◌&&◌, ◌||◌, cond, eqb, ltb, eqb-true, eq-eqb, ne_eqb}
+use Rattle.std.proofs.Math.Decide.{dec_le}
+use Rattle.std.proofs.lemmas.Bool.{eqb-false}
 use Rattle.lists.specs.Basics.{one, range}
 use Rattle.lists.proofs.Laws.{by_cases, clashes, or_left, or_right}
 use Rattle.lists.proofs.Sums.{sum_ext}

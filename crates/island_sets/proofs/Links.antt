@@ -1,13 +1,8 @@
 -- Laws of links that end. A root is the one function that keeps its value over every link and fixes where links end. Each link on the way is one of
 -- `links_of`. Links end wherever a number falls along each of them, and is at most the table's length at first.
-use Prim.Native.Nat.{ℕ, zero, suc, ◌≤◌, ◌<◌}
-use native.Mathlib.Omega.{arith}
-use native.Mathlib.Decide.{ℕ_discrete}
-use mathlib.Core.Path.{◌≡◌, refl, sym, ap, ◌∙◌, subst, fun_ext}
-use mathlib.Core.List.{List}
-use lib.ListN.{length, get_or, set}
-use lib.Seq.{get_or-set_same, get_or-set_other}
-use borrow.Author.Tests.{eq-eqb, ne_eqb}
+use Rattle.std.proofs.Common.{ℕ, zero, suc, ◌≤◌, ◌<◌, arith, ◌≡◌, refl, sym, ap, ◌∙◌, subst, List, length, get_or, set, get_or-set_same, get_or-set_other, eq-eqb, ne_eqb}
+use Rattle.std.proofs.Math.Decide.{ℕ_discrete}
+use Rattle.std.proofs.Math.Path.{fun_ext}
 use Rattle.lists.proofs.Laws.{get_d_any}
 use Rattle.island_sets.specs.Sets.{link, follow, root_of, steps, links_of}
 

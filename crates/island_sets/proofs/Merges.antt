@@ -1,11 +1,6 @@
 -- Laws of `relabel`: it never raises a number, and gives the two numbers the smaller of them.
-use Prim.Native.Nat.{ℕ, ◌≤◌, min, max}
-use native.Mathlib.Omega.{arith}
-use mathlib.Core.Path.{◌≡◌, refl}
-use mathlib.Core.Logic.{◌⊎◌, inl, inr, ⊎_elim}
-use mathlib.Core.Bool.{Bool, true, false}
-use lib.Dec.{eqb}
-use borrow.Author.Tests.{eqb-true, eqb-false}
+use Rattle.std.proofs.Common.{ℕ, ◌≤◌, min, max, arith, ◌≡◌, refl, ◌⊎◌, inl, inr, ⊎_elim, Bool, true, false, eqb, eqb-true}
+use Rattle.std.proofs.lemmas.Bool.{eqb-false}
 use Rattle.island_sets.specs.Sets.{relabel}
 
 -- by its two cases

@@ -1,11 +1,7 @@
 -- Every body alone: each is its own parent and its own root, and weighs 1, the number of bodies in its set.
-use Prim.Native.Nat.{ℕ, ◌*◌, ◌≤◌, ◌<◌}
-use native.Mathlib.Omega.{arith}
-use native.Mathlib.Decide.{dec_lt}
-use mathlib.Core.Path.{◌≡◌, refl, sym, ap, ◌∙◌, subst}
-use mathlib.Core.List.{List}
-use lib.Dec.{eqb}
-use lib.ListN.{length, get_or, replicate, length-replicate, get_or-replicate, get_or-eq_default}
+use Rattle.std.proofs.Common.{ℕ, ◌*◌, ◌≤◌, ◌<◌, arith, ◌≡◌, refl, sym, ap, ◌∙◌, subst, List, eqb, length, get_or, replicate}
+use Rattle.std.proofs.Math.Decide.{dec_lt}
+use Rattle.std.proofs.Math.ListN.{length-replicate, get_or-replicate, get_or-eq_default}
 use Rattle.lists.specs.Basics.{one, range}
 use Rattle.lists.proofs.Laws.{length-range, get_d_any}
 use Rattle.lists.proofs.Ranges.{range_at}

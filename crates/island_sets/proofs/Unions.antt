@@ -1,14 +1,7 @@
 -- A union: the two lookups change no root, the loser of the two roots hangs under the winner, and that is `hang`; of a root and itself nothing changes.
-use Prim.Native.Nat.{ℕ, ◌+◌, ◌-◌, ◌≤◌, ◌<◌, min}
-use native.Mathlib.Omega.{arith}
-use mathlib.Core.Path.{◌≡◌, refl, sym, ap, ◌∙◌, subst, fun_ext}
-use mathlib.Core.Logic.{◌⊎◌, inl, inr, ⊎_elim}
-use mathlib.Core.Bool.{Bool, true, false, ◌||◌, cond}
-use mathlib.Core.List.{List}
-use lib.Dec.{eqb, ltb}
-use lib.ListN.{length, get_or, set}
-use native.Mathlib.Decide.{dec_le}
-use borrow.Author.Tests.{eqb-true, ltb-true, ltb-false}
+use Rattle.std.proofs.Common.{ℕ, ◌+◌, ◌-◌, ◌≤◌, ◌<◌, min, arith, ◌≡◌, refl, sym, ap, ◌∙◌, subst, ◌⊎◌, inl, inr, ⊎_elim, Bool, true, false, ◌||◌, cond, List, eqb, ltb, length, get_or, set, eqb-true, ltb-true, ltb-false}
+use Rattle.std.proofs.Math.Path.{fun_ext}
+use Rattle.std.proofs.Math.Decide.{dec_le}
 use Rattle.lists.proofs.Laws.{by_cases}
 use Rattle.island_sets.specs.Sets.{root_of, size_in, winner_of, winner, hang}
 use Rattle.island_sets.specs.Steps.{Sets, Shortened}

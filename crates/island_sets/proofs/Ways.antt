@@ -1,14 +1,7 @@
 -- The way from a body to its root, link by link, as the code reads it: `get_or p b 0` within the table. Compressing sets the links of bodies behind, and
 -- those ahead, with fewer links to go, stay as they were.
-use Prim.Native.Nat.{ℕ, suc, ◌+◌, ◌≤◌, ◌<◌}
-use native.Mathlib.Omega.{arith}
-use native.Mathlib.Decide.{ℕ_discrete}
-use mathlib.Core.Path.{◌≡◌, refl, sym, ap, ◌∙◌}
-use mathlib.Core.Bool.{not}
-use mathlib.Core.List.{List}
-use lib.Dec.{eqb}
-use lib.ListN.{length, get_or, set}
-use borrow.Author.Tests.{eq-eqb, ne_eqb}
+use Rattle.std.proofs.Common.{ℕ, suc, ◌+◌, ◌≤◌, ◌<◌, arith, ◌≡◌, refl, sym, ap, ◌∙◌, not, List, eqb, length, get_or, set, eq-eqb, ne_eqb}
+use Rattle.std.proofs.Math.Decide.{ℕ_discrete}
 use Rattle.lists.specs.Basics.{one}
 use Rattle.island_sets.specs.Sets.{link, root_of, links_of}
 use Rattle.island_sets.specs.Steps.{Balanced, Shortened}

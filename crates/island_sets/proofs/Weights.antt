@@ -1,12 +1,9 @@
 -- Weighed links: sizes rise along each link and are at most the number of bodies, so links end; each link at least doubles the size, so 2 to the
 -- number of links is at most the root's size, which is the number of bodies in the set. A link set to the body's root keeps all of that.
-use Prim.Native.Nat.{ℕ, zero, suc, ◌-◌, ◌*◌, ◌^◌, ◌≤◌, ◌<◌}
-use native.Mathlib.Omega.{arith}
-use native.Mathlib.Decide.{ℕ_discrete, dec_lt}
-use native.Mathlib.Nat.{pow-zero, pow-suc, mul-le-mul_left, mul_assoc}
-use mathlib.Core.Path.{◌≡◌, refl, sym, ap, ◌∙◌, subst}
-use mathlib.Core.List.{List}
-use lib.ListN.{length, get_or, set, length-set, get_or-eq_default}
+use Rattle.std.proofs.Common.{ℕ, zero, suc, ◌-◌, ◌*◌, ◌^◌, ◌≤◌, ◌<◌, arith, pow-suc, mul-le-mul_left, mul_assoc, ◌≡◌, refl, sym, ap, ◌∙◌, subst, List, length, get_or, set, length-set}
+use Rattle.std.proofs.Math.Decide.{ℕ_discrete, dec_lt}
+use Rattle.std.proofs.Math.Nat.{pow-zero}
+use Rattle.std.proofs.Math.ListN.{get_or-eq_default}
 use Rattle.island_sets.specs.Sets.{link, follow, root_of, steps, links_of, size_in}
 use Rattle.island_sets.specs.Steps.{Weighed, Told, Sets, Balanced, Shortened}
 use Rattle.island_sets.proofs.Links.{by_link, Ends, ends_by, root_here, root_step, root_root, roots_are, follow_stays, steps_stay, steps_move, link-same, link_other}

@@ -1,12 +1,5 @@
 -- A number read digit by digit: what was read and what is left make up the field. The value is below 10 to the digits read, so it fits.
-use Prim.Native.Nat.{ℕ, zero, suc, ◌+◌, ◌-◌, ◌*◌, ◌^◌, ◌≤◌, ◌<◌}
-use mathlib.Core.Path.{◌≡◌, refl, sym, ap, ◌∙◌}
-use mathlib.Core.Bool.{true, false}
-use mathlib.Core.List.{List, [], ◌∷◌}
-use native.Mathlib.Omega.{arith}
-use native.Mathlib.Numerals.{add-one}
-use lib.ListN.{length, get_or, drop}
-use lib.Seq.{drop-cons}
+use Rattle.std.proofs.Common.{ℕ, zero, suc, ◌+◌, ◌-◌, ◌*◌, ◌^◌, ◌≤◌, ◌<◌, ◌≡◌, refl, sym, ap, ◌∙◌, true, false, List, [], ◌∷◌, arith, add-one, length, get_or, drop, drop-cons}
 use Rattle.lift_line.specs.Lines.{digit, digits_of, value_of, field_at, end_of, number_at}
 use Rattle.lift_line.proofs.Tests.{digit_low, digit_high, inside}
 

@@ -1,6 +1,5 @@
 -- Lines, computed.
-use mathlib.Core.Path.{◌≡◌, refl}
-use mathlib.Core.List.{[], ◌∷◌}
+use Rattle.std.proofs.Common.{◌≡◌, refl, [], ◌∷◌}
 use Rattle.lift_line.specs.declared.Line.TheVariants.{Wanted, Unreadable}
 use Rattle.lift_line.specs.Lines.{field_at, end_of, number_at, readable, line_of}
 

@@ -1,12 +1,6 @@
 -- A frame that was made stands in the buffer already, and a refusal kept the buffer, so that its line is all that was put into it.
-use Prim.Native.Nat.{ℕ, ◌+◌, ◌≤◌}
-use mathlib.Core.Path.{◌≡◌, sym, ap, ◌∙◌}
-use mathlib.Core.Bool.{true, false}
-use mathlib.Core.List.{List}
-use native.Mathlib.Omega.{arith}
-use lib.Dec.{leb, eqb}
-use lib.ListN.{length, drop, length-append, length-drop}
-use borrow.Author.Tests.{le-leb, not-true}
+use Rattle.std.proofs.Common.{ℕ, ◌+◌, ◌≤◌, ◌≡◌, sym, ap, ◌∙◌, true, false, List, arith, leb, eqb, length, drop, length-append, length-drop, le-leb}
+use Rattle.std.proofs.lemmas.Bool.{not-true}
 use Rattle.lists.specs.Basics.{over}
 use Rattle.schedules.specs.Print.{refusal_line}
 use Rattle.print_fields.specs.Puts.{Put, longest, if_room}

@@ -1,10 +1,5 @@
 -- The bit of a test: 1 or 0, as a byte and as a number.
-use Prim.Native.Nat.{ℕ, zero, suc, ◌≤◌}
-use mathlib.Core.Path.{◌≡◌, refl}
-use mathlib.Core.Bool.{Bool, true, false, ◌&&◌, ◌||◌, cond}
-use native.Mathlib.Omega.{arith}
-use lib.Bits.{bit_and, bit_or}
-use lib.Dec.{eqb}
+use Rattle.std.proofs.Common.{ℕ, zero, suc, ◌≤◌, ◌≡◌, refl, Bool, true, false, ◌&&◌, ◌||◌, cond, arith, bit_and, bit_or, eqb}
 use mir.Val.{bool_byte}
 use Rattle.lists.specs.Basics.{one}
 

@@ -1,11 +1,7 @@
 -- Counting the numbers below n that pass a test: one more number adds one if it passes. So a number that passes is counted in every longer count,
 -- and two numbers that pass, with as many passing numbers below either, are the same number.
-use Prim.Native.Nat.{ℕ, zero, suc, ◌+◌, ◌≤◌, ◌<◌}
-use native.Mathlib.Omega.{arith}
-use native.Mathlib.Decide.{ℕ_discrete, dec_lt}
-use mathlib.Core.Path.{◌≡◌, ap, ◌∙◌}
-use mathlib.Core.Bool.{Bool, true}
-use mathlib.Core.List.{[], ◌∷◌}
+use Rattle.std.proofs.Common.{ℕ, zero, suc, ◌+◌, ◌≤◌, ◌<◌, arith, ◌≡◌, ap, ◌∙◌, Bool, true, [], ◌∷◌}
+use Rattle.std.proofs.Math.Decide.{ℕ_discrete, dec_lt}
 use Rattle.lists.specs.Basics.{one, count, range}
 use Rattle.lists.proofs.Sums.{sum_append}
 use Rattle.lists.proofs.Laws.{length-range, count-few}

@@ -1,14 +1,6 @@
 -- Scans of a list: one element more, the same test in other words, one filter behind another; and the first places of a rising list.
-use Prim.Native.Nat.{ℕ, zero, suc, ◌+◌, ◌<◌}
-use mathlib.Core.Path.{◌≡◌, refl, sym, ap, ◌∙◌}
-use mathlib.Core.Bool.{Bool, true, false, ◌||◌, or-false}
-use mathlib.Core.List.{List, [], ◌∷◌}
-use native.Mathlib.Numerals.{add-one}
-use native.Mathlib.Omega.{arith}
-use lib.Dec.{ltb, eqb}
-use lib.ListN.{length, get_or, take, drop, take-append-drop}
-use lib.Seq.{take-suc, length-take-le, get_or-take}
-use borrow.Author.Tests.{eqb-true, ltb-true}
+use Rattle.std.proofs.Common.{ℕ, zero, suc, ◌+◌, ◌<◌, ◌≡◌, refl, sym, ap, ◌∙◌, Bool, true, false, ◌||◌, List, [], ◌∷◌, add-one, arith, ltb, eqb, length, get_or, take, drop, take-append-drop, take-suc, length-take-le, get_or-take, eqb-true, ltb-true}
+use Rattle.std.proofs.Math.Bool.{or-false}
 use Rattle.lists.specs.Basics.{any, all, filter, mem, place, rises}
 use Rattle.lists.proofs.Laws.{or_left, or_right, or_cases, and_left, and_right, clashes, by_cases, not-true-false, any_append, all_in, mem_self, get_or-mem, place-lt, place_get}
 

@@ -1,14 +1,8 @@
 -- The positions of one group's constraints. Each member's part is written without touching another's, so the members have their
 -- positions, one after another, and the other constraints keep theirs.
-use Prim.Native.Nat.{ℕ, ◌+◌, ◌-◌, ◌*◌, ◌≤◌, ◌<◌}
-use mathlib.Core.Path.{◌≡◌, sym, ap, ◌∙◌}
-use mathlib.Core.Bool.{Bool, true, false, ◌||◌}
-use mathlib.Core.List.{List, map}
-use native.Mathlib.Omega.{arith}
-use lib.Dec.{eqb, ltb}
-use lib.ListN.{length, get_or, take, drop, length-drop, length-map}
-use lib.Seq.{length-take-le, take_all}
-use borrow.Author.Tests.{eqb-true, eqb-false, ltb-true}
+use Rattle.std.proofs.Common.{ℕ, ◌+◌, ◌-◌, ◌*◌, ◌≤◌, ◌<◌, ◌≡◌, sym, ap, ◌∙◌, Bool, true, false, ◌||◌, List, map, arith, eqb, ltb, length, get_or, take, drop, length-drop, length-take-le, take_all, eqb-true, ltb-true}
+use Rattle.std.proofs.Math.ListN.{length-map}
+use Rattle.std.proofs.lemmas.Bool.{eqb-false}
 use Rattle.lists.specs.Basics.{all, mem, place, join_map}
 use Rattle.lists.proofs.Laws.{or_left, or_right, or_cases, clashes, by_cases, not-true-false, all_in, get_or-mem}
 use Rattle.lists.proofs.Scans.{any_next, any-first}

@@ -1,14 +1,7 @@
 -- One constraint's positions are filled in the order of its endpoints. Places by body: the bodies of a rising list differ, so the place
 -- written for one of them is not overwritten by a later one.
-use Prim.Native.Nat.{ℕ, ◌+◌, ◌≤◌, ◌<◌}
-use mathlib.Core.Path.{◌≡◌, sym, ap, ◌∙◌}
-use mathlib.Core.Bool.{Bool, true}
-use mathlib.Core.List.{List, ◌++◌, map}
-use native.Mathlib.Omega.{arith}
-use lib.Dec.{eqb, ltb}
-use lib.ListN.{length, get_or, set, take, drop, length-set}
-use lib.Seq.{get_or-set_same, get_or-set_other}
-use borrow.Author.Tests.{eqb-true, eqb-false, ltb-true}
+use Rattle.std.proofs.Common.{ℕ, ◌+◌, ◌≤◌, ◌<◌, ◌≡◌, sym, ap, ◌∙◌, Bool, true, List, ◌++◌, map, arith, eqb, ltb, length, get_or, set, take, drop, length-set, get_or-set_same, get_or-set_other, eqb-true, ltb-true}
+use Rattle.std.proofs.lemmas.Bool.{eqb-false}
 use Rattle.lists.specs.Basics.{all, place, rises}
 use Rattle.lists.proofs.Laws.{by_cases, all_in, get_or-mem, place-lt, place_get, get_place, rises-distinct}
 use Rattle.locating.specs.Locates.{PlacesListed, PlacesKnown}

@@ -1,14 +1,8 @@
 -- The positions of all constraints. A group's constraints and bodies are the parts that stand for it in their tables, and each endpoint of
 -- its constraints is among its bodies, so group after group every constraint gets its positions; they fill the table.
-use Prim.Native.Nat.{ℕ, suc, ◌+◌, ◌≤◌, ◌<◌}
-use mathlib.Core.Path.{◌≡◌, refl, sym, ◌∙◌}
-use mathlib.Core.Bool.{Bool, true}
-use mathlib.Core.List.{List, []}
-use native.Mathlib.Omega.{arith}
-use lib.Dec.{eqb, ltb}
-use lib.ListN.{length, get_or, take}
-use lib.Seq.{take-length}
-use borrow.Author.Tests.{eqb-true, eqb-false, ltb-true, lt-ltb}
+use Rattle.std.proofs.Common.{ℕ, suc, ◌+◌, ◌≤◌, ◌<◌, ◌≡◌, refl, sym, ◌∙◌, Bool, true, List, [], arith, eqb, ltb, length, get_or, take, eqb-true, ltb-true, lt-ltb}
+use Rattle.std.proofs.Math.Seq.{take-length}
+use Rattle.std.proofs.lemmas.Bool.{eqb-false}
 use Rattle.lists.specs.Basics.{all, mem, join_map}
 use Rattle.lists.proofs.Laws.{by_cases, all_in, all_intro, all_get_d, max_in, get_or-mem}
 use Rattle.lists.proofs.Ranges.{all-join_map}

@@ -1,13 +1,6 @@
 -- What is known once an update has put its questions: the sizes are within their limits, the counts are two to four and make up the
 -- endpoint list, the endpoints are sound, and every lent table is long enough. So a plan can be built by the bounds of these counts.
-use Prim.Native.Nat.{ℕ, ◌*◌, ◌≤◌}
-use mathlib.Core.Path.{◌≡◌}
-use mathlib.Core.Bool.{true, ◌&&◌}
-use mathlib.Core.List.{List}
-use native.Mathlib.Omega.{arith}
-use lib.Dec.{leb, eqb}
-use lib.ListN.{length}
-use borrow.Author.Tests.{leb-true, eqb-true}
+use Rattle.std.proofs.Common.{ℕ, ◌*◌, ◌≤◌, ◌≡◌, true, ◌&&◌, List, arith, leb, eqb, length, leb-true, eqb-true}
 use Rattle.lists.specs.Basics.{all}
 use Rattle.lists.proofs.Laws.{and_left, and_right}
 use Rattle.frame.specs.Frames.{counts_known, end_count, fits}

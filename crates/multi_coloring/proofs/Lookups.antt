@@ -1,13 +1,7 @@
 -- The lookup of positions: where a constraint's positions start, by the counts before it as they are read, that they end inside the table, and
 -- how they stand in four places.
-use Prim.Native.Nat.{ℕ, ◌+◌, ◌≤◌, ◌<◌}
-use mathlib.Core.Path.{◌≡◌, refl, sym, ap, ◌∙◌}
-use mathlib.Core.List.{List, [], ◌∷◌, ◌++◌, map}
-use native.Mathlib.Omega.{arith}
-use lib.Dec.{leb}
-use lib.ListN.{length, get_or, take, drop, replicate, length-map, length-drop}
-use lib.Seq.{length-take-le, get_or-take}
-use borrow.Author.Tests.{leb-true}
+use Rattle.std.proofs.Common.{ℕ, ◌+◌, ◌≤◌, ◌<◌, ◌≡◌, refl, sym, ap, ◌∙◌, List, [], ◌∷◌, ◌++◌, map, arith, leb, length, get_or, take, drop, replicate, length-drop, length-take-le, get_or-take, leb-true}
+use Rattle.std.proofs.Math.ListN.{length-map}
 use Rattle.std.proofs.lemmas.List.{take-map, take-take}
 use Rattle.lists.specs.Basics.{four}
 use Rattle.lists.proofs.Laws.{and_right, by_cases, get_or-map-lt}

@@ -1,9 +1,5 @@
 -- Question 7 of constraints by their counts is that of live constraints with these endpoints.
-use Prim.Native.Nat.{ℕ}
-use mathlib.Core.Path.{◌≡◌, refl, ap}
-use mathlib.Core.Bool.{Bool, ◌&&◌}
-use mathlib.Core.List.{List, [], ◌∷◌}
-use lib.ListN.{take, drop}
+use Rattle.std.proofs.Common.{ℕ, ◌≡◌, refl, ap, Bool, ◌&&◌, List, [], ◌∷◌, take, drop}
 use Rattle.lists.specs.Basics.{all}
 use Rattle.frame.specs.Frames.{counted_of, sound, fits}
 use Rattle.groups.specs.Groups.{counted_parts}

@@ -1,11 +1,6 @@
 -- The answers of an update meet its contract: where it does not answer "changed" every table is as it was, and where it does the
 -- rebuilt tables and the counts are those of the contract.
-use Prim.Native.Nat.{ℕ}
-use mathlib.Core.Path.{◌≡◌, refl, sym, ap, ◌∙◌}
-use mathlib.Core.Bool.{Bool, true, false, not}
-use mathlib.Core.List.{List}
-use lib.Dec.{eqb}
-use borrow.Author.Tests.{ne_eqb}
+use Rattle.std.proofs.Common.{ℕ, ◌≡◌, refl, sym, ap, ◌∙◌, Bool, true, false, not, List, eqb, ne_eqb}
 use Rattle.lists.specs.Basics.{over}
 use Rattle.groups.specs.Groups.{Plan, with_counts, multi_plan_of}
 use Rattle.plan_questions.specs.Plans.{Tables}

@@ -1,8 +1,5 @@
 -- What an accepted update leaves remembered is its input, whether it answered "changed" or "unchanged".
-use Prim.Native.Nat.{ℕ}
-use mathlib.Core.Path.{◌≡◌}
-use mathlib.Core.Bool.{Bool, true, ◌&&◌}
-use mathlib.Core.List.{List}
+use Rattle.std.proofs.Common.{ℕ, ◌≡◌, Bool, true, ◌&&◌, List}
 use Rattle.lists.specs.Basics.{same}
 use Rattle.lists.proofs.Laws.{and_left, and_right, by_cases}
 use Rattle.plan_history.proofs.Memory.{same-eq}

@@ -1,13 +1,7 @@
 -- The plan as it stands after the update of an island hands back what the definition's plan does, so its groups make the same takes. The
 -- update is accepted, since its questions are and there is room.
-use Prim.Native.Nat.{ℕ, ◌*◌, ◌/◌, ◌≤◌, ◌<◌}
-use mathlib.Core.Path.{◌≡◌, refl, sym, ap, ◌∙◌, subst}
-use mathlib.Core.Bool.{true}
-use mathlib.Core.List.{List, []}
-use native.Mathlib.Omega.{arith}
-use lib.Dec.{eqb}
-use lib.ListN.{length}
-use borrow.Author.Tests.{eqb-true, eqb-false, ne_eqb, le-leb}
+use Rattle.std.proofs.Common.{ℕ, ◌*◌, ◌/◌, ◌≤◌, ◌<◌, ◌≡◌, refl, sym, ap, ◌∙◌, subst, true, List, [], arith, eqb, length, eqb-true, ne_eqb, le-leb}
+use Rattle.std.proofs.lemmas.Bool.{eqb-false}
 use Rattle.lists.specs.Basics.{join_map, range}
 use Rattle.lists.proofs.Laws.{by_cases, range_high, pigeonhole, no_length}
 use Rattle.lists.proofs.Ranges.{join_map_ext_in}

@@ -1,14 +1,7 @@
 -- Constraints that have a count each: how many endpoints those before one have, the bounds one after another, and the parts between them,
 -- which are the constraints by counts. They fill the endpoint list without a gap; of no constraint there are no bounds and no endpoints.
-use Prim.Native.Nat.{ℕ, zero, suc, ◌+◌, ◌-◌, ◌*◌, ◌≤◌, ◌<◌}
-use mathlib.Core.Path.{◌≡◌, refl, sym, ap, ◌∙◌}
-use mathlib.Core.List.{List, [], ◌∷◌}
-use native.Mathlib.Omega.{arith}
-use native.Mathlib.Numerals.{add-one}
-use lib.Dec.{eqb}
-use lib.ListN.{length, get_or, set, take, drop, length-set, length-drop}
-use lib.Seq.{length-take-le, get_or-set_same, get_or-set_other, drop-drop, ext_get_or}
-use borrow.Author.Tests.{eqb-true, eqb-false, ne_eqb}
+use Rattle.std.proofs.Common.{ℕ, zero, suc, ◌+◌, ◌-◌, ◌*◌, ◌≤◌, ◌<◌, ◌≡◌, refl, sym, ap, ◌∙◌, List, [], ◌∷◌, arith, add-one, eqb, length, get_or, set, take, drop, length-set, length-drop, length-take-le, get_or-set_same, get_or-set_other, drop-drop, ext_get_or, eqb-true, ne_eqb}
+use Rattle.std.proofs.lemmas.Bool.{eqb-false}
 use Rattle.lists.specs.Basics.{sum_of}
 use Rattle.lists.proofs.Laws.{by_cases}
 use Rattle.groups.specs.Groups.{counted_parts, flatten}

@@ -1,13 +1,8 @@
 -- Constraints whose endpoints fill the list without a gap. Each starts where those before it end, so no two overlap: a write over the part
 -- of one, in a table that is read by the same bounds, keeps the parts of all others, and the parts one after another are the table.
-use Prim.Native.Nat.{ℕ, zero, suc, ◌+◌, ◌-◌, ◌*◌, ◌≤◌, ◌<◌}
-use mathlib.Core.Path.{◌≡◌, sym, ap, ◌∙◌}
-use mathlib.Core.List.{List, [], ◌++◌, append_assoc}
-use native.Mathlib.Omega.{arith}
-use lib.Dec.{eqb, ltb}
-use lib.ListN.{length, get_or, take, drop, length-append, length-drop, take-append-drop}
-use lib.Seq.{length-take-le, take_all, take_at, drop_at, take-append-le, drop-append-le, drop-drop, take-add}
-use borrow.Author.Tests.{eqb-true, eqb-false, ltb-true, ltb-false}
+use Rattle.std.proofs.Common.{ℕ, zero, suc, ◌+◌, ◌-◌, ◌*◌, ◌≤◌, ◌<◌, ◌≡◌, sym, ap, ◌∙◌, List, [], ◌++◌, append_assoc, arith, eqb, ltb, length, get_or, take, drop, length-append, length-drop, take-append-drop, length-take-le, take_all, take_at, drop_at, drop-drop, take-add, eqb-true, ltb-true, ltb-false}
+use Rattle.std.proofs.Math.Seq.{take-append-le, drop-append-le}
+use Rattle.std.proofs.lemmas.Bool.{eqb-false}
 use Rattle.lists.proofs.Laws.{by_cases}
 use Rattle.groups.specs.Groups.{flatten}
 use Rattle.groups.proofs.Tables.{flatten-zero, flatten-suc, start-suc, start_mono, flatten_twos}

@@ -1,9 +1,5 @@
 -- The parts one by one; without bounds they are the pairs.
-use Prim.Native.Nat.{ℕ, zero, suc, ◌*◌, ◌<◌}
-use mathlib.Core.Path.{◌≡◌, refl, ap, ◌∙◌}
-use mathlib.Core.List.{List, [], ◌∷◌}
-use native.Mathlib.Omega.{arith}
-use lib.ListN.{length, get_or}
+use Rattle.std.proofs.Common.{ℕ, zero, suc, ◌*◌, ◌<◌, ◌≡◌, refl, ap, ◌∙◌, List, [], ◌∷◌, arith, length, get_or}
 use Rattle.lists.specs.Basics.{range}
 use Rattle.lists.proofs.Laws.{map_ext_in}
 use Rattle.lists.proofs.Ranges.{map_shift, length-map-range, map-range-at}

@@ -1,11 +1,6 @@
 -- What stands in the first places of tables: a list that was written there does, another stays where nothing was written, and one of the same
 -- length is compared with it.
-use Prim.Native.Nat.{ℕ}
-use mathlib.Core.Path.{◌≡◌, refl, sym, ap, ◌∙◌}
-use mathlib.Core.Bool.{Bool, true, false}
-use mathlib.Core.List.{List, []}
-use lib.ListN.{length, take}
-use lib.Seq.{take_at}
+use Rattle.std.proofs.Common.{ℕ, ◌≡◌, refl, sym, ap, ◌∙◌, Bool, true, false, List, [], length, take, take_at}
 use Rattle.lists.specs.Basics.{over, same}
 use Rattle.lists.proofs.Laws.{clashes}
 use Rattle.groups.specs.Groups.{Plan, plan_from, colors_of, group_count, largest_group, flatten, color_from}

@@ -1,13 +1,7 @@
 -- The memory of a plan. While the plan and its tables hold what is remembered, the test for equal input compares with just that; so
 -- an update answers as the definition does, and leaves the plan and the tables holding what is remembered then.
-use Prim.Native.Nat.{ℕ, ◌*◌, ◌/◌}
-use mathlib.Core.Path.{◌≡◌, refl, sym, ap, ap₂, ◌∙◌}
-use mathlib.Core.Bool.{Bool, true, false, not, ◌&&◌, ◌||◌, or-false, or-true, or_assoc}
-use mathlib.Core.List.{List, ◌∷◌}
-use native.Mathlib.Omega.{arith}
-use lib.Dec.{eqb}
-use lib.ListN.{length, take}
-use borrow.Author.Tests.{eqb-true, eq-eqb}
+use Rattle.std.proofs.Common.{ℕ, ◌*◌, ◌/◌, ◌≡◌, refl, sym, ap, ap₂, ◌∙◌, Bool, true, false, not, ◌&&◌, ◌||◌, List, ◌∷◌, arith, eqb, length, take, eqb-true, eq-eqb}
+use Rattle.std.proofs.Math.Bool.{or-false, or-true, or_assoc}
 use Rattle.lists.specs.Basics.{any, same}
 use Rattle.lists.proofs.Laws.{and_left, and_right, and_both, by_cases, bool_ext}
 use Rattle.groups.specs.Groups.{plan_from, pairs_of, colors_of, group_count, largest_group, flatten, color_from}

@@ -1,10 +1,5 @@
 -- What an accepted update leaves remembered is its input, whether it answered "changed" or "unchanged".
-use Prim.Native.Nat.{ℕ}
-use mathlib.Core.Path.{◌≡◌, refl, sym, ap₂}
-use mathlib.Core.Bool.{Bool, true, false, ◌&&◌}
-use mathlib.Core.List.{List, [], ◌∷◌}
-use lib.Dec.{eqb}
-use borrow.Author.Tests.{eqb-true}
+use Rattle.std.proofs.Common.{ℕ, ◌≡◌, refl, sym, ap₂, Bool, true, false, ◌&&◌, List, [], ◌∷◌, eqb, eqb-true}
 use Rattle.lists.specs.Basics.{same}
 use Rattle.lists.proofs.Laws.{and_left, and_right, by_cases, clashes}
 use Rattle.plan_questions.specs.Plans.{update_refusal}

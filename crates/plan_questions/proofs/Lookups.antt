@@ -1,15 +1,8 @@
 -- The lookups on a plan's tables hand back what the tables were made of: the part of group k is its list, and the positions of a
 -- constraint are its two.
-use Prim.Native.Nat.{ℕ, suc, ◌+◌, ◌-◌, ◌*◌, ◌≤◌, ◌<◌}
-use mathlib.Core.Path.{◌≡◌, refl, sym, ap, ap₂, ◌∙◌}
-use mathlib.Core.Bool.{cond}
-use lib.Dec.{ltb}
-use mathlib.Core.List.{List, [], ◌∷◌, ◌++◌}
-use native.Mathlib.Omega.{arith}
-use native.Mathlib.Numerals.{add-one}
-use lib.ListN.{length-append, get_or-append, length-drop, length, get_or, drop}
-use lib.Seq.{drop-append-le, take-append-le, get_or-take, get_or-drop}
-use borrow.Author.Tests.{le-leb, lt-ltb}
+use Rattle.std.proofs.Common.{ℕ, suc, ◌+◌, ◌-◌, ◌*◌, ◌≤◌, ◌<◌, ◌≡◌, refl, sym, ap, ap₂, ◌∙◌, cond, ltb, List, [], ◌∷◌, ◌++◌, arith, add-one, length-append, length-drop, length, get_or, drop, get_or-take, get_or-drop, le-leb, lt-ltb}
+use Rattle.std.proofs.Math.ListN.{get_or-append}
+use Rattle.std.proofs.Math.Seq.{drop-append-le, take-append-le}
 use Rattle.groups.specs.Groups.{pair_at, flatten, offsets}
 use Rattle.groups.proofs.Tables.{flatten-part, flatten_twos, start-suc, start_mono, length-offsets, offsets-at}
 use Rattle.plan_questions.specs.Plans.{group_part, positions_refusal}

@@ -1,11 +1,5 @@
 -- Question 6 as a row of comparisons: there is room exactly if each of them holds.
-use Prim.Native.Nat.{ℕ, ◌+◌, ◌*◌, ◌≤◌}
-use mathlib.Core.Path.{◌≡◌, refl}
-use mathlib.Core.Bool.{Bool, true, ◌&&◌}
-use mathlib.Core.List.{List, [], ◌∷◌}
-use lib.Dec.{leb}
-use lib.ListN.{length}
-use borrow.Author.Tests.{leb-true, le-leb}
+use Rattle.std.proofs.Common.{ℕ, ◌+◌, ◌*◌, ◌≤◌, ◌≡◌, refl, Bool, true, ◌&&◌, List, [], ◌∷◌, leb, length, leb-true, le-leb}
 use Rattle.lists.proofs.Laws.{and_left, and_right, and_both}
 use Rattle.plan_questions.specs.Plans.{Tables, roomy, roomy_with}
 

@@ -1,8 +1,5 @@
 -- Fields, and how long they are.
-use Prim.Native.Nat.{ℕ, ◌+◌, ◌≤◌}
-use mathlib.Core.List.{List, [], ◌∷◌, ◌++◌}
-use native.Mathlib.Omega.{arith}
-use lib.ListN.{length, length-append}
+use Rattle.std.proofs.Common.{ℕ, ◌+◌, ◌≤◌, List, [], ◌∷◌, ◌++◌, arith, length, length-append}
 use Rattle.schedules.specs.Print.{decimal}
 use Rattle.print_fields.proofs.Digits.{decimal-few}
 

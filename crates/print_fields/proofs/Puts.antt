@@ -1,10 +1,6 @@
 -- Texts put into a buffer, one behind another or one byte before the rest.
-use Prim.Native.Nat.{ℕ, suc, ◌+◌, ◌≤◌}
-use mathlib.Core.Path.{◌≡◌, refl, sym, ap, ◌∙◌}
-use mathlib.Core.List.{List, [], ◌∷◌, ◌++◌, append_assoc}
-use native.Mathlib.Omega.{arith}
-use lib.ListN.{length, take, drop, set, length-append}
-use lib.Seq.{length-take-le, take-append-le, take-take, drop_at, set_split, take-length, paste}
+use Rattle.std.proofs.Common.{ℕ, suc, ◌+◌, ◌≤◌, ◌≡◌, refl, sym, ap, ◌∙◌, List, [], ◌∷◌, ◌++◌, append_assoc, arith, length, take, drop, set, length-append, length-take-le, take-take, drop_at}
+use Rattle.std.proofs.Math.Seq.{take-append-le, set_split, take-length, paste}
 use Rattle.lists.specs.Basics.{put}
 use Rattle.lists.proofs.Puts.{put-none, length-put, put-put}
 use Rattle.print_fields.specs.Puts.{Put}

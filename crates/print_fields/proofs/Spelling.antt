@@ -1,10 +1,6 @@
 -- A number is spelled from its last digit to its first: the digits of the rest and those that stand in the buffer make up the whole,
 -- and the rest's digits are to fill the places from `at` to i.
-use Prim.Native.Nat.{ℕ, suc, ◌+◌, ◌-◌, ◌^◌, ◌/◌, ◌%◌, ◌≤◌, ◌<◌}
-use mathlib.Core.Path.{◌≡◌, sym, ap, ◌∙◌}
-use mathlib.Core.List.{List, [], ◌∷◌, ◌++◌, append_assoc, append-nil}
-use native.Mathlib.Omega.{arith}
-use lib.ListN.{length, set, length-append}
+use Rattle.std.proofs.Common.{ℕ, suc, ◌+◌, ◌-◌, ◌^◌, ◌/◌, ◌%◌, ◌≤◌, ◌<◌, ◌≡◌, sym, ap, ◌∙◌, List, [], ◌∷◌, ◌++◌, append_assoc, append-nil, arith, length, set, length-append}
 use Rattle.schedules.specs.Print.{decimal}
 use Rattle.lists.specs.Basics.{put}
 use Rattle.lists.proofs.Puts.{put-none, length-put}

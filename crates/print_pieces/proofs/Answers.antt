@@ -1,13 +1,6 @@
 -- The answer to an input: a turn table for 8,192 constraints has room for every frame that passes questions 1 to 5, so question 6 makes no
 -- difference, and the line of the answer is the first line of the print.
-use Prim.Native.Nat.{ℕ, ◌+◌, ◌*◌, ◌≤◌, ◌<◌}
-use mathlib.Core.Path.{◌≡◌, refl, sym, ap, ◌∙◌}
-use mathlib.Core.Bool.{Bool, true, not}
-use mathlib.Core.List.{List}
-use native.Mathlib.Omega.{arith}
-use lib.Dec.{eqb, ltb}
-use lib.ListN.{length}
-use borrow.Author.Tests.{le-leb, lt-ltb, le-ltb, eqb-true, eq-eqb}
+use Rattle.std.proofs.Common.{ℕ, ◌+◌, ◌*◌, ◌≤◌, ◌<◌, ◌≡◌, refl, sym, ap, ◌∙◌, Bool, true, not, List, arith, eqb, ltb, length, le-leb, lt-ltb, le-ltb, eqb-true, eq-eqb}
 use Rattle.lists.specs.Basics.{over}
 use Rattle.lists.proofs.Laws.{by_cases, clashes}
 use Rattle.frame.specs.Questions.{asked}

@@ -1,15 +1,8 @@
 -- The pieces from the first to the last are the whole print of a file.
 -- Every constraint in a run's turn table is one of the file (condition 3), so a piece has a line while a turn is left; a piece's lines and
 -- those of the turns that it leaves are the lines of the turns before it.
-use Prim.Native.Nat.{ℕ, zero, suc, ◌+◌, ◌*◌, ◌≤◌, ◌<◌}
-use mathlib.Core.Path.{◌≡◌, refl, sym, ap, ◌∙◌}
-use mathlib.Core.Bool.{Bool, true, false, ◌&&◌}
-use mathlib.Core.List.{List, [], ◌∷◌, ◌++◌, append_assoc}
-use native.Mathlib.Omega.{arith}
-use lib.Dec.{ltb, eqb}
-use lib.ListN.{length, take, drop, length-append, take-append-drop}
-use lib.Seq.{drop-nil, length-take-le, take_at}
-use borrow.Author.Tests.{lt-ltb, le-leb, eq-eqb, eqb-true}
+use Rattle.std.proofs.Common.{ℕ, zero, suc, ◌+◌, ◌*◌, ◌≤◌, ◌<◌, ◌≡◌, refl, sym, ap, ◌∙◌, Bool, true, false, ◌&&◌, List, [], ◌∷◌, ◌++◌, append_assoc, arith, ltb, eqb, length, take, drop, length-append, take-append-drop, length-take-le, take_at, lt-ltb, le-leb, eq-eqb, eqb-true}
+use Rattle.std.proofs.Math.Seq.{drop-nil}
 use Rattle.lists.specs.Basics.{one, join_map}
 use Rattle.lists.proofs.Laws.{by_cases, clashes, and_left, and_right, and_both}
 use Rattle.frame.specs.Frames.{Frame, constraints, constraint_at, touches}

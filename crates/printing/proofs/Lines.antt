@@ -1,11 +1,5 @@
 -- The lines as their fields one behind the other, each with its end; and the test for room.
-use Prim.Native.Nat.{ℕ, suc, ◌+◌, ◌-◌, ◌*◌, ◌≤◌, ◌<◌}
-use mathlib.Core.Path.{◌≡◌, refl, sym, ap, subst, ◌∙◌}
-use mathlib.Core.Bool.{true, false}
-use mathlib.Core.List.{List, [], ◌∷◌, ◌++◌, map, append_assoc}
-use native.Mathlib.Omega.{arith}
-use lib.Dec.{leb}
-use lib.ListN.{length, length-append}
+use Rattle.std.proofs.Common.{ℕ, suc, ◌+◌, ◌-◌, ◌*◌, ◌≤◌, ◌<◌, ◌≡◌, refl, sym, ap, subst, ◌∙◌, true, false, List, [], ◌∷◌, ◌++◌, map, append_assoc, arith, leb, length, length-append}
 use Rattle.frame.specs.Files.{half, halves_from}
 use Rattle.frame.proofs.Walks.{halves_next, halves_long}
 use Rattle.schedules.specs.Print.{decimal, spaced, line, head_of, turn_line, refusal_line, islands_word, turns_word, takes_word, degree_word, refused_word}

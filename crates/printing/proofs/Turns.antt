@@ -1,14 +1,6 @@
 -- Lines are gathered turn by turn: what was gathered and what is still to be gathered make up what the definition gathers.
 -- A turn that is not ready puts nothing, and no line is empty, so a place that stays tells that the gathering ends.
-use Prim.Native.Nat.{ℕ, zero, suc, ◌+◌, ◌-◌, ◌*◌, ◌/◌, ◌≤◌, ◌<◌}
-use mathlib.Core.Path.{◌≡◌, refl, sym, ap, subst, ◌∙◌}
-use mathlib.Core.Bool.{true, false}
-use mathlib.Core.List.{List, [], ◌∷◌, ◌++◌, map, append_assoc, append-nil}
-use native.Mathlib.Omega.{arith}
-use lib.Dec.{leb, ltb}
-use lib.ListN.{length, get_or, take, drop, length-append, length-drop, length-take}
-use lib.Seq.{drop-cons, drop-drop, take-add, length-take-le, get_or-take}
-use borrow.Author.Tests.{lt-ltb, le-ltb, ltb-true, ltb-false, leb-true}
+use Rattle.std.proofs.Common.{ℕ, zero, suc, ◌+◌, ◌-◌, ◌*◌, ◌/◌, ◌≤◌, ◌<◌, ◌≡◌, refl, sym, ap, subst, ◌∙◌, true, false, List, [], ◌∷◌, ◌++◌, map, append_assoc, append-nil, arith, leb, ltb, length, get_or, take, drop, length-append, length-drop, length-take, drop-cons, drop-drop, take-add, length-take-le, get_or-take, lt-ltb, le-ltb, ltb-true, ltb-false, leb-true}
 use Rattle.lists.proofs.Laws.{by_cases, and_left, and_right}
 use Rattle.lists.proofs.Puts.{put-none}
 use Rattle.frame.specs.Frames.{Frame, constraint_at}

@@ -1,10 +1,5 @@
 -- The sizes of a file that was read.
-use Prim.Native.Nat.{ℕ, ◌≤◌}
-use mathlib.Core.Path.{◌≡◌}
-use mathlib.Core.List.{List}
-use native.Mathlib.Omega.{arith}
-use lib.Dec.{eqb}
-use borrow.Author.Tests.{eqb-true}
+use Rattle.std.proofs.Common.{ℕ, ◌≤◌, ◌≡◌, List, arith, eqb, eqb-true}
 use Rattle.lists.proofs.Laws.{by_cases}
 use Rattle.frame.specs.Questions.{asked}
 use Rattle.frame.specs.Files.{file_questions}

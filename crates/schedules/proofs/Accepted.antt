@@ -1,13 +1,7 @@
 -- What acceptance says of a file's frame: few bodies and constraints, known types, and live constraints with different endpoints inside, two
 -- to four, and just two on version 1.
-use Prim.Native.Nat.{ℕ, ◌≤◌, ◌<◌}
-use mathlib.Core.Path.{◌≡◌, refl, ap, ◌∙◌}
-use mathlib.Core.Bool.{Bool, true, false, cond}
-use mathlib.Core.List.{List, [], ◌∷◌}
-use native.Mathlib.Omega.{arith}
-use lib.Dec.{leb, ltb, eqb}
-use lib.ListN.{length, get_or, drop, length-take, get_or-map, get_or-eq_default}
-use borrow.Author.Tests.{le-leb, ltb-true, ltb-false}
+use Rattle.std.proofs.Common.{ℕ, ◌≤◌, ◌<◌, ◌≡◌, refl, ap, ◌∙◌, Bool, true, false, cond, List, [], ◌∷◌, arith, leb, ltb, eqb, length, get_or, drop, length-take, le-leb, ltb-true, ltb-false}
+use Rattle.std.proofs.Math.ListN.{get_or-map, get_or-eq_default}
 use Rattle.lists.specs.Basics.{any}
 use Rattle.lists.proofs.Laws.{and_left, and_both, or_left, clashes, by_cases, all_get_d}
 use Rattle.lists.proofs.Bits.{one-true}

@@ -1,15 +1,8 @@
 -- Each call of a schedule is the take of a member of its island's group: its constraint is that member's, and it is handed that
 -- constraint's bodies. Two calls at different places have different constraints, since each is taken at most once.
-use Prim.Native.Nat.{ℕ, ◌+◌, ◌≤◌, ◌<◌}
-use mathlib.Core.Path.{◌≡◌, refl, sym, ap, ◌∙◌}
-use mathlib.Core.Logic.{⊎_elim}
-use mathlib.Core.Bool.{Bool, true}
+use Rattle.std.proofs.Common.{ℕ, ◌+◌, ◌≤◌, ◌<◌, ◌≡◌, refl, sym, ap, ◌∙◌, ⊎_elim, Bool, true, List, [], ◌∷◌, ◌++◌, map, arith, eqb, get_or, eq-eqb}
+use mathlib.Core.List.{Memᴰ}
 use mathlib.Core.List.Memᴰ
-use mathlib.Core.List.{List, [], ◌∷◌, ◌++◌, map, Memᴰ}
-use native.Mathlib.Omega.{arith}
-use lib.Dec.{eqb}
-use lib.ListN.{get_or}
-use borrow.Author.Tests.{eq-eqb}
 use Rattle.lists.specs.Basics.{one, sum_of, join_map, range, mem}
 use Rattle.lists.proofs.Sums.{sum_append}
 use Rattle.lists.proofs.Laws.{or_right, mem_self, mem-count, count-any, range_high}

@@ -4,14 +4,8 @@ use Rattle.schedules.specs.Runs.{turn_of, run_calls, Call, Plans, Orders, plan_a
 use Rattle.frame.specs.Frames.{turn_count, degree_sum, degree_max, Constraint, Frame, constraints, numbers, bodies, constraint_at, nothing, conflicting, on, touches, none, degree}
 use Rattle.groups.specs.Groups.{Plan, group_count, members}
 use Rattle.colored_bodies.specs.Bindings.{bind_of, Handed}
-use mathlib.Core.Path.{ap₂, ◌≡◌, refl, sym, ap, ◌∙◌}
-use mathlib.Core.List.{◌++◌, List, [], ◌∷◌, map, map-append}
-use Prim.Native.Nat.{ℕ, zero, suc, ◌+◌, ◌*◌, ◌≤◌, ◌<◌}
-use mathlib.Core.Bool.{Bool, true, false, ◌&&◌}
-use native.Mathlib.Omega.{arith}
-use lib.Dec.{ltb, eqb}
-use lib.ListN.{length, get_or}
-use borrow.Author.Tests.{eqb-true, ne_eqb, lt-ltb, le-ltb}
+use Rattle.std.proofs.Common.{ap₂, ◌≡◌, refl, sym, ap, ◌∙◌, ◌++◌, List, [], ◌∷◌, map, ℕ, zero, suc, ◌+◌, ◌*◌, ◌≤◌, ◌<◌, Bool, true, false, ◌&&◌, arith, ltb, eqb, length, get_or, eqb-true, ne_eqb, lt-ltb, le-ltb}
+use mathlib.Core.List.{map-append}
 use Rattle.lists.specs.Basics.{one, all, sum_of, max_of, count, join_map, range_from, range, mem}
 use Rattle.lists.proofs.Sums.{collapse, sum_swap, sum_ext, sum_null, sum_zero, sum_map, sum_filter, sum_join_map, sum_get_or, filter-all}
 use Rattle.lists.proofs.Laws.{or_right, by_cases, mem_self, range_high, max_in, get_or-mem, same_sum, sum_ext_in, eqb-sym, sum_one, sum_distinct, all_map}

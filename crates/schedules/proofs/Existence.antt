@@ -1,13 +1,7 @@
 -- There are schedules. On tables with room the update of an island is accepted; the tables and the answer that its contract then asks for are
 -- written down, and they meet it. The plan so made says what the definition's plan says, so orders of the one are orders of the other.
-use Prim.Native.Nat.{ℕ, ◌+◌, ◌*◌, ◌≤◌, ◌<◌}
-use mathlib.Core.Path.{◌≡◌, refl, sym, ap, ◌∙◌}
-use mathlib.Core.Bool.{Bool, true, false, cond}
-use mathlib.Core.List.{List, []}
-use native.Mathlib.Omega.{arith}
-use lib.Dec.{leb, eqb}
-use lib.ListN.{length, replicate, length-replicate}
-use borrow.Author.Tests.{le-leb}
+use Rattle.std.proofs.Common.{ℕ, ◌+◌, ◌*◌, ◌≤◌, ◌<◌, ◌≡◌, refl, sym, ap, ◌∙◌, Bool, true, false, cond, List, [], arith, leb, eqb, length, replicate, le-leb}
+use Rattle.std.proofs.Math.ListN.{length-replicate}
 use Rattle.lists.specs.Basics.{count, over}
 use Rattle.lists.proofs.Laws.{and_both, by_cases}
 use Rattle.frame.specs.Frames.{Frame}

@@ -1,13 +1,7 @@
 -- The takes of one group, in any order: two members share no body that makes conflicts, since their colors are equal, so every take finds its bodies there.
-use mathlib.Core.Bool.{cond, Bool, true, false, not, ◌||◌}
+use Rattle.std.proofs.Common.{cond, Bool, true, false, not, ◌||◌, ℕ, ◌≤◌, ◌<◌, ◌≡◌, refl, sym, ap, ◌∙◌, subst, List, [], ◌∷◌, map, arith, ltb, eqb, length, get_or, eqb-true, ltb-true, ltb-false, lt-ltb, le-leb}
+use Rattle.std.proofs.lemmas.Bool.{eqb-false, not-true}
 use Rattle.schedules.specs.Runs.{take_rank, Call, flags, ends_of, members_in, bodies_in, calls_from}
-use Prim.Native.Nat.{ℕ, ◌≤◌, ◌<◌}
-use mathlib.Core.Path.{◌≡◌, refl, sym, ap, ◌∙◌, subst}
-use mathlib.Core.List.{List, [], ◌∷◌, map}
-use native.Mathlib.Omega.{arith}
-use lib.Dec.{ltb, eqb}
-use lib.ListN.{length, get_or}
-use borrow.Author.Tests.{eqb-true, eqb-false, ltb-true, ltb-false, lt-ltb, le-leb, not-true}
 use Rattle.lists.specs.Basics.{all, mem, place, distinct, rises}
 use Rattle.lists.proofs.Laws.{and_left, and_right, or_right, clashes, by_cases, not-true-false, mem_self, all_in, get_or-mem, rises-distinct, distinct-count, count-distinct, mem-count, count-any}
 use Rattle.frame.specs.Frames.{Frame, constraint_at}

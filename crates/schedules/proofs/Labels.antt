@@ -1,14 +1,7 @@
 -- What an accepted islands call leaves. Constraint n has its label at place n of the manifold labels followed by the joint labels, and
 -- each table begins with the definition's labels; so the constraints with label i are the definition's.
-use Prim.Native.Nat.{ℕ, ◌+◌, ◌-◌, ◌<◌}
-use mathlib.Core.Path.{◌≡◌, sym, ap, ◌∙◌}
-use mathlib.Core.Bool.{Bool, cond}
-use mathlib.Core.List.{List, map}
-use native.Mathlib.Omega.{arith}
-use lib.Dec.{ltb, eqb}
-use lib.ListN.{length, get_or, length-map, length-append, get_or-map, get_or-append}
-use lib.Seq.{get_or-append-add}
-use borrow.Author.Tests.{ltb-true, ltb-false}
+use Rattle.std.proofs.Common.{ℕ, ◌+◌, ◌-◌, ◌<◌, ◌≡◌, sym, ap, ◌∙◌, Bool, cond, List, map, arith, ltb, eqb, length, get_or, length-append, get_or-append-add, ltb-true, ltb-false}
+use Rattle.std.proofs.Math.ListN.{length-map, get_or-map, get_or-append}
 use Rattle.lists.proofs.Laws.{by_cases, range_high}
 use Rattle.lists.proofs.Ranges.{filter_ext_in}
 use Rattle.frame.specs.Frames.{Constraint, Frame, constraints, numbers, constraint_at, nothing, touches, none}

@@ -1,13 +1,7 @@
 -- Two lanes never hold one body. Two turns of one group have different constraints of one color, and the coloring is proper, so no body that
 -- makes conflicts is on both. Turns of two islands have constraints of different labels, and a constraint has the label of each of its dynamic bodies.
-use Prim.Native.Nat.{ℕ, ◌<◌}
-use mathlib.Core.Path.{◌≡◌, sym, ap, ◌∙◌}
-use mathlib.Core.Bool.{Bool, true, false, ◌&&◌}
-use mathlib.Core.List.{List, ◌∷◌, ◌++◌, Memᴰ}
-use native.Mathlib.Omega.{arith}
-use lib.Dec.{eqb}
-use lib.ListN.{length, get_or}
-use borrow.Author.Tests.{eqb-true, ne_eqb}
+use Rattle.std.proofs.Common.{ℕ, ◌<◌, ◌≡◌, sym, ap, ◌∙◌, Bool, true, false, ◌&&◌, List, ◌∷◌, ◌++◌, arith, eqb, length, get_or, eqb-true, ne_eqb}
+use mathlib.Core.List.{Memᴰ}
 use Rattle.lists.specs.Basics.{any, mem}
 use Rattle.lists.proofs.Laws.{and_left, and_right, and_both, or_cases, clashes, not-true-false, any_in, any_out, get_or-mem, range_high, any-map, get_or_listed}
 use Rattle.lists.proofs.Bits.{one-le}

@@ -1,14 +1,7 @@
 -- The lookup of positions of a plan with counts hands back what its tables were made of, whatever stands behind them: the positions of a
 -- constraint are its list.
-use Prim.Native.Nat.{ℕ, ◌≤◌, ◌<◌}
-use mathlib.Core.Path.{◌≡◌, refl, sym, ap, ap₂, ◌∙◌}
-use mathlib.Core.Bool.{true, cond}
-use mathlib.Core.List.{List, [], ◌∷◌, ◌++◌, map, map-map}
-use native.Mathlib.Omega.{arith}
-use lib.Dec.{ltb}
-use lib.ListN.{length, get_or, length-append}
-use lib.Seq.{take_at}
-use borrow.Author.Tests.{le-leb}
+use Rattle.std.proofs.Common.{ℕ, ◌≤◌, ◌<◌, ◌≡◌, refl, sym, ap, ap₂, ◌∙◌, true, cond, List, [], ◌∷◌, ◌++◌, map, arith, ltb, length, get_or, length-append, take_at, le-leb}
+use mathlib.Core.List.{map-map}
 use Rattle.lists.specs.Basics.{range, join_map}
 use Rattle.lists.proofs.Laws.{and_left, and_right}
 use Rattle.lists.proofs.Sums.{sum_map}

@@ -1,14 +1,8 @@
 -- The update of an island is accepted, so its plan is the definition's for the frame's flags and the endpoints of the island's constraints, as
 -- pairs on version 1 and with a count each on version 2; either way its constraints are these, each the list of its endpoints, and the lookups
 -- hand back its groups' members and bodies and its constraints' positions.
-use Prim.Native.Nat.{ℕ, ◌-◌, ◌*◌, ◌/◌, ◌%◌, ◌≤◌, ◌<◌}
-use mathlib.Core.Path.{◌≡◌, refl, sym, ap, ◌∙◌, subst}
-use mathlib.Core.Bool.{Bool, true, false, ◌&&◌, cond}
-use mathlib.Core.List.{[], ◌∷◌, ◌++◌, List, map, append-nil}
-use native.Mathlib.Omega.{arith}
-use lib.Dec.{leb, eqb}
-use lib.ListN.{length, get_or, length-map, length-append}
-use borrow.Author.Tests.{eqb-true, eq-eqb, le-leb}
+use Rattle.std.proofs.Common.{ℕ, ◌-◌, ◌*◌, ◌/◌, ◌%◌, ◌≤◌, ◌<◌, ◌≡◌, refl, sym, ap, ◌∙◌, subst, Bool, true, false, ◌&&◌, cond, [], ◌∷◌, ◌++◌, List, map, append-nil, arith, leb, eqb, length, get_or, length-append, eqb-true, eq-eqb, le-leb}
+use Rattle.std.proofs.Math.ListN.{length-map}
 use Rattle.lists.specs.Basics.{one, any, all, count, mem, join_map}
 use Rattle.lists.proofs.Laws.{and_right, and_both, by_cases, any_in, any_out, in_range, all_intro, all_map, filter-mem, max_in, filter-length-le, length-range, get_or-map-lt}
 use Rattle.lists.proofs.Sums.{sum_le, sum_map, sum_filter, sum_get_or}

@@ -1,6 +1,5 @@
 -- The samples hold: antt computes each answer from the definitions.
-use mathlib.Core.Path.{◌≡◌, refl}
-use mathlib.Core.List.{map}
+use Rattle.std.proofs.Common.{◌≡◌, refl, map}
 use Rattle.frame.specs.Frames.{constraint_at, dynamic, on, touches, fits, sound, all_sound, degree, degree_max}
 use Rattle.frame.specs.Questions.{few_each}
 use Rattle.frame.specs.Files.{half, word, pairs_from, enabled_from, entry_refusal, entries_refusal, places_from, halves_from, decode, frame_refusal}

@@ -1,14 +1,8 @@
 -- An accepted update of a fresh plan leaves the definition's tables in the used places, or, where it answers "unchanged", a plan with no
 -- groups. Either way the lookups hand back the definition's members, bodies and positions, whatever stands behind.
-use Prim.Native.Nat.{ℕ, ◌*◌, ◌/◌, ◌%◌, ◌≤◌, ◌<◌}
-use mathlib.Core.Path.{◌≡◌, refl, sym, ap, ◌∙◌, subst}
-use mathlib.Core.Bool.{Bool, true, false, ◌&&◌, cond}
-use mathlib.Core.List.{List, [], ◌++◌, map, append-nil}
-use native.Mathlib.Omega.{arith}
-use lib.Dec.{leb, ltb, eqb}
-use lib.ListN.{length, get_or, drop, length-map, length-append, get_or-map}
-use lib.Seq.{ext_get_or}
-use borrow.Author.Tests.{eqb-true, eqb-false, ltb-true, leb-true}
+use Rattle.std.proofs.Common.{ℕ, ◌*◌, ◌/◌, ◌%◌, ◌≤◌, ◌<◌, ◌≡◌, refl, sym, ap, ◌∙◌, subst, Bool, true, false, ◌&&◌, cond, List, [], ◌++◌, map, append-nil, arith, leb, ltb, eqb, length, get_or, drop, length-append, ext_get_or, eqb-true, ltb-true, leb-true}
+use Rattle.std.proofs.Math.ListN.{length-map, get_or-map}
+use Rattle.std.proofs.lemmas.Bool.{eqb-false}
 use Rattle.lists.specs.Basics.{range}
 use Rattle.lists.proofs.Laws.{and_left, and_right, clashes, by_cases, no_length}
 use Rattle.lists.proofs.Ranges.{length-map-range, map-range-at}

@@ -1,12 +1,6 @@
 -- The turn table of a run. Turn a of the table is call a of the run, which is a schedule with rising orders; so two turns of the table are two
 -- turns of that schedule, and what is proved of lanes holds of them.
-use Prim.Native.Nat.{ℕ, zero, suc, ◌+◌, ◌*◌, ◌<◌}
-use mathlib.Core.Path.{◌≡◌, refl, sym, ap, ◌∙◌}
-use mathlib.Core.Bool.{Bool}
-use mathlib.Core.List.{List, [], ◌∷◌, ◌++◌}
-use native.Mathlib.Omega.{arith}
-use lib.ListN.{length, get_or, take, drop, take-append-drop}
-use lib.Seq.{drop-cons, get_or-take, length-take-le}
+use Rattle.std.proofs.Common.{ℕ, zero, suc, ◌+◌, ◌*◌, ◌<◌, ◌≡◌, refl, sym, ap, ◌∙◌, Bool, List, [], ◌∷◌, ◌++◌, arith, length, get_or, take, drop, take-append-drop, drop-cons, get_or-take, length-take-le}
 use Rattle.lists.specs.Basics.{join_map}
 use Rattle.frame.specs.Frames.{constraint_at, on}
 use Rattle.frame.specs.Files.{second, decode}

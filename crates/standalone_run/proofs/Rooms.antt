@@ -1,12 +1,6 @@
 -- Tables of the largest sizes have room for every frame that passes questions 1 to 5, so that question 6 is left of the turn table.
-use Prim.Native.Nat.{ℕ, ◌+◌, ◌≤◌}
-use mathlib.Core.Path.{◌≡◌, ◌∙◌}
-use mathlib.Core.Bool.{Bool, true, and-true}
-use mathlib.Core.List.{List}
-use native.Mathlib.Omega.{arith}
-use lib.Dec.{eqb}
-use lib.ListN.{length}
-use borrow.Author.Tests.{le-leb, eqb-true}
+use Rattle.std.proofs.Common.{ℕ, ◌+◌, ◌≤◌, ◌≡◌, ◌∙◌, Bool, true, List, arith, eqb, length, le-leb, eqb-true}
+use Rattle.std.proofs.Math.Bool.{and-true}
 use Rattle.lists.proofs.Laws.{by_cases}
 use Rattle.frame.specs.Questions.{asked}
 use Rattle.frame.specs.Files.{second, count_b, count_m, count_j, file_questions}

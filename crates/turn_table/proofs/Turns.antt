@@ -1,9 +1,5 @@
 -- A turn is three stores, and a take adds it or nothing, by its refusal.
-use Prim.Native.Nat.{ℕ, ◌+◌, ◌≤◌}
-use mathlib.Core.Path.{◌≡◌, sym, ap, ◌∙◌}
-use mathlib.Core.List.{List, [], ◌∷◌}
-use native.Mathlib.Omega.{arith}
-use lib.ListN.{length, set}
+use Rattle.std.proofs.Common.{ℕ, ◌+◌, ◌≤◌, ◌≡◌, sym, ap, ◌∙◌, List, [], ◌∷◌, arith, length, set}
 use Rattle.lists.specs.Basics.{put}
 use Rattle.lists.proofs.Puts.{put-none, length-put, put-put, set-put}
 use Rattle.turn_table.specs.declared.Tally.{Tally}

@@ -1,5 +1,5 @@
 -- `locate_places`: no positions are four zeros.
-use mathlib.Core.Path.{refl}
+use Rattle.std.proofs.Common.{refl}
 use Rattle.lists.specs.Basics.{four}
 use Rattle.answer_numbers.proofs.locate_places.Goals as goal
 

@@ -1,5 +1,5 @@
 -- A take of marks that is taken was placed, and with the bodies' numbers it is the whole take.
-use mathlib.Core.Path.{refl}
+use Rattle.std.proofs.Common.{refl}
 use Rattle.colored_bodies.proofs.Pairs.{marks_placed, takes_by}
 use Rattle.boundary.proofs.engkarupi_take.Goals as goal
 

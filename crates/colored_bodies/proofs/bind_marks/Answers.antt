@@ -1,5 +1,5 @@
 -- The marks and the count are those of the whole bind; the table is cleared first.
-use mathlib.Core.Path.{refl, ap, ◌∙◌}
+use Rattle.std.proofs.Common.{refl, ap, ◌∙◌}
 use Rattle.colored_bodies.specs.declared.BodyBinding.{BodyBinding}
 use Rattle.colored_bodies.proofs.Fills.{fillable, bound_is}
 use Rattle.colored_bodies.proofs.bind_marks.Goals as goal

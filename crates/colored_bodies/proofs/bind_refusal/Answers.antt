@@ -1,6 +1,6 @@
 -- Each return is the first question that got a "no".
-use mathlib.Core.Path.{◌∙◌, sym}
-use borrow.Author.Tests.{le-leb, lt-leb}
+use Rattle.std.proofs.Common.{◌∙◌, sym, le-leb}
+use Rattle.std.proofs.lemmas.Bool.{lt-leb}
 use Rattle.colored_bodies.specs.Bindings.{bind_refusal}
 use Rattle.colored_bodies.proofs.bind_refusal.Goals as goal
 

@@ -1,6 +1,5 @@
 -- Questions 3 and 5 are passed, so the refusal is the answer to 8.
-use mathlib.Core.Path.{◌∙◌, sym}
-use borrow.Author.Tests.{le-leb}
+use Rattle.std.proofs.Common.{◌∙◌, sym, le-leb}
 use Rattle.colored_bodies.specs.Bindings.{bind_refusal}
 use Rattle.colored_bodies.proofs.known_refusal.Goals as goal
 

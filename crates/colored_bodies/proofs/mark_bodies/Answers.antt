@@ -1,8 +1,4 @@
-use Prim.Native.Nat.{ℕ}
-use mathlib.Core.Path.{sym, ap₂, ◌∙◌}
-use mathlib.Core.List.{List}
-use native.Mathlib.Omega.{arith}
-use lib.ListN.{set}
+use Rattle.std.proofs.Common.{ℕ, sym, ap₂, ◌∙◌, List, arith, set}
 use Rattle.colored_bodies.proofs.Fills.{mark_next, none_filled}
 use Rattle.colored_bodies.proofs.mark_bodies.Goals as goal
 

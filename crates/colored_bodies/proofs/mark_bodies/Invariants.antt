@@ -1,8 +1,5 @@
 -- The table is the marks of the bodies so far, padded.
-use lib.ListN.{take}
-use Prim.Native.Nat.{◌-◌, ◌≤◌}
-use mathlib.Core.Path.{◌≡◌}
-use mathlib.Core.List.{map}
+use Rattle.std.proofs.Common.{take, ◌-◌, ◌≤◌, ◌≡◌, map}
 use Rattle.colored_bodies.specs.Bindings.{mark_of, padded}
 use Rattle.colored_bodies.specs.Answers.{Fillable}
 use Rattle.colored_bodies.proofs.mark_bodies.Given as goal

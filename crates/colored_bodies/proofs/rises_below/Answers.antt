@@ -1,10 +1,5 @@
-use Prim.Native.Nat.{ℕ, ◌+◌, ◌≤◌, ◌<◌}
-use mathlib.Core.Path.{◌≡◌, sym, ◌∙◌}
-use mathlib.Core.Bool.{false}
-use mathlib.Core.List.{List}
-use native.Mathlib.Omega.{arith}
-use borrow.Author.Tests.{lt-leb, le-leb}
-use lib.ListN.{length, drop, get_or}
+use Rattle.std.proofs.Common.{ℕ, ◌+◌, ◌≤◌, ◌<◌, ◌≡◌, sym, ◌∙◌, false, List, arith, le-leb, length, drop, get_or}
+use Rattle.std.proofs.lemmas.Bool.{lt-leb}
 use Rattle.colored_bodies.proofs.Rises.{rises_from, rises_is, rises-at, rises-end}
 use Rattle.colored_bodies.proofs.rises_below.Goals as goal
 

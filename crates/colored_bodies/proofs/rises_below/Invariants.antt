@@ -1,8 +1,5 @@
 -- The scan's answer of the rest, from the `low` reached, is the answer of the whole list.
-use Prim.Native.Nat.{◌≤◌, ◌-◌}
-use mathlib.Core.Path.{◌≡◌}
-use mathlib.Core.Bool.{◌&&◌}
-use lib.ListN.{length, drop}
+use Rattle.std.proofs.Common.{◌≤◌, ◌-◌, ◌≡◌, ◌&&◌, length, drop}
 use Rattle.lists.specs.Basics.{rises}
 use Rattle.colored_bodies.specs.Bindings.{last_below}
 use Rattle.colored_bodies.proofs.Rises.{rises_from}

@@ -1,5 +1,5 @@
 -- The test is the one of `spend`.
-use borrow.Author.Tests.{eq-eqb, ne_eqb}
+use Rattle.std.proofs.Common.{eq-eqb, ne_eqb}
 use Rattle.colored_bodies.specs.Bindings.{spend}
 use Rattle.colored_bodies.proofs.take_body.Goals as goal
 

@@ -1,5 +1,5 @@
 -- Positions that pass question 9 are places, and so are the lower and the higher of them; the rest is what `take_both` ensures.
-use mathlib.Core.Path.{◌∙◌, sym}
+use Rattle.std.proofs.Common.{◌∙◌, sym}
 use Rattle.colored_bodies.proofs.Pairs.{placed-room, lower_room, higher_room, marks_unplaced, marks_taken, marks_refused}
 use Rattle.colored_bodies.proofs.take_marks.Goals as goal
 

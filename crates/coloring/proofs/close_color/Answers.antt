@@ -1,13 +1,7 @@
 -- One member more has the color, and its bodies, which are those of its part, are idle too.
-use Prim.Native.Nat.{ℕ, ◌+◌, ◌<◌}
-use mathlib.Core.Path.{◌≡◌, refl, sym, ◌∙◌}
-use mathlib.Core.Bool.{true, or-true, or-false}
-use mathlib.Core.List.{List, []}
-use native.Mathlib.Omega.{arith}
-use lib.Dec.{ltb, eqb}
-use lib.ListN.{length, get_or, set, take}
-use lib.Seq.{get_or-set_same, get_or-set_other}
-use borrow.Author.Tests.{eqb-true, eqb-false, ltb-true}
+use Rattle.std.proofs.Common.{ℕ, ◌+◌, ◌<◌, ◌≡◌, refl, sym, ◌∙◌, true, List, [], arith, ltb, eqb, length, get_or, set, take, get_or-set_same, get_or-set_other, eqb-true, ltb-true}
+use Rattle.std.proofs.Math.Bool.{or-true, or-false}
+use Rattle.std.proofs.lemmas.Bool.{eqb-false}
 use Rattle.lists.specs.Basics.{all, mem}
 use Rattle.lists.proofs.Laws.{by_cases, all_in, all_get_d, get_or-mem, cond-or}
 use Rattle.lists.proofs.Scans.{any_next}

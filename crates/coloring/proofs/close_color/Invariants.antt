@@ -1,5 +1,5 @@
 -- The members passed have the color, and their bodies are not busy.
-use lib.ListN.{length, take}
+use Rattle.std.proofs.Common.{length, take}
 use Rattle.parts.specs.Parts.{parts_at}
 use Rattle.coloring.specs.Steps.{Closed}
 use Rattle.coloring.proofs.close_color.Given as goal

@@ -1,9 +1,5 @@
 -- What a walk leaves is what the color is closed by, and then the following color is opened.
-use Prim.Native.Nat.{ℕ, ◌+◌, ◌≤◌, ◌<◌}
-use mathlib.Core.Path.{◌≡◌, refl, ◌∙◌}
-use mathlib.Core.List.{List}
-use native.Mathlib.Omega.{arith}
-use lib.ListN.{length}
+use Rattle.std.proofs.Common.{ℕ, ◌+◌, ◌≤◌, ◌<◌, ◌≡◌, refl, ◌∙◌, List, arith, length}
 use Rattle.coloring.proofs.Walks.{Walks, walks_none, walks_few, color_small, closable, walks_more, walks_done}
 use Rattle.coloring.proofs.color_constraints.Goals as goal
 

@@ -1,7 +1,6 @@
 -- Every constraint is uncolored when color 0 is opened; `Walks` (proofs/Walks) holds whenever a color is opened. A color is opened only where
 -- a constraint is promised it or a higher one, so no more colors are opened than there are groups.
-use Prim.Native.Nat.{◌-◌}
-use lib.ListN.{length}
+use Rattle.std.proofs.Common.{◌-◌, length}
 use Rattle.groups.specs.Groups.{colors_of, group_count}
 use Rattle.parts.specs.Parts.{parts_at}
 use Rattle.coloring.proofs.Walks.{Walks}

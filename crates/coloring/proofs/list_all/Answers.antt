@@ -1,8 +1,5 @@
 -- The place that is written holds the number after those before it.
-use mathlib.Core.Path.{sym, ◌∙◌}
-use native.Mathlib.Numerals.{add-one}
-use native.Mathlib.Omega.{arith}
-use lib.Seq.{take-suc-set}
+use Rattle.std.proofs.Common.{sym, ◌∙◌, add-one, arith, take-suc-set}
 use Rattle.lists.proofs.Ranges.{range_snoc}
 use Rattle.coloring.proofs.list_all.Goals as goal
 

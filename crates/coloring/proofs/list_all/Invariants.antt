@@ -1,6 +1,5 @@
 -- The places passed hold their own numbers.
-use mathlib.Core.Path.{◌≡◌}
-use lib.ListN.{take}
+use Rattle.std.proofs.Common.{◌≡◌, take}
 use Rattle.lists.specs.Basics.{range}
 use Rattle.coloring.proofs.list_all.Given as goal
 

@@ -1,14 +1,7 @@
 -- One body more: a bit is set if the body is dynamic and the color fits, and setting it twice changes nothing.
-use Prim.Native.Nat.{ℕ, ◌+◌, ◌≤◌, ◌<◌}
-use mathlib.Core.Path.{◌≡◌, refl, ◌∙◌}
-use mathlib.Core.Bool.{Bool, true, false, ◌&&◌, and-true, or-true, or-false, cond}
-use mathlib.Core.List.{List}
-use native.Mathlib.Omega.{arith}
-use lib.Bits.{bit_and, bit_or}
-use lib.Dec.{ltb, eqb}
-use lib.ListN.{length, get_or, set, take}
-use lib.Seq.{get_or-set_same, get_or-set_other}
-use borrow.Author.Tests.{eqb-true, eqb-false, ltb-true}
+use Rattle.std.proofs.Common.{ℕ, ◌+◌, ◌≤◌, ◌<◌, ◌≡◌, refl, ◌∙◌, Bool, true, false, ◌&&◌, cond, List, arith, bit_and, bit_or, ltb, eqb, length, get_or, set, take, get_or-set_same, get_or-set_other, eqb-true, ltb-true}
+use Rattle.std.proofs.Math.Bool.{and-true, or-true, or-false}
+use Rattle.std.proofs.lemmas.Bool.{eqb-false}
 use Rattle.lists.specs.Basics.{one, mem}
 use Rattle.lists.proofs.Laws.{by_cases, all_in, get_or-mem}
 use Rattle.lists.proofs.Scans.{any_next}

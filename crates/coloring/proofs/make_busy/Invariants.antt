@@ -1,5 +1,5 @@
 -- The bodies passed are held if they are dynamic and the color fits.
-use lib.ListN.{take}
+use Rattle.std.proofs.Common.{take}
 use Rattle.coloring.specs.Steps.{MadeBusy}
 use Rattle.coloring.proofs.make_busy.Given as goal
 

@@ -1,5 +1,5 @@
 -- The bodies passed are not busy.
-use lib.ListN.{take}
+use Rattle.std.proofs.Common.{take}
 use Rattle.coloring.specs.Steps.{MadeIdle}
 use Rattle.coloring.proofs.make_idle.Given as goal
 

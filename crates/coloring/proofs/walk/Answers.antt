@@ -1,14 +1,5 @@
 -- The constraint that is read is one of those uncolored, so its bodies exist; one body more adds its bit.
-use Prim.Native.Nat.{ℕ, ◌+◌, ◌-◌, ◌<◌}
-use mathlib.Core.Path.{◌≡◌, refl, sym, ap, ◌∙◌}
-use mathlib.Core.Bool.{true}
-use mathlib.Core.List.{List, []}
-use native.Mathlib.Omega.{arith}
-use lib.Bits.{bit_or}
-use lib.Dec.{leb, ltb, eqb}
-use lib.ListN.{length, get_or, take}
-use lib.Seq.{take_all}
-use borrow.Author.Tests.{ltb-true}
+use Rattle.std.proofs.Common.{ℕ, ◌+◌, ◌-◌, ◌<◌, ◌≡◌, refl, sym, ap, ◌∙◌, true, List, [], arith, bit_or, leb, ltb, eqb, length, get_or, take, take_all, ltb-true}
 use Rattle.lists.specs.Basics.{one, all}
 use Rattle.lists.proofs.Laws.{and_right, all_in, get_or-mem}
 use Rattle.lists.proofs.Scans.{any_next, any-first}

@@ -1,7 +1,6 @@
 -- Both loops keep what `Passed` (proofs/Passing) says of the constraints passed; in the inner one `busy` is 1 if a body looked at is busy.
 -- A late walk passes a constraint at its first busy body; any other is passed without a branch, by the bit of all its bodies.
-use mathlib.Core.Path.{◌≡◌}
-use lib.ListN.{length, take}
+use Rattle.std.proofs.Common.{◌≡◌, length, take}
 use Rattle.lists.specs.Basics.{one}
 use Rattle.parts.specs.Parts.{parts_at}
 use Rattle.coloring.proofs.Passing.{barred, Passed}

@@ -1,6 +1,5 @@
 -- The sum stays below the modulus.
-use Prim.Native.Nat.{◌≤◌, ◌-◌}
-use lib.ListN.{length}
+use Rattle.std.proofs.Common.{◌≤◌, ◌-◌, length}
 use Rattle.coloring_limits.proofs.checksum.Given as goal
 
 abbrev pub invariant-loop-i : goal.invariant-loop-i

@@ -1,6 +1,5 @@
 -- The index grows to the table's length, which a write keeps.
-use Prim.Native.Nat.{◌-◌}
-use lib.ListN.{length}
+use Rattle.std.proofs.Common.{◌-◌, length}
 use Rattle.coloring_limits.proofs.fill_flags.Given as goal
 
 abbrev pub decreases-loop-i : goal.decreases-loop-i

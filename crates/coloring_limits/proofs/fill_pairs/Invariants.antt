@@ -1,6 +1,5 @@
 -- A write keeps the table's length, and both bodies stay at most one above the place.
-use Prim.Native.Nat.{◌≤◌, ◌-◌, ◌+◌}
-use lib.ListN.{length}
+use Rattle.std.proofs.Common.{◌≤◌, ◌-◌, ◌+◌, length}
 use Rattle.coloring_limits.proofs.fill_pairs.Given as goal
 
 abbrev pub invariant-loop-k : goal.invariant-loop-k

@@ -1,5 +1,5 @@
 -- The loop ends at 14.
-use Prim.Native.Nat.{◌-◌}
+use Rattle.std.proofs.Common.{◌-◌}
 use Rattle.coloring_limits.proofs.main.Given as goal
 
 abbrev pub decreases-loop-short : goal.decreases-loop-short

@@ -1,10 +1,6 @@
 -- `build_plan`: every table is long enough, so each stage is lent the places that it uses; what lies beyond them comes back as it was.
-use Prim.Native.Nat.{ℕ, ◌+◌, ◌≤◌}
-use mathlib.Core.List.{List, [], ◌++◌}
-use mathlib.Core.Path.{◌≡◌, refl, sym, ap, ◌∙◌}
-use native.Mathlib.Omega.{arith}
-use lib.ListN.{length, take, drop}
-use lib.Seq.{take_at, length-take-le, length_front}
+use Rattle.std.proofs.Common.{ℕ, ◌+◌, ◌≤◌, List, [], ◌++◌, ◌≡◌, refl, sym, ap, ◌∙◌, arith, length, take, drop, take_at, length-take-le}
+use Rattle.std.proofs.Math.Seq.{length_front}
 use Rattle.groups.specs.Groups.{plan_from, members, flatten, offsets}
 use Rattle.parts.specs.Parts.{parts_at}
 use Rattle.parts.specs.Steps.{widest}

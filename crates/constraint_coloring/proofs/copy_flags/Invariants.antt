@@ -1,8 +1,5 @@
 -- `copy_flags`: up to the place reached the list stands, from there on what stood before.
-use Prim.Native.Nat.{◌-◌, ◌≤◌}
-use mathlib.Core.Path.{◌≡◌}
-use mathlib.Core.List.{◌++◌}
-use lib.ListN.{length, take, drop}
+use Rattle.std.proofs.Common.{◌-◌, ◌≤◌, ◌≡◌, ◌++◌, length, take, drop}
 use Rattle.constraint_coloring.proofs.copy_flags.Given as goal
 
 abbrev pub invariant-loop-body : goal.invariant-loop-body

@@ -1,6 +1,5 @@
 -- `count_all`: what is counted and the constraints from place k on are the whole.
-use Prim.Native.Nat.{◌≤◌, ◌-◌}
-use lib.ListN.{length, drop}
+use Rattle.std.proofs.Common.{◌≤◌, ◌-◌, length, drop}
 use Rattle.frame.specs.Frames.{constraints_of}
 use Rattle.degrees.proofs.Counting.{Counting}
 use Rattle.degrees.proofs.count_all.Given as goal

@@ -1,7 +1,5 @@
 -- `count_counted`: the endpoints of `joint` start at `start`; what is counted and the joints from there on are the whole.
-use Prim.Native.Nat.{◌≤◌, ◌-◌}
-use mathlib.Core.Path.{◌≡◌}
-use lib.ListN.{length, take, drop}
+use Rattle.std.proofs.Common.{◌≤◌, ◌-◌, ◌≡◌, length, take, drop}
 use Rattle.frame.specs.Frames.{counted_of, end_count}
 use Rattle.degrees.proofs.Counting.{Counting}
 use Rattle.degrees.proofs.count_counted.Given as goal

@@ -1,7 +1,5 @@
 -- `count_ends`: what is counted and what the endpoints from place k on count make the whole.
-use Prim.Native.Nat.{ℕ, ◌+◌, ◌≤◌, ◌<◌, ◌-◌}
-use mathlib.Core.Path.{◌≡◌}
-use lib.ListN.{length, get_or, drop}
+use Rattle.std.proofs.Common.{ℕ, ◌+◌, ◌≤◌, ◌<◌, ◌-◌, ◌≡◌, length, get_or, drop}
 use Rattle.degrees.specs.Counts.{added}
 use Rattle.degrees.proofs.count_ends.Given as goal
 

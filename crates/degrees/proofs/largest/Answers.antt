@@ -1,6 +1,4 @@
-use Rattle.std.proofs.Common.{arith, ap, ◌∙◌}
-use Prim.Native.Nat.{max}
-use lib.ListN.{get_or}
+use Rattle.std.proofs.Common.{arith, ap, ◌∙◌, max, get_or}
 use Rattle.degrees.specs.Counts.{counted}
 use Rattle.degrees.proofs.Counting.{largest_turn}
 use Rattle.degrees.proofs.largest.Goals as goal

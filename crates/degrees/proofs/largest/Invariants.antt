@@ -1,7 +1,5 @@
 -- `largest`: the largest so far is that of the bodies before.
-use Prim.Native.Nat.{◌≤◌, ◌-◌}
-use mathlib.Core.Path.{◌≡◌}
-use lib.ListN.{length, get_or}
+use Rattle.std.proofs.Common.{◌≤◌, ◌-◌, ◌≡◌, length, get_or}
 use Rattle.lists.specs.Basics.{max_of, range}
 use Rattle.degrees.specs.Counts.{counted}
 use Rattle.degrees.proofs.largest.Given as goal

@@ -1,9 +1,5 @@
 -- `touches_any`: whether one of the endpoints passed is dynamic, or one of the rest.
-use Prim.Native.Nat.{◌≤◌, ◌-◌}
-use mathlib.Core.Path.{◌≡◌}
-use mathlib.Core.Bool.{◌||◌}
-use mathlib.Core.List.{[]}
-use lib.ListN.{length, drop}
+use Rattle.std.proofs.Common.{◌≤◌, ◌-◌, ◌≡◌, ◌||◌, [], length, drop}
 use Rattle.lists.specs.Basics.{any}
 use Rattle.frame.specs.Frames.{frame_of, dynamic}
 use Rattle.degrees.proofs.touches_any.Given as goal

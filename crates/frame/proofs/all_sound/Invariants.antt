@@ -1,7 +1,5 @@
 -- `frame::all_sound`: the answer for the pairs from place k on is the answer for all.
-use mathlib.Core.Path.{◌≡◌}
-use Prim.Native.Nat.{◌≤◌, ◌-◌}
-use lib.ListN.{length, drop}
+use Rattle.std.proofs.Common.{◌≡◌, ◌≤◌, ◌-◌, length, drop}
 use Rattle.lists.specs.Basics.{all}
 use Rattle.frame.specs.Frames.{constraints_of, sound}
 use Rattle.frame.proofs.all_sound.Given as goal

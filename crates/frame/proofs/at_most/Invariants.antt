@@ -1,9 +1,5 @@
 -- `frame::at_most`: what is known of the bytes passed, and the question of the rest, make the question of all.
-use Prim.Native.Nat.{◌≤◌, ◌-◌}
-use mathlib.Core.Path.{◌≡◌}
-use mathlib.Core.Bool.{◌&&◌}
-use lib.Dec.{leb}
-use lib.ListN.{length, drop}
+use Rattle.std.proofs.Common.{◌≤◌, ◌-◌, ◌≡◌, ◌&&◌, leb, length, drop}
 use Rattle.lists.specs.Basics.{all}
 use Rattle.frame.proofs.at_most.Given as goal
 

@@ -1,9 +1,6 @@
 -- `frame::decode_enabled`: the bytes filled so far, and those of the joints from `at` on, make up all.
-use mathlib.Core.List.{◌++◌}
-use Prim.Native.Nat.{◌≤◌, ◌+◌, ◌*◌, ◌-◌}
+use Rattle.std.proofs.Common.{◌++◌, ◌≤◌, ◌+◌, ◌*◌, ◌-◌, ◌≡◌, length, take}
 use Rattle.frame.specs.Files.{enabled_from}
-use mathlib.Core.Path.{◌≡◌}
-use lib.ListN.{length, take}
 use Rattle.frame.proofs.decode_enabled.Given as goal
 
 abbrev pub invariant-loop-j : goal.invariant-loop-j

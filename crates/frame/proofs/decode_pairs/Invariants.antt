@@ -1,8 +1,5 @@
 -- `frame::decode_pairs`: the entries filled so far, and the pairs from `at` on, make up all.
-use mathlib.Core.List.{◌++◌}
-use Prim.Native.Nat.{◌≤◌, ◌+◌, ◌*◌, ◌-◌, ◌/◌, ◌%◌}
-use mathlib.Core.Path.{◌≡◌}
-use lib.ListN.{length, take}
+use Rattle.std.proofs.Common.{◌++◌, ◌≤◌, ◌+◌, ◌*◌, ◌-◌, ◌/◌, ◌%◌, ◌≡◌, length, take}
 use Rattle.frame.specs.Files.{pairs_from}
 use Rattle.frame.proofs.decode_pairs.Given as goal
 

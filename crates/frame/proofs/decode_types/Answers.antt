@@ -1,5 +1,4 @@
-use Rattle.std.proofs.Common.{sym, ap, ◌∙◌, ℕ, ◌+◌, ◌-◌, ◌<◌, List, ◌∷◌, ◌++◌, length, get_or, take, drop, length-drop, length-set, arith}
-use lib.Seq.{get_or-drop}
+use Rattle.std.proofs.Common.{sym, ap, ◌∙◌, ℕ, ◌+◌, ◌-◌, ◌<◌, List, ◌∷◌, ◌++◌, length, get_or, take, drop, length-drop, length-set, arith, get_or-drop}
 use Rattle.lists.proofs.Fills.{fill_turn, part-next}
 use Rattle.frame.proofs.decode_types.Goals as goal
 

@@ -1,8 +1,5 @@
 -- `frame::decode_types`: the types filled so far, and those still to come, make up the part of the file.
-use mathlib.Core.List.{◌++◌}
-use Prim.Native.Nat.{◌≤◌, ◌-◌}
-use lib.ListN.{length, take, drop}
-use mathlib.Core.Path.{◌≡◌}
+use Rattle.std.proofs.Common.{◌++◌, ◌≤◌, ◌-◌, length, take, drop, ◌≡◌}
 use Rattle.frame.proofs.decode_types.Given as goal
 
 abbrev pub invariant-loop-i : goal.invariant-loop-i

@@ -1,7 +1,5 @@
 -- `frame::enabled_known`: the answer for the joints from place `at` on is the answer for all.
-use mathlib.Core.Path.{◌≡◌}
-use Prim.Native.Nat.{◌≤◌, ◌+◌, ◌*◌}
-use lib.ListN.{length}
+use Rattle.std.proofs.Common.{◌≡◌, ◌≤◌, ◌+◌, ◌*◌, length}
 use Rattle.frame.specs.Questions.{bits}
 use Rattle.frame.specs.Files.{enabled_from}
 use Rattle.frame.proofs.enabled_known.Given as goal

@@ -1,8 +1,5 @@
 -- `frame::fill_twos`: the places passed are 2, the rest as they were.
-use Prim.Native.Nat.{◌-◌, ◌≤◌}
-use mathlib.Core.Path.{◌≡◌}
-use mathlib.Core.List.{◌++◌}
-use lib.ListN.{length, drop, replicate}
+use Rattle.std.proofs.Common.{◌-◌, ◌≤◌, ◌≡◌, ◌++◌, length, drop, replicate}
 use Rattle.frame.proofs.fill_twos.Given as goal
 
 abbrev pub invariant-loop-i : goal.invariant-loop-i

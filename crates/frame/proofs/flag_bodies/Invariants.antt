@@ -1,8 +1,5 @@
 -- `frame::flag_bodies`: the flags filled so far, and those still to come, make up all.
-use mathlib.Core.List.{◌++◌, map}
-use Prim.Native.Nat.{◌≤◌, ◌-◌}
-use lib.ListN.{length, take, drop}
-use mathlib.Core.Path.{◌≡◌}
+use Rattle.std.proofs.Common.{◌++◌, map, ◌≤◌, ◌-◌, length, take, drop, ◌≡◌}
 use Rattle.frame.specs.Frames.{flag_of}
 use Rattle.frame.proofs.flag_bodies.Given as goal
 

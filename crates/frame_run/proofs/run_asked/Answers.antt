@@ -1,8 +1,6 @@
 -- Once questions 1 to 6 are asked: a refusal is the run's and changes nothing; otherwise the tables have room, and are cut to the sizes that were read.
-use Prim.Native.Nat.{◌+◌, ◌*◌}
-use mathlib.Core.Path.{sym, ◌∙◌}
-use native.Mathlib.Omega.{arith}
-use lib.Seq.{length-take-le, length_front}
+use Rattle.std.proofs.Common.{◌+◌, ◌*◌, sym, ◌∙◌, arith, length-take-le}
+use Rattle.std.proofs.Math.Seq.{length_front}
 use Rattle.frame_run.proofs.Entry.{stopped_run, cuttable, counts_fit, counts-cut, counts_worn, spacious, sized_ran}
 use Rattle.frame_run.proofs.run_asked.Goals as goal
 

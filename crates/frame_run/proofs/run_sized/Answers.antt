@@ -1,6 +1,5 @@
 -- `run_sized`: the filling leaves the frame's tables, so that the islands can be run; the plan's tables keep their lengths.
-use mathlib.Core.Path.{refl}
-use native.Mathlib.Omega.{arith}
+use Rattle.std.proofs.Common.{refl, arith}
 use Rattle.plan_questions.specs.Plans.{tables_of}
 use Rattle.frame_run.proofs.Runs.{roomy_of, prepared_cut, room_cut, types_are_known, ran}
 use Rattle.frame_run.proofs.run_sized.Goals as goal

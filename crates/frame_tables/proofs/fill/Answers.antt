@@ -1,5 +1,5 @@
 -- `fill`: after the decoding the tables hold the file's frame, so the islands call asks only question 7; the labels it leaves can be sorted.
-use mathlib.Core.Path.{refl}
+use Rattle.std.proofs.Common.{refl}
 use Rattle.frame_tables.proofs.Tables.{countable, sort_ready, filled}
 use Rattle.frame_tables.proofs.fill.Goals as goal
 

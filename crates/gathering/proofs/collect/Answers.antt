@@ -1,4 +1,4 @@
-use native.Mathlib.Omega.{arith}
+use Rattle.std.proofs.Common.{arith}
 use Rattle.gathering.proofs.Collects.{collecting_none, collecting_more}
 use Rattle.gathering.proofs.collect.Goals as goal
 

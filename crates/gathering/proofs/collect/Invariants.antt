@@ -1,6 +1,5 @@
 -- `collect`: what is collected, and the stamped bodies still to come, are all stamped bodies; the measure is the bodies left.
-use Prim.Native.Nat.{◌-◌}
-use lib.ListN.{length}
+use Rattle.std.proofs.Common.{◌-◌, length}
 use Rattle.gathering.proofs.Collects.{Collecting}
 use Rattle.gathering.proofs.collect.Given as goal
 

@@ -1,4 +1,4 @@
-use native.Mathlib.Omega.{arith}
+use Rattle.std.proofs.Common.{arith}
 use Rattle.parts.specs.Parts.{part_at}
 use Rattle.parts.proofs.Parts.{parts-length, parts-at}
 use Rattle.gathering.proofs.Groups.{gathering_none, members-cut, part_below, group_fresh, end_small, gathering_more}

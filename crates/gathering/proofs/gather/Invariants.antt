@@ -1,7 +1,6 @@
 -- `gather`: the groups before `color` are listed, with their starts, and no stamp is above `color`. The constraints are parts of the
 -- endpoint list.
-use Prim.Native.Nat.{◌-◌}
-use lib.ListN.{length}
+use Rattle.std.proofs.Common.{◌-◌, length}
 use Rattle.parts.specs.Parts.{parts_at}
 use Rattle.gathering.proofs.Groups.{Gathering}
 use Rattle.gathering.proofs.gather.Given as goal

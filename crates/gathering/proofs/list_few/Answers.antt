@@ -1,5 +1,5 @@
 -- `list_few`: the part that the notes appended, sorted, is the group; the places around it are kept.
-use native.Mathlib.Omega.{arith}
+use Rattle.std.proofs.Common.{arith}
 use Rattle.gathering.proofs.Arranges.{end_inside, sort_room, sorted_listed}
 use Rattle.gathering.proofs.list_few.Goals as goal
 

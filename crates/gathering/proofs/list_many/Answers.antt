@@ -1,5 +1,5 @@
 -- `list_many`: as many bodies as were counted have the stamp, so they fill the part; the places around it are kept.
-use native.Mathlib.Omega.{arith}
+use Rattle.std.proofs.Common.{arith}
 use Rattle.parts.specs.Parts.{part_at}
 use Rattle.lists.specs.Basics.{join_map}
 use Rattle.gathering.proofs.Counts.{counted-add}

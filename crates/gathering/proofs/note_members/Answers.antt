@@ -1,4 +1,4 @@
-use native.Mathlib.Omega.{arith}
+use Rattle.std.proofs.Common.{arith}
 use Rattle.parts.specs.Parts.{part_at}
 use Rattle.gathering.proofs.Ends.{next-part}
 use Rattle.gathering.proofs.Notes.{noted_none, notable_next, noted_next}

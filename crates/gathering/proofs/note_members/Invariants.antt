@@ -1,6 +1,5 @@
 -- `note_members`: the endpoints of the first i members are noted; those of the next are a part of the table, and there is room.
-use Prim.Native.Nat.{◌-◌, ◌≤◌}
-use lib.ListN.{length, take}
+use Rattle.std.proofs.Common.{◌-◌, ◌≤◌, length, take}
 use Rattle.lists.specs.Basics.{join_map}
 use Rattle.parts.specs.Parts.{part_at}
 use Rattle.gathering.specs.Gathers.{Noted}

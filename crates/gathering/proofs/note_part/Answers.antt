@@ -1,4 +1,4 @@
-use native.Mathlib.Omega.{arith}
+use Rattle.std.proofs.Common.{arith}
 use Rattle.gathering.proofs.Ends.{next-body}
 use Rattle.gathering.proofs.Notes.{noted_none, notable_next, noted_next, body-fits}
 use Rattle.gathering.proofs.note_part.Goals as goal

@@ -1,6 +1,5 @@
 -- `note_part`: the first i bodies are noted; each appends at most one, so there is room.
-use Prim.Native.Nat.{◌-◌, ◌≤◌}
-use lib.ListN.{length, take}
+use Rattle.std.proofs.Common.{◌-◌, ◌≤◌, length, take}
 use Rattle.gathering.specs.Gathers.{Noted}
 use Rattle.gathering.proofs.note_part.Given as goal
 

@@ -1,4 +1,4 @@
-use native.Mathlib.Omega.{arith}
+use Rattle.std.proofs.Common.{arith}
 use Rattle.gathering.proofs.Ends.{next-body}
 use Rattle.gathering.proofs.Counts.{counted_none, counted-add, counted_next, counted-fits}
 use Rattle.gathering.proofs.stamp_part.Goals as goal

@@ -1,6 +1,5 @@
 -- `stamp_part`: the first i bodies are stamped and counted.
-use Prim.Native.Nat.{◌-◌, ◌≤◌}
-use lib.ListN.{length, take}
+use Rattle.std.proofs.Common.{◌-◌, ◌≤◌, length, take}
 use Rattle.gathering.specs.Gathers.{Counted}
 use Rattle.gathering.proofs.stamp_part.Given as goal
 

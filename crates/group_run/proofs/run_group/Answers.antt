@@ -1,5 +1,5 @@
 -- `run_group`: what the takes add does not depend on the bodies in the binding, so its marks and its count say all.
-use mathlib.Core.Path.{sym}
+use Rattle.std.proofs.Common.{sym}
 use Rattle.group_run.proofs.Appends.{room_by, appended_by}
 use Rattle.group_run.proofs.Takes.{bound_added}
 use Rattle.group_run.proofs.run_group.Goals as goal

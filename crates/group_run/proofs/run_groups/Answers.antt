@@ -1,4 +1,4 @@
-use native.Mathlib.Omega.{arith}
+use Rattle.std.proofs.Common.{arith}
 use Rattle.group_run.proofs.Appends.{going_first, going_room, going_more}
 use Rattle.group_run.proofs.Takes.{groups_first, group_next}
 use Rattle.group_run.proofs.run_groups.Goals as goal

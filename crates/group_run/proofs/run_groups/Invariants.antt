@@ -1,5 +1,5 @@
 -- `run_groups`: the groups done and those from `group` on are the whole plan.
-use Prim.Native.Nat.{◌≤◌, ◌-◌}
+use Rattle.std.proofs.Common.{◌≤◌, ◌-◌}
 use Rattle.lists.specs.Basics.{join_map, range_from}
 use Rattle.group_run.specs.Appends.{seen, calls_in, plan_calls}
 use Rattle.group_run.proofs.Appends.{Going}

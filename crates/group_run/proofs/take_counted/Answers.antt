@@ -1,5 +1,5 @@
 -- `take_counted`: the positions of a constraint are its part of the table, and past the constraints the lookup refuses 12.
-use mathlib.Core.List.{[]}
+use Rattle.std.proofs.Common.{[]}
 use Rattle.group_run.proofs.Takes.{part_present, counted_is_taken, counted_past}
 use Rattle.group_run.proofs.take_counted.Goals as goal
 

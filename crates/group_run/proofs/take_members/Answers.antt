@@ -1,5 +1,4 @@
-use mathlib.Core.Path.{refl}
-use native.Mathlib.Omega.{arith}
+use Rattle.std.proofs.Common.{refl, arith}
 use Rattle.group_run.proofs.Appends.{going_first, going_room, going_more, going_last}
 use Rattle.group_run.proofs.Takes.{calls_next, calls_after, calls_end}
 use Rattle.group_run.proofs.take_members.Goals as goal

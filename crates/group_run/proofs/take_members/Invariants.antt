@@ -1,7 +1,5 @@
 -- `take_members`: the members done and those from m on are the whole group; each turn of the loop takes the next from the marks as they stand.
-use Prim.Native.Nat.{◌≤◌, ◌-◌}
-use mathlib.Core.List.{[]}
-use lib.ListN.{length, drop}
+use Rattle.std.proofs.Common.{◌≤◌, ◌-◌, [], length, drop}
 use Rattle.schedules.specs.Runs.{calls_from}
 use Rattle.group_run.specs.Appends.{seen, marks_only}
 use Rattle.group_run.proofs.Appends.{Going}

@@ -1,6 +1,5 @@
 -- `island::build_sized` meets its contract: a frame whose constraints all pass is joined and labelled; any other leaves blank tables.
-use Rattle.std.proofs.Common.{ℕ, List, Bool, true, false, ◌≡◌, length, replicate, refl, sym, ap, ◌∙◌, arith}
-use mathlib.Core.Bool.{not, cond}
+use Rattle.std.proofs.Common.{ℕ, List, Bool, true, false, ◌≡◌, length, replicate, refl, sym, ap, ◌∙◌, arith, not, cond}
 use Rattle.lists.specs.Basics.{range}
 use Rattle.lists.proofs.Laws.{clashes}
 use Rattle.frame.specs.Frames.{Frame, frame_with, constraints, all_sound, none}

@@ -1,6 +1,5 @@
 -- `island_joins::join_all` meets its contract. At each turn the constraints before are joined and passed question 7; the first that does not pass decides the answer.
-use Prim.Native.Nat.{◌-◌, ◌≤◌}
-use lib.ListN.{length, drop}
+use Rattle.std.proofs.Common.{◌-◌, ◌≤◌, length, drop}
 use Rattle.frame.specs.Frames.{constraints_of}
 use Rattle.island_joins.proofs.Joining.{Joining}
 use Rattle.island_joins.proofs.join_all.Given as goal

@@ -1,7 +1,6 @@
 -- `island_joins::join_ends` meets its contract, as `join_one` does.
-use Rattle.std.proofs.Common.{ℕ, length, true, ◌≡◌, sym, ◌∙◌, subst}
-use mathlib.Core.Bool.{and-true}
-use lib.Dec.{ltb}
+use Rattle.std.proofs.Common.{ℕ, length, true, ◌≡◌, sym, ◌∙◌, subst, ltb}
+use Rattle.std.proofs.Math.Bool.{and-true}
 use Rattle.lists.specs.Basics.{all}
 use Rattle.frame.proofs.Counted.{sound-fits}
 use Rattle.island_labels.proofs.Labelling.{tied}

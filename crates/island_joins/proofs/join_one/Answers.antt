@@ -1,6 +1,6 @@
 -- `island_joins::join_one` meets its contract: a constraint that is not live joins and constrains nothing, a live one that passes question 7 has its bodies inside the tables.
 use Rattle.std.proofs.Common.{ℕ, ◌<◌, [], ◌∷◌, get_or, length, sym, ap, ◌∙◌, subst}
-use mathlib.Core.Bool.{and-true}
+use Rattle.std.proofs.Math.Bool.{and-true}
 use Rattle.frame.specs.Frames.{none}
 use Rattle.frame.proofs.Pairs.{sound_in}
 use Rattle.island_joins.proofs.Joining.{constrain_two, joined_dead, joined_live}

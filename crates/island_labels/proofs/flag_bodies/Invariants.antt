@@ -1,6 +1,5 @@
 -- `island_labels::flag_bodies` meets its contract. The bodies before the loop's have their flags, the others are as they were.
-use Prim.Native.Nat.{◌-◌}
-use lib.ListN.{length}
+use Rattle.std.proofs.Common.{◌-◌, length}
 use Rattle.island_labels.proofs.Numbering.{Flagging}
 use Rattle.island_labels.proofs.flag_bodies.Given as goal
 

@@ -1,6 +1,5 @@
 -- `island_labels::label_all` meets its contract. The labels so far and those of the constraints to come make up them all.
-use Prim.Native.Nat.{◌-◌, ◌≤◌}
-use lib.ListN.{length, drop}
+use Rattle.std.proofs.Common.{◌-◌, ◌≤◌, length, drop}
 use Rattle.frame.specs.Frames.{constraints_of}
 use Rattle.island_labels.proofs.Labelling.{Labelling}
 use Rattle.island_labels.proofs.label_all.Given as goal

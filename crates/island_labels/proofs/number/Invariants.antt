@@ -1,6 +1,5 @@
 -- `island_labels::number` meets its contract: the flags tell which bodies are in islands, and each turn labels the next body.
-use Prim.Native.Nat.{◌-◌}
-use lib.ListN.{length}
+use Rattle.std.proofs.Common.{◌-◌, length}
 use Rattle.island_labels.proofs.Numbering.{Numbering}
 use Rattle.island_labels.proofs.number.Given as goal
 

@@ -1,6 +1,5 @@
 -- `island_limits::sum` is safe: the sum of 8,192 labels fits.
-use Prim.Native.Nat.{◌-◌, ◌*◌, ◌≤◌}
-use lib.ListN.{length}
+use Rattle.std.proofs.Common.{◌-◌, ◌*◌, ◌≤◌, length}
 use Rattle.island_limits.proofs.sum.Given as goal
 
 abbrev pub invariant-loop-i : goal.invariant-loop-i

@@ -1,7 +1,4 @@
-use Prim.Native.Nat.{◌+◌, ◌-◌, ◌≤◌}
-use mathlib.Core.Path.{◌≡◌, sym, ap, ◌∙◌}
-use native.Mathlib.Omega.{arith}
-use lib.ListN.{length, take, drop}
+use Rattle.std.proofs.Common.{◌+◌, ◌-◌, ◌≤◌, ◌≡◌, sym, ap, ◌∙◌, arith, length, take, drop}
 use Rattle.groups.proofs.Tables.{flatten-zero}
 use Rattle.group_run.proofs.Appends.{going_first, going_room, going_more}
 use Rattle.island_numbers.specs.Numbers.{counts_among}

@@ -1,8 +1,6 @@
 -- `run_islands`: the islands done and those from `island` on are all islands; each turn reads the next part of the sorted numbers, and of the
 -- endpoints and counts that are collected in their order. The tables keep their lengths, so there is room for every island.
-use Prim.Native.Nat.{◌-◌, ◌≤◌}
-use mathlib.Core.Path.{◌≡◌}
-use mathlib.Core.List.{◌++◌}
+use Rattle.std.proofs.Common.{◌-◌, ◌≤◌, ◌≡◌, ◌++◌}
 use Rattle.lists.specs.Basics.{join_map, range_from}
 use Rattle.turn_table.specs.Turns.{none}
 use Rattle.group_run.proofs.Appends.{Going}

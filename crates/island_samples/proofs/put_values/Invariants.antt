@@ -1,5 +1,5 @@
 -- `put_values` is safe and ends: `i` grows to `count`.
-use Prim.Native.Nat.{◌-◌}
+use Rattle.std.proofs.Common.{◌-◌}
 use Rattle.island_samples.proofs.put_values.Given as goal
 
 abbrev pub decreases-loop-i : goal.decreases-loop-i

@@ -1,5 +1,5 @@
 -- `way_of` is safe and ends: `links` grows to `bodies`.
-use Prim.Native.Nat.{◌-◌}
+use Rattle.std.proofs.Common.{◌-◌}
 use Rattle.island_samples.proofs.way_of.Given as goal
 
 abbrev pub decreases-loop-links : goal.decreases-loop-links

@@ -1,8 +1,5 @@
 -- `island::fill_self` meets its contract. What is filled and the numbers of the bodies to come make up all bodies.
-use Prim.Native.Nat.{◌-◌, ◌≤◌}
-use mathlib.Core.Path.{◌≡◌}
-use mathlib.Core.List.{◌++◌}
-use lib.ListN.{length, take}
+use Rattle.std.proofs.Common.{◌-◌, ◌≤◌, ◌≡◌, ◌++◌, length, take}
 use Rattle.lists.specs.Basics.{range_from, range}
 use Rattle.island_sets.proofs.fill_self.Given as goal
 

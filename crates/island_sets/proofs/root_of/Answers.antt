@@ -1,6 +1,5 @@
 -- Each body on the way has the root of `body`, and each link followed is one less to go.
-use Rattle.std.proofs.Common.{◌≡◌, nat_eq, get_or, sym, ◌∙◌, arith}
-use mathlib.Core.Bool.{not}
+use Rattle.std.proofs.Common.{◌≡◌, nat_eq, get_or, sym, ◌∙◌, arith, not}
 use Rattle.lists.proofs.Bits.{byte_one}
 use Rattle.island_sets.specs.Sets.{links_of}
 use Rattle.island_sets.proofs.Links.{links_le}

@@ -1,7 +1,5 @@
 -- `island_sets::root_of` meets its contract. Each body on the way has the root of `body`, and each link followed is one less to go, so the way ends, where a body is its own parent.
-use Prim.Native.Nat.{◌+◌, ◌<◌}
-use mathlib.Core.Path.{◌≡◌}
-use lib.ListN.{length}
+use Rattle.std.proofs.Common.{◌+◌, ◌<◌, ◌≡◌, length}
 use Rattle.island_sets.specs.Sets.{root_of, links_of}
 use Rattle.island_sets.proofs.root_of.Given as goal
 

@@ -1,5 +1,5 @@
 -- `number_at` meets its contract. The invariant is `NumberRead`: the digits left, behind the value, spell the field's number.
-use Prim.Native.Nat.{◌-◌}
+use Rattle.std.proofs.Common.{◌-◌}
 use Rattle.lift_line.proofs.Numbers.{NumberRead}
 use Rattle.lift_line.proofs.number_at.Given as goal
 

@@ -1,6 +1,5 @@
 -- `read_line` meets its contract: the ends and tests that the code found are put into the definition; the first test that fails tells the line.
-use Rattle.std.proofs.Common.{arith}
-use borrow.Author.Tests.{lt-ltb, le-ltb}
+use Rattle.std.proofs.Common.{arith, lt-ltb, le-ltb}
 use Rattle.lift_line.specs.Lines.{readable, line_of}
 use Rattle.lift_line.proofs.read_line.Goals as goal
 

@@ -1,6 +1,5 @@
 -- `list_places`: the first i bodies of the list have their places; the measure is the bodies left.
-use Prim.Native.Nat.{◌-◌}
-use lib.ListN.{length}
+use Rattle.std.proofs.Common.{◌-◌, length}
 use Rattle.locating.proofs.Places.{Placing}
 use Rattle.locating.proofs.list_places.Given as goal
 

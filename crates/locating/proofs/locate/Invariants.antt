@@ -1,5 +1,5 @@
 -- `locate`: the constraints of the groups before `color` have their positions; the measure is the groups left.
-use Prim.Native.Nat.{◌-◌}
+use Rattle.std.proofs.Common.{◌-◌}
 use Rattle.locating.proofs.Settles.{Settling}
 use Rattle.locating.proofs.locate.Given as goal
 

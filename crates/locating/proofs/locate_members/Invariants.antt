@@ -1,7 +1,6 @@
 -- `locate_members`: few bodies are searched, and of more the table has the places once they are listed. The first i members have their
 -- positions; the measure is the members left.
-use Prim.Native.Nat.{◌-◌}
-use lib.ListN.{length}
+use Rattle.std.proofs.Common.{◌-◌, length}
 use Rattle.locating.proofs.Locates.{Locating}
 use Rattle.locating.proofs.locate_members.Given as goal
 

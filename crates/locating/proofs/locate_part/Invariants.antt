@@ -1,6 +1,5 @@
 -- `locate_part`: each body stands in the list, so `place_of` answers its place; the measure is the endpoints left.
-use Prim.Native.Nat.{◌-◌}
-use lib.ListN.{length}
+use Rattle.std.proofs.Common.{◌-◌, length}
 use Rattle.lists.specs.Basics.{place}
 use Rattle.locating.proofs.Places.{Filling}
 use Rattle.locating.proofs.locate_part.Given as goal

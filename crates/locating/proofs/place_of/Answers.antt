@@ -1,8 +1,5 @@
 -- `place_of`: the body stands in the list. `position` answers its place, which fits 16 bits; of more than 4 bodies the table has it.
-use native.Mathlib.Omega.{arith}
-use lib.Dec.{ltb}
-use lib.ListN.{length}
-use borrow.Author.Tests.{ltb-true}
+use Rattle.std.proofs.Common.{arith, ltb, length, ltb-true}
 use Rattle.lists.proofs.Laws.{all_in, place-lt}
 use Rattle.locating.proofs.place_of.Goals as goal
 

@@ -1,8 +1,5 @@
 -- `ends_read`: the sum and that of the counts still to be read is that of all; each of those passed is at most four.
-use Prim.Native.Nat.{◌+◌, ◌-◌, ◌*◌, ◌≤◌}
-use mathlib.Core.Path.{◌≡◌}
-use mathlib.Core.List.{map}
-use lib.ListN.{length, drop}
+use Rattle.std.proofs.Common.{◌+◌, ◌-◌, ◌*◌, ◌≤◌, ◌≡◌, map, length, drop}
 use Rattle.frame.specs.Frames.{end_count}
 use Rattle.multi_coloring.specs.Counts.{count_read}
 use Rattle.multi_coloring.proofs.ends_read.Given as goal

@@ -1,9 +1,5 @@
 -- `places_at`: positions copied over four zeros stand in four places.
-use Prim.Native.Nat.{◌-◌, ◌≤◌}
-use mathlib.Core.Path.{◌≡◌, ◌∙◌}
-use native.Mathlib.Omega.{arith}
-use lib.ListN.{length, take, drop, length-drop}
-use lib.Seq.{length-take-le}
+use Rattle.std.proofs.Common.{◌-◌, ◌≤◌, ◌≡◌, ◌∙◌, arith, length, take, drop, length-drop, length-take-le}
 use Rattle.std.proofs.lemmas.List.{take_all}
 use Rattle.multi_coloring.proofs.Lookups.{four_copied}
 use Rattle.multi_coloring.proofs.places_at.Goals as goal

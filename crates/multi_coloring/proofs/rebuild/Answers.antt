@@ -1,11 +1,7 @@
 -- `rebuild`: every table is long enough, since the questions have passed, so the bounds of the counts find their places and a plan can be built by
 -- them; the parts by these bounds are the constraints by counts.
-use Prim.Native.Nat.{ℕ, ◌*◌, ◌≤◌}
-use mathlib.Core.Path.{◌≡◌, refl, sym, ◌∙◌}
-use mathlib.Core.List.{List, ◌++◌}
-use native.Mathlib.Omega.{arith}
-use lib.ListN.{length, take, drop}
-use lib.Seq.{take_at, length-take-le, length_front}
+use Rattle.std.proofs.Common.{ℕ, ◌*◌, ◌≤◌, ◌≡◌, refl, sym, ◌∙◌, List, ◌++◌, arith, length, take, drop, take_at, length-take-le}
+use Rattle.std.proofs.Math.Seq.{length_front}
 use Rattle.parts.proofs.Bounds.{parts-counted}
 use Rattle.plan_questions.specs.Plans.{Tables, tables_of}
 use Rattle.constraint_coloring.proofs.Updates.{built}

@@ -1,10 +1,7 @@
 -- `same_counts`: a place where a count and a remembered one, as it is read, differ decides; one where they agree leaves the answer to the rest.
-use Prim.Native.Nat.{ℕ, ◌<◌}
-use mathlib.Core.Path.{◌≡◌, sym, ◌∙◌}
-use mathlib.Core.List.{List, map}
-use native.Mathlib.Omega.{arith}
-use lib.ListN.{get_or, length, length-map}
-use borrow.Author.Tests.{eqb-true, eqb-false}
+use Rattle.std.proofs.Common.{ℕ, ◌<◌, ◌≡◌, sym, ◌∙◌, List, map, arith, get_or, length, eqb-true}
+use Rattle.std.proofs.Math.ListN.{length-map}
+use Rattle.std.proofs.lemmas.Bool.{eqb-false}
 use Rattle.lists.proofs.Laws.{get_or-map-lt}
 use Rattle.plan_questions.proofs.Scans.{same_stop, same_turn}
 use Rattle.multi_coloring.specs.Counts.{count_read}

@@ -1,8 +1,5 @@
 -- `same_counts`: the answer for what is still to be compared is the answer for all, since the places before agree.
-use Prim.Native.Nat.{◌-◌, ◌≤◌}
-use mathlib.Core.Path.{◌≡◌}
-use mathlib.Core.List.{map}
-use lib.ListN.{length, drop}
+use Rattle.std.proofs.Common.{◌-◌, ◌≤◌, ◌≡◌, map, length, drop}
 use Rattle.lists.specs.Basics.{same}
 use Rattle.multi_coloring.specs.Counts.{count_read}
 use Rattle.multi_coloring.proofs.same_counts.Given as goal

@@ -1,5 +1,5 @@
 -- `update_refusal`: the tests are the questions, in their order.
-use mathlib.Core.Path.{sym, ◌∙◌}
+use Rattle.std.proofs.Common.{sym, ◌∙◌}
 use Rattle.multi_coloring.specs.Counts.{multi_update_refusal}
 use Rattle.multi_coloring.proofs.Questions.{sound-counted}
 use Rattle.multi_coloring.proofs.update_refusal.Goals as goal

@@ -1,10 +1,6 @@
 -- `run_island`: the plan as it stands makes the definition's takes, and these are appended group by group. There is room for the bounds of
 -- the counts, and positions for all of them.
-use Prim.Native.Nat.{◌*◌, ◌≤◌}
-use mathlib.Core.Path.{sym}
-use native.Mathlib.Omega.{arith}
-use lib.ListN.{length}
-use lib.Seq.{length-take-le}
+use Rattle.std.proofs.Common.{◌*◌, ◌≤◌, sym, arith, length, length-take-le}
 use Rattle.one_island.proofs.Plans.{ready-counted}
 use Rattle.one_island.proofs.run_island.Goals as goal
 use Rattle.one_island.proofs.run_island.Goals.{After-color_island-plan}

@@ -1,8 +1,5 @@
 -- One constraint more: its count is added to the endpoints before it, which all together fit 16 bits.
-use Prim.Native.Nat.{◌+◌}
-use mathlib.Core.Path.{◌≡◌}
-use native.Mathlib.Omega.{arith}
-use lib.ListN.{length, get_or}
+use Rattle.std.proofs.Common.{◌+◌, ◌≡◌, arith, length, get_or}
 use Rattle.parts.specs.Steps.{ends_before}
 use Rattle.parts.proofs.Bounds.{ends_more, ends_up, ends-all, bounds_more}
 use Rattle.parts.proofs.bound_counts.Goals as goal

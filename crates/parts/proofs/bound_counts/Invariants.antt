@@ -1,5 +1,5 @@
 -- The bounds of the constraints passed stand, and `end` is how many endpoints they have.
-use mathlib.Core.Path.{◌≡◌}
+use Rattle.std.proofs.Common.{◌≡◌}
 use Rattle.parts.specs.Steps.{ends_before}
 use Rattle.parts.proofs.Bounds.{BoundsUpTo}
 use Rattle.parts.proofs.bound_counts.Given as goal

@@ -1,9 +1,5 @@
 -- One more bound adds one distance to those whose largest is known, and at the end they are all.
-use Prim.Native.Nat.{ℕ, suc, ◌+◌, ◌-◌, ◌≤◌, max}
-use mathlib.Core.Path.{◌≡◌, sym, ap, ◌∙◌}
-use mathlib.Core.List.{List}
-use native.Mathlib.Omega.{arith}
-use lib.ListN.{length, get_or}
+use Rattle.std.proofs.Common.{ℕ, suc, ◌+◌, ◌-◌, ◌≤◌, max, ◌≡◌, sym, ap, ◌∙◌, List, arith, length, get_or}
 use Rattle.lists.specs.Basics.{max_of, range}
 use Rattle.lists.proofs.Ranges.{max-range-suc}
 use Rattle.parts.specs.Steps.{widest}

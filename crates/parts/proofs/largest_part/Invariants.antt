@@ -1,8 +1,5 @@
 -- The largest of the parts passed; no bound is above the next, so no difference is below 0.
-use Prim.Native.Nat.{ℕ, suc, ◌-◌, ◌≤◌}
-use mathlib.Core.Path.{◌≡◌}
-use mathlib.Core.List.{List}
-use lib.ListN.{length, get_or}
+use Rattle.std.proofs.Common.{ℕ, suc, ◌-◌, ◌≤◌, ◌≡◌, List, length, get_or}
 use Rattle.lists.specs.Basics.{max_of, range}
 use Rattle.parts.proofs.largest_part.Given as goal
 

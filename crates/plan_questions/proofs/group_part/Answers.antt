@@ -1,5 +1,5 @@
 -- `group_part`: the two tests are those that the definition puts; the group is below the group count, so that its successor fits.
-use borrow.Author.Tests.{le-ltb, lt-ltb}
+use Rattle.std.proofs.Common.{le-ltb, lt-ltb}
 use Rattle.plan_questions.specs.Plans.{group_part}
 use Rattle.plan_questions.proofs.group_part.Goals as goal
 

@@ -1,7 +1,5 @@
 -- `same_flags`: the answer for what is still to be compared is the answer for all, since the places before agree.
-use mathlib.Core.Path.{◌≡◌}
-use Prim.Native.Nat.{◌≤◌, ◌-◌}
-use lib.ListN.{length, drop}
+use Rattle.std.proofs.Common.{◌≡◌, ◌≤◌, ◌-◌, length, drop}
 use Rattle.lists.specs.Basics.{same}
 use Rattle.plan_questions.proofs.same_flags.Given as goal
 

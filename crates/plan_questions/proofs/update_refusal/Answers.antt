@@ -1,6 +1,5 @@
 -- `update_refusal`: the tests are the questions, in their order.
-use mathlib.Core.Path.{sym, ◌∙◌}
-use borrow.Author.Tests.{eq-eqb, ne_eqb}
+use Rattle.std.proofs.Common.{sym, ◌∙◌, eq-eqb, ne_eqb}
 use Rattle.plan_questions.specs.Plans.{update_refusal}
 use Rattle.plan_questions.proofs.Questions.{sound_pairs}
 use Rattle.plan_questions.proofs.update_refusal.Goals as goal

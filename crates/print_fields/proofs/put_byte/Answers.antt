@@ -1,6 +1,5 @@
 -- `print_fields::put_byte` meets its contract: a store is a put of one byte.
-use native.Mathlib.Omega.{arith}
-use mathlib.Core.Path.{refl}
+use Rattle.std.proofs.Common.{arith, refl}
 use Rattle.lists.proofs.Puts.{set-put}
 use Rattle.print_fields.proofs.put_byte.Goals as goal
 

@@ -1,7 +1,4 @@
-use Prim.Native.Nat.{ℕ, ◌+◌, ◌-◌, ◌/◌, ◌≤◌}
-use mathlib.Core.Path.{sym, subst}
-use native.Mathlib.Omega.{arith}
-use lib.ListN.{length, set}
+use Rattle.std.proofs.Common.{ℕ, ◌+◌, ◌-◌, ◌/◌, ◌≤◌, sym, subst, arith, length, set}
 use Rattle.schedules.specs.Print.{decimal}
 use Rattle.print_fields.specs.Puts.{Put}
 use Rattle.print_fields.proofs.Digits.{decimal-few}

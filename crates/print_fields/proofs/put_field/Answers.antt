@@ -1,8 +1,5 @@
 -- `print_fields::put_field` meets its contract: the word, a space, and the number with its end, one behind the other.
-use mathlib.Core.List.{[], ◌∷◌, ◌++◌}
-use native.Mathlib.Omega.{arith}
-use Prim.Native.Nat.{◌+◌}
-use lib.ListN.{length}
+use Rattle.std.proofs.Common.{[], ◌∷◌, ◌++◌, arith, ◌+◌, length}
 use Rattle.print_fields.proofs.Puts.{Wrote, wrote_none, wrote_then}
 use Rattle.print_fields.proofs.Fields.{number, number_short}
 use Rattle.print_fields.proofs.put_field.Goals as goal

@@ -1,8 +1,5 @@
 -- `print_fields::put_number` meets its contract: the digits, then the end behind them.
-use Prim.Native.Nat.{ℕ, ◌+◌, ◌≤◌}
-use mathlib.Core.List.{List, [], ◌∷◌}
-use native.Mathlib.Omega.{arith}
-use lib.ListN.{length}
+use Rattle.std.proofs.Common.{ℕ, ◌+◌, ◌≤◌, List, [], ◌∷◌, arith, length}
 use Rattle.schedules.specs.Print.{decimal}
 use Rattle.print_fields.specs.Puts.{Put}
 use Rattle.print_fields.proofs.Puts.{Wrote, wrote_none, wrote_then}

@@ -1,10 +1,5 @@
-use Prim.Native.Nat.{ℕ, ◌+◌}
-use mathlib.Core.Path.{◌≡◌, sym, ap, ◌∙◌}
-use mathlib.Core.List.{List}
-use native.Mathlib.Omega.{arith}
-use native.Mathlib.Numerals.{add-one}
-use lib.ListN.{length, get_or, set}
-use lib.Seq.{paste, paste-suc}
+use Rattle.std.proofs.Common.{ℕ, ◌+◌, ◌≡◌, sym, ap, ◌∙◌, List, arith, add-one, length, get_or, set}
+use Rattle.std.proofs.Math.Seq.{paste, paste-suc}
 use Rattle.print_fields.proofs.Puts.{paste-put}
 use Rattle.print_fields.proofs.put_word.Goals as goal
 

@@ -1,8 +1,6 @@
 -- `print_fields::put_word` meets its contract. After i turns the buffer is the one at entry with the word's first i bytes pasted in (`paste` of lib.Seq).
-use Prim.Native.Nat.{◌-◌, ◌≤◌}
-use mathlib.Core.Path.{◌≡◌}
-use lib.ListN.{length}
-use lib.Seq.{paste}
+use Rattle.std.proofs.Common.{◌-◌, ◌≤◌, ◌≡◌, length}
+use Rattle.std.proofs.Math.Seq.{paste}
 use Rattle.print_fields.proofs.put_word.Given as goal
 
 abbrev pub invariant-loop-i : goal.invariant-loop-i

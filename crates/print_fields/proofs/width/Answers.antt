@@ -1,6 +1,4 @@
-use mathlib.Core.Path.{ap}
-use lib.ListN.{length, length-append}
-use native.Mathlib.Omega.{arith}
+use Rattle.std.proofs.Common.{ap, length, length-append, arith}
 use Rattle.print_fields.proofs.Digits.{decimal_last, decimal-one, decimal-few}
 use Rattle.print_fields.proofs.width.Goals as goal
 

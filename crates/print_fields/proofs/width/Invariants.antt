@@ -1,7 +1,5 @@
 -- `print_fields::width` meets its contract. The digits counted and those of the rest are one more than those of the number.
-use Prim.Native.Nat.{◌+◌, ◌≤◌}
-use mathlib.Core.Path.{◌≡◌}
-use lib.ListN.{length}
+use Rattle.std.proofs.Common.{◌+◌, ◌≤◌, ◌≡◌, length}
 use Rattle.schedules.specs.Print.{decimal}
 use Rattle.print_fields.proofs.width.Given as goal
 

@@ -1,5 +1,5 @@
 -- Above the limit the answer is refusal 3; else it is the run's, whose turn table has room.
-use native.Mathlib.Omega.{arith}
+use Rattle.std.proofs.Common.{arith}
 use Rattle.print_pieces.proofs.Answers.{run_answered, long_answered}
 use Rattle.print_pieces.proofs.answer_to.Goals as goal
 

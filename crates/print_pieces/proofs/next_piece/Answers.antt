@@ -1,5 +1,5 @@
 -- The lines stand at the buffer's start.
-use native.Mathlib.Omega.{arith}
+use Rattle.std.proofs.Common.{arith}
 use Rattle.print_pieces.proofs.Pieces.{next_stands, turns_placed}
 use Rattle.print_pieces.proofs.next_piece.Goals as goal
 

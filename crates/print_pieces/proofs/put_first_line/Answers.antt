@@ -1,5 +1,5 @@
 -- A head or a refusal is put at the buffer's start, where there is room.
-use mathlib.Core.Path.{sym, ap}
+use Rattle.std.proofs.Common.{sym, ap}
 use Rattle.print_pieces.specs.Pieces.{answer_line}
 use Rattle.print_pieces.proofs.Pieces.{put-line}
 use Rattle.print_pieces.proofs.put_first_line.Goals as goal

@@ -1,4 +1,4 @@
-use native.Mathlib.Omega.{arith}
+use Rattle.std.proofs.Common.{arith}
 use Rattle.printing.proofs.Lines.{ends_begin, ends_turn, ends-end}
 use Rattle.printing.proofs.put_ends.Goals as goal
 

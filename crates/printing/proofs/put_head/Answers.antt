@@ -1,10 +1,5 @@
 -- `printing::put_head` meets its contract: where there is room, four fields one behind the other.
-use Prim.Native.Nat.{◌+◌}
-use mathlib.Core.Path.{sym}
-use mathlib.Core.List.{[], ◌++◌}
-use native.Mathlib.Omega.{arith}
-use borrow.Author.Tests.{leb-true}
-use lib.ListN.{length}
+use Rattle.std.proofs.Common.{◌+◌, sym, [], ◌++◌, arith, leb-true, length}
 use Rattle.schedules.specs.Print.{head_of, islands_word, turns_word, takes_word, degree_word}
 use Rattle.print_fields.specs.Puts.{longest}
 use Rattle.print_fields.proofs.Puts.{Wrote, wrote_none, wrote_then}

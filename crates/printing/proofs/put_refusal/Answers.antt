@@ -1,5 +1,5 @@
 -- `printing::put_refusal` meets its contract: one field, where there is room.
-use mathlib.Core.Path.{sym}
+use Rattle.std.proofs.Common.{sym}
 use Rattle.schedules.specs.Print.{refusal_line, refused_word}
 use Rattle.print_fields.proofs.Fields.{field}
 use Rattle.printing.proofs.Lines.{no_room, with_room, refusal-field}

@@ -1,5 +1,5 @@
 -- `printing::put_turn` meets its contract: the endpoints of a constraint of the file stand where `ends_of` says.
-use native.Mathlib.Omega.{arith}
+use Rattle.std.proofs.Common.{arith}
 use Rattle.printing.proofs.Turns.{no_constraint, with_ends}
 use Rattle.printing.proofs.put_turn.Goals as goal
 

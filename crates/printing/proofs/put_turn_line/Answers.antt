@@ -1,10 +1,5 @@
 -- `printing::put_turn_line` meets its contract: where there is room, three numbers and the endpoints one behind the other.
-use Prim.Native.Nat.{◌+◌}
-use mathlib.Core.Path.{sym}
-use mathlib.Core.List.{[], ◌++◌}
-use native.Mathlib.Omega.{arith}
-use borrow.Author.Tests.{leb-true}
-use lib.ListN.{length}
+use Rattle.std.proofs.Common.{◌+◌, sym, [], ◌++◌, arith, leb-true, length}
 use Rattle.frame.specs.Files.{halves_from}
 use Rattle.schedules.specs.Print.{turn_line}
 use Rattle.print_fields.specs.Puts.{longest}

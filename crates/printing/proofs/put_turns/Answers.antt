@@ -1,5 +1,4 @@
-use native.Mathlib.Omega.{arith}
-use mathlib.Core.Path.{refl}
+use Rattle.std.proofs.Common.{arith, refl}
 use Rattle.printing.proofs.Turns.{gather_first, gather_turn, gather_stop, gather_all}
 use Rattle.printing.proofs.put_turns.Goals as goal
 

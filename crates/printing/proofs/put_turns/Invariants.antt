@@ -1,6 +1,5 @@
 -- `printing::put_turns` meets its contract. The invariant is `Gathering`: the lines so far stand in the buffer, and the rest is still to be gathered.
-use Prim.Native.Nat.{◌-◌, ◌/◌}
-use lib.ListN.{length}
+use Rattle.std.proofs.Common.{◌-◌, ◌/◌, length}
 use Rattle.printing.proofs.Turns.{Gathering}
 use Rattle.printing.proofs.put_turns.Given as goal
 

@@ -1,8 +1,6 @@
 -- Every table but the turn table has the largest size.
-use Prim.Native.Nat.{ℕ, ◌≤◌}
-use mathlib.Core.List.{List}
-use native.Mathlib.Omega.{arith}
-use lib.ListN.{length, replicate, length-replicate}
+use Rattle.std.proofs.Common.{ℕ, ◌≤◌, List, arith, length, replicate}
+use Rattle.std.proofs.Math.ListN.{length-replicate}
 use Rattle.island.specs.Calls.{island_tables_of}
 use Rattle.frame_run.specs.Calls.{Lent}
 use Rattle.standalone_run.proofs.Rooms.{Ample, ran_alone}

@@ -1,8 +1,5 @@
 -- `copy`: the first i entries are those of `from`, the rest those of `to`.
-use Prim.Native.Nat.{◌-◌, ◌≤◌}
-use mathlib.Core.Path.{◌≡◌}
-use mathlib.Core.List.{◌++◌}
-use lib.ListN.{length, take, drop}
+use Rattle.std.proofs.Common.{◌-◌, ◌≤◌, ◌≡◌, ◌++◌, length, take, drop}
 use Rattle.tables.proofs.copy.Given as goal
 
 abbrev pub invariant-loop-i : goal.invariant-loop-i

@@ -1,8 +1,5 @@
 -- The invariant: the places passed have the value, the rest are as they were.
-use Prim.Native.Nat.{◌-◌, ◌≤◌}
-use mathlib.Core.Path.{◌≡◌}
-use mathlib.Core.List.{◌++◌}
-use lib.ListN.{length, drop, replicate}
+use Rattle.std.proofs.Common.{◌-◌, ◌≤◌, ◌≡◌, ◌++◌, length, drop, replicate}
 use Rattle.tables.proofs.fill.Given as goal
 
 abbrev pub invariant-loop-place : goal.invariant-loop-place

@@ -1,5 +1,5 @@
 -- `append`: a take that is refused adds nothing.
-use borrow.Author.Tests.{ne_eqb}
+use Rattle.std.proofs.Common.{ne_eqb}
 use Rattle.turn_table.proofs.Turns.{appended_none}
 use Rattle.turn_table.proofs.append.Goals as goal
 

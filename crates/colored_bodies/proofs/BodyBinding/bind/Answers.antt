@@ -1,5 +1,5 @@
 -- The tables are filled as far as the count goes; a refused bind has a count of 0, and fills nothing.
-use mathlib.Core.Path.{refl, ◌∙◌}
+use Rattle.std.proofs.Common.{refl, ◌∙◌}
 use Rattle.colored_bodies.proofs.Fills.{fillable, bound_is, list_padded}
 use Rattle.colored_bodies.proofs.BodyBinding.bind.Goals as goal
 

@@ -1,5 +1,5 @@
 -- Question 5 of the length, and question 9: below the count and 4,096 is below the lower of the two.
-use native.Mathlib.Omega.{arith}
+use Rattle.std.proofs.Common.{arith}
 use Rattle.colored_bodies.proofs.Positions.{ask_nine, ask_none}
 use Rattle.colored_bodies.proofs.multi.ask_refusal.Goals as goal
 

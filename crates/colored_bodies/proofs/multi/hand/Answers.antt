@@ -1,8 +1,4 @@
-use Prim.Native.Nat.{ℕ}
-use mathlib.Core.Path.{refl, ap, ◌∙◌}
-use mathlib.Core.List.{List}
-use native.Mathlib.Omega.{arith}
-use lib.ListN.{get_or, set}
+use Rattle.std.proofs.Common.{ℕ, refl, ap, ◌∙◌, List, arith, get_or, set}
 use Rattle.colored_bodies.proofs.Positions.{four_next, four_none}
 use Rattle.colored_bodies.proofs.multi.hand.Goals as goal
 

@@ -1,8 +1,5 @@
 -- The table is the bodies at the positions read so far, padded to four.
-use Prim.Native.Nat.{◌≤◌, ◌-◌}
-use mathlib.Core.Path.{◌≡◌}
-use mathlib.Core.List.{map}
-use lib.ListN.{get_or, take}
+use Rattle.std.proofs.Common.{◌≤◌, ◌-◌, ◌≡◌, map, get_or, take}
 use Rattle.lists.specs.Basics.{four}
 use Rattle.colored_bodies.proofs.multi.hand.Given as goal
 

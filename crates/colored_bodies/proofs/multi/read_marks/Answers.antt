@@ -1,9 +1,4 @@
-use Prim.Native.Nat.{ℕ}
-use mathlib.Core.Path.{ap, ◌∙◌}
-use mathlib.Core.List.{List}
-use native.Mathlib.Omega.{arith}
-use lib.Dec.{eqb}
-use lib.ListN.{get_or, set}
+use Rattle.std.proofs.Common.{ℕ, ap, ◌∙◌, List, arith, eqb, get_or, set}
 use mir.Val.{bool_byte}
 use Rattle.colored_bodies.proofs.Positions.{flags_next, four_none}
 use Rattle.colored_bodies.proofs.multi.read_marks.Goals as goal

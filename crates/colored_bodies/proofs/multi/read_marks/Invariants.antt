@@ -1,8 +1,5 @@
 -- The table is the flags of the positions read so far, padded to four.
-use Prim.Native.Nat.{◌≤◌, ◌-◌}
-use mathlib.Core.Path.{◌≡◌}
-use mathlib.Core.List.{map}
-use lib.ListN.{length, take}
+use Rattle.std.proofs.Common.{◌≤◌, ◌-◌, ◌≡◌, map, length, take}
 use Rattle.lists.specs.Basics.{four}
 use Rattle.colored_bodies.proofs.Positions.{flag_at}
 use Rattle.colored_bodies.proofs.multi.read_marks.Given as goal

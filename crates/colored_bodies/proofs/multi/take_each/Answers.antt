@@ -1,5 +1,4 @@
-use mathlib.Core.Path.{◌∙◌}
-use native.Mathlib.Omega.{arith}
+use Rattle.std.proofs.Common.{◌∙◌, arith}
 use Rattle.colored_bodies.proofs.Positions.{each_gone, each_turn, each_end}
 use Rattle.colored_bodies.proofs.multi.take_each.Goals as goal
 

@@ -1,7 +1,5 @@
 -- The refusal and the marks of the places from i on, taken from the marks as they stand, are those of all, taken from the marks at entry.
-use Prim.Native.Nat.{◌≤◌, ◌-◌}
-use mathlib.Core.Path.{◌≡◌}
-use lib.ListN.{length, drop}
+use Rattle.std.proofs.Common.{◌≤◌, ◌-◌, ◌≡◌, length, drop}
 use Rattle.colored_bodies.specs.Bindings.{refusal_from, marks_from}
 use Rattle.colored_bodies.proofs.Positions.{gone}
 use Rattle.colored_bodies.proofs.multi.take_each.Given as goal

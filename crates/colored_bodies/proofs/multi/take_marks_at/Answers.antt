@@ -1,5 +1,5 @@
 -- Questions 5 and 9 first; positions that pass are at most four places. The flags are read before `take_rising` marks anything.
-use mathlib.Core.Path.{sym, ◌∙◌}
+use Rattle.std.proofs.Common.{sym, ◌∙◌}
 use Rattle.colored_bodies.proofs.Positions.{ask_passed, at_refused, at_gone, at_taken}
 use Rattle.colored_bodies.proofs.multi.take_marks_at.Goals as goal
 

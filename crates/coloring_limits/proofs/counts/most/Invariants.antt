@@ -1,5 +1,5 @@
 -- The loop ends at 3.
-use Prim.Native.Nat.{◌-◌}
+use Rattle.std.proofs.Common.{◌-◌}
 use Rattle.coloring_limits.proofs.counts.most.Given as goal
 
 abbrev pub decreases-loop-case : goal.decreases-loop-case

@@ -1,5 +1,6 @@
 -- `body_positions_for_constraint`: the three tests are the questions, in their order.
-use borrow.Author.Tests.{le-leb, lt-leb, lt-ltb, le-ltb}
+use Rattle.std.proofs.Common.{le-leb, lt-ltb, le-ltb}
+use Rattle.std.proofs.lemmas.Bool.{lt-leb}
 use Rattle.plan_questions.specs.Plans.{positions_refusal}
 use Rattle.constraint_coloring.proofs.ConstraintColoring.body_positions_for_constraint.Goals as goal
 

@@ -1,8 +1,6 @@
 -- `update`: the questions' answer is the definition's, and so is the test for equal input; each of the three answers then meets the
 -- contract.
-use mathlib.Core.Path.{◌≡◌, refl, sym, ap, ◌∙◌}
-use mathlib.Core.Bool.{Bool}
-use native.Mathlib.Omega.{arith}
+use Rattle.std.proofs.Common.{◌≡◌, refl, sym, ap, ◌∙◌, Bool, arith}
 use Rattle.parts.proofs.Parts.{parts_pairs}
 use Rattle.plan_questions.specs.Plans.{Tables, tables_of, roomy_with, update_refusal}
 use Rattle.constraint_coloring.specs.Calls.{holds, refusal_with}

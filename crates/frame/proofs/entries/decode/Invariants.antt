@@ -1,9 +1,6 @@
 -- `frame::entries::decode`: what is filled so far, and the entries from place `at` on, make up all. The walk passes from there on, so the
 -- next entry lies inside the file, and its places inside the table of endpoints.
-use Prim.Native.Nat.{◌≤◌, ◌+◌, ◌-◌}
-use mathlib.Core.Path.{◌≡◌}
-use mathlib.Core.List.{◌++◌}
-use lib.ListN.{length, take}
+use Rattle.std.proofs.Common.{◌≤◌, ◌+◌, ◌-◌, ◌≡◌, ◌++◌, length, take}
 use Rattle.frame.specs.Files.{entries_refusal, counts_from, ends_from, live_from}
 use Rattle.frame.proofs.entries.decode.Given as goal
 

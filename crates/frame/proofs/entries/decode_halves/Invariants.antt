@@ -1,8 +1,5 @@
 -- `frame::entries::decode_halves`: the numbers filled so far, and those from place `at` on, make up all.
-use Prim.Native.Nat.{◌≤◌, ◌+◌, ◌*◌, ◌-◌}
-use mathlib.Core.Path.{◌≡◌}
-use mathlib.Core.List.{◌++◌}
-use lib.ListN.{length, take}
+use Rattle.std.proofs.Common.{◌≤◌, ◌+◌, ◌*◌, ◌-◌, ◌≡◌, ◌++◌, length, take}
 use Rattle.frame.specs.Files.{halves_from}
 use Rattle.frame.proofs.entries.decode_halves.Given as goal
 

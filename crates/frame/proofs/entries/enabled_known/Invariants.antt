@@ -1,5 +1,5 @@
 -- `frame::entries::enabled_known`: the walk passes from place `at` on, and the answer for the entries from there is the answer for all.
-use mathlib.Core.Path.{◌≡◌}
+use Rattle.std.proofs.Common.{◌≡◌}
 use Rattle.frame.specs.Questions.{bits}
 use Rattle.frame.specs.Files.{entries_refusal, live_from}
 use Rattle.frame.proofs.entries.enabled_known.Given as goal

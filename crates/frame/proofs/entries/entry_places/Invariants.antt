@@ -1,8 +1,5 @@
 -- `frame::entries::entry_places`: the places filled so far, and those of the entries from place `at` on, make up all.
-use Prim.Native.Nat.{◌≤◌, ◌-◌}
-use mathlib.Core.Path.{◌≡◌}
-use mathlib.Core.List.{◌++◌}
-use lib.ListN.{length, take}
+use Rattle.std.proofs.Common.{◌≤◌, ◌-◌, ◌≡◌, ◌++◌, length, take}
 use Rattle.frame.specs.Files.{entries_refusal, places_from, joints_at, count_j}
 use Rattle.frame.proofs.entries.entry_places.Given as goal
 

@@ -1,8 +1,6 @@
 -- `frame::entries::walk`: the refusal of the walk from place `at` on is that of the whole walk, and the endpoints counted so far and those
 -- still to come make up all. An entry that passes lies inside the file, so no place and no sum wraps.
-use Prim.Native.Nat.{◌≤◌, ◌+◌}
-use mathlib.Core.Path.{◌≡◌}
-use lib.ListN.{length}
+use Rattle.std.proofs.Common.{◌≤◌, ◌+◌, ◌≡◌, length}
 use Rattle.frame.specs.Files.{entries_refusal, ends_from}
 use Rattle.frame.proofs.entries.walk.Given as goal
 

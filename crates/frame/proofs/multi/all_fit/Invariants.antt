@@ -1,8 +1,6 @@
 -- `frame::multi::all_fit`: the endpoints of the constraints from place i on start at place k, and the answer for these constraints is the
 -- answer for all.
-use Prim.Native.Nat.{◌≤◌, ◌-◌}
-use mathlib.Core.Path.{◌≡◌}
-use lib.ListN.{length, take, drop}
+use Rattle.std.proofs.Common.{◌≤◌, ◌-◌, ◌≡◌, length, take, drop}
 use Rattle.lists.specs.Basics.{all}
 use Rattle.frame.specs.Frames.{end_count, counted_of, sound}
 use Rattle.frame.proofs.multi.all_fit.Given as goal

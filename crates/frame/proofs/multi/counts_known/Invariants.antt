@@ -1,8 +1,5 @@
 -- `frame::multi::counts_known`: what is known of the counts passed, and the question of the rest, make the question of all.
-use Prim.Native.Nat.{◌≤◌, ◌-◌}
-use mathlib.Core.Path.{◌≡◌}
-use mathlib.Core.Bool.{◌&&◌}
-use lib.ListN.{length, drop}
+use Rattle.std.proofs.Common.{◌≤◌, ◌-◌, ◌≡◌, ◌&&◌, length, drop}
 use Rattle.frame.specs.Frames.{counts_known}
 use Rattle.frame.proofs.multi.counts_known.Given as goal
 

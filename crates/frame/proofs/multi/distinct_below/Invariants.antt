@@ -1,9 +1,5 @@
 -- `frame::multi::distinct_below`: the answer for the numbers from place i on is the answer for all.
-use Prim.Native.Nat.{◌≤◌, ◌-◌}
-use mathlib.Core.Path.{◌≡◌}
-use mathlib.Core.Bool.{◌&&◌}
-use lib.Dec.{ltb}
-use lib.ListN.{length, drop}
+use Rattle.std.proofs.Common.{◌≤◌, ◌-◌, ◌≡◌, ◌&&◌, ltb, length, drop}
 use Rattle.lists.specs.Basics.{all, distinct}
 use Rattle.frame.proofs.multi.distinct_below.Given as goal
 

@@ -1,7 +1,5 @@
 -- `frame::multi::stands_in`: whether x stands among the numbers from place i on is whether it stands among all.
-use Prim.Native.Nat.{◌≤◌, ◌-◌}
-use mathlib.Core.Path.{◌≡◌}
-use lib.ListN.{length, drop}
+use Rattle.std.proofs.Common.{◌≤◌, ◌-◌, ◌≡◌, length, drop}
 use Rattle.lists.specs.Basics.{mem}
 use Rattle.frame.proofs.multi.stands_in.Given as goal
 

@@ -1,7 +1,5 @@
 -- `frame::multi::sum_counts`: the sum so far and that of the rest make the whole sum; a count is below 256.
-use Prim.Native.Nat.{◌≤◌, ◌-◌, ◌+◌, ◌*◌}
-use mathlib.Core.Path.{◌≡◌}
-use lib.ListN.{length, drop}
+use Rattle.std.proofs.Common.{◌≤◌, ◌-◌, ◌+◌, ◌*◌, ◌≡◌, length, drop}
 use Rattle.frame.specs.Frames.{end_count}
 use Rattle.frame.proofs.multi.sum_counts.Given as goal
 

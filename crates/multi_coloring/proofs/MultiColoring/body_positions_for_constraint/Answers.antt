@@ -1,13 +1,7 @@
 -- `body_positions_for_constraint`: the tests are the questions, in their order; where they pass, the positions between the counts before and the
 -- constraint's own are the definition's.
-use Prim.Native.Nat.{ℕ, ◌+◌, ◌≤◌}
-use mathlib.Core.Path.{◌≡◌, sym, ap, ◌∙◌}
-use mathlib.Core.Bool.{true, ◌&&◌}
-use mathlib.Core.List.{List}
-use native.Mathlib.Omega.{arith}
-use lib.Dec.{leb}
-use lib.ListN.{get_or, length, take, drop}
-use borrow.Author.Tests.{leb-true, le-leb, lt-leb, lt-ltb, le-ltb}
+use Rattle.std.proofs.Common.{ℕ, ◌+◌, ◌≤◌, ◌≡◌, sym, ap, ◌∙◌, true, ◌&&◌, List, arith, leb, get_or, length, take, drop, leb-true, le-leb, lt-ltb, le-ltb}
+use Rattle.std.proofs.lemmas.Bool.{lt-leb}
 use Rattle.lists.specs.Basics.{four}
 use Rattle.lists.proofs.Laws.{and_left, and_right}
 use Rattle.frame.specs.Frames.{end_count}

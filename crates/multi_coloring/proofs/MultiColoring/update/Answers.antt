@@ -1,9 +1,6 @@
 -- `update`: the questions' answer is the definition's, and so is the test for equal input; each of the three answers then meets the
 -- contract.
-use mathlib.Core.Path.{◌≡◌, sym, ap, ◌∙◌}
-use mathlib.Core.Bool.{Bool, ◌&&◌}
-use lib.Dec.{leb}
-use lib.ListN.{length}
+use Rattle.std.proofs.Common.{◌≡◌, sym, ap, ◌∙◌, Bool, ◌&&◌, leb, length}
 use Rattle.plan_questions.specs.Plans.{Tables, tables_of, roomy_with}
 use Rattle.multi_coloring.specs.Counts.{multi_update_refusal}
 use Rattle.multi_coloring.specs.Calls.{multi_holds, multi_refusal_with}
