@@ -176,7 +176,7 @@ module _ (bs : List ℕ) (e : asked (file_questions bs) ≡ 0) where
             accepted = all_accepted;
             ranked = λ i k. ranked cs ps (members labels i);
             tables = rw (flags_long, l) (room_kept (count_b bs) (count_m bs + count_j bs) (count_m bs + count_j bs) (entries_for (second bs) (count_m bs) (count_j bs)) (length ip) t u (omega arith) (omega (arith, q.island_pairs, entries-few)) same q.tables);
-            counts_room_lem = omega (arith, q.island_counts, q.plan_counts);
+            plan_counts_room = omega (arith, q.island_counts, q.plan_counts);
           }
 
       pub prepared_cut : (m : ℕ) → m ≡ count_m bs → Prepared r.islands fs cs ps (take m mi ++ take (length es) ji) ns ip ic u pc

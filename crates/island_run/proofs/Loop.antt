@@ -138,7 +138,7 @@ module _ {islands : ℕ} {flags counts ends labels numbers island_ends island_co
       ranked = p.ranked i inside;
       tables = room_kept (length flags) (length labels) (length (members labels i)) (length island_ends) (length (ends_among counts ends (members labels i))) t u (members-few labels i)
           (omega (arith, ap (λ (l : List ℕ). length (ends_among counts ends l)) part_is, ends-next counts ends numbers start (end - start), ends_inside counts ends numbers start (end - start), p.collectable.ends_long)) s p.tables;
-      counts_room_lem = omega (arith, ap (λ (l : List ℕ). length (counts_among counts l)) part_is, counts-next counts ends numbers start (end - start), counts_inside counts ends numbers start (end - start), p.collectable.counts_long, p.counts_room_lem);
+      plan_counts_room = omega (arith, ap (λ (l : List ℕ). length (counts_among counts l)) part_is, counts-next counts ends numbers start (end - start), counts_inside counts ends numbers start (end - start), p.collectable.counts_long, p.plan_counts_room);
     })
 
     pub island_next : (types : List ℕ) → join_map (calls_at types flags counts ends labels) (range_from i (islands - i))

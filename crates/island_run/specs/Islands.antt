@@ -25,4 +25,4 @@ pub record Prepared (islands : ℕ) (flags counts ends labels numbers island_end
   pub accepted : (i : ℕ) → i < islands → fresh_refusal flags (counts_among counts (members labels i)) (ends_among counts ends (members labels i)) ≡ 0
   pub ranked : (i : ℕ) → i < islands → length (members labels i) ≡ ranks (counts_among counts (members labels i)) (ends_among counts ends (members labels i))
   pub tables : roomy_with (length flags) (length labels) (length island_ends) t ≡ true
-  pub counts_room_lem : length island_counts ≤ length plan_counts
+  pub plan_counts_room : length island_counts ≤ length plan_counts

@@ -3,7 +3,7 @@ use Rattle.std.proofs.Common.{ℕ, ◌+◌, ◌≤◌, ◌≡◌, sym, ap, ◌�
 use Rattle.std.proofs.lemmas.Bool.{not-true}
 use Rattle.lists.specs.Basics.{over}
 use Rattle.schedules.specs.Print.{refusal_line}
-use Rattle.print_fields.specs.Puts.{Put, longest, if_room}
+use Rattle.print_fields.specs.Puts.{Put, longest, if_left, if_room}
 use Rattle.frame_file.specs.Written.{file_length}
 use Rattle.lists.proofs.Puts.{put_first}
 use Rattle.generator.specs.declared.Generated.TheVariants.{Frame, Refused}
@@ -33,7 +33,7 @@ module _ (seed b m j : ℕ) (old new : List ℕ) (room : length old ≡ 40971) w
 
   pub refusal_printed : (k : ℕ) (out : List ℕ) (r : ℕ) → Makes seed b m j old new (Refused k)
       → Put (if_room (length new) 0 (refusal_line k)) new 0 out r → Printed (lift_of seed b m j) old out r
-  unfolding lift_of if_room
+  unfolding lift_of if_left
   refusal_printed k out r makes put' =
       let made = makes.made in
       let some : eqb k 0 ≡ false = ap (λ (n : ℕ). eqb n 0) made.refusal ∙ not-true _ (sym makes.refused) in

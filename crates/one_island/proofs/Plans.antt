@@ -62,7 +62,7 @@ module _ {flags counts ends old : List ℕ} {n : ℕ} {t : Tables} (ready : Read
     asks_multi =
         let m : n ≡ length counts = ready.ranked ∙ rw (ne_eqb (length counts) 0 some) in
         let room : roomy_with (length flags) (length counts) (length ends) t ≡ true = rw m at ready.tables in
-        rw (le-leb (length counts) (length old) ready.counts_room_lem, room) asks_counts
+        rw (le-leb (length counts) (length old) ready.plan_counts_room, room) asks_counts
 
     passed_counts : Accepted flags ends counts t old
     passed_counts = accepted flags ends counts t old asks_multi

@@ -23,7 +23,7 @@ pub record Ready (flags counts ends : List ℕ) (n : ℕ) (t : Tables) (plan_cou
   pub accepted : fresh_refusal flags counts ends ≡ 0
   pub ranked : n ≡ ranks counts ends
   pub tables : roomy_with (length flags) n (length ends) t ≡ true
-  pub counts_room_lem : length counts ≤ length plan_counts
+  pub plan_counts_room : length counts ≤ length plan_counts
 
 -- a plan as it stands in the tables u after its update: it has these counts, if any, and makes the takes of the definition's plan
 pub record Colored (flags counts ends : List ℕ) (p : ConstraintColoring) (u : Tables) : Type 0 where

@@ -8,11 +8,14 @@ pub record Put (text old : List ℕ) (at : ℕ) (new : List ℕ) (r : ℕ) : Typ
   pub next : r ≡ at + length text
   pub within : at ≤ length old → r ≤ length old
 
--- no line is longer: a turn of four endpoints has seven numbers of at most 20 digits, each with a space or the newline behind it; a head has 31
--- bytes of words, spaces and newline, and four such numbers
+-- no head, refusal or turn of two bodies is longer: a head has 31 bytes of words, spaces and newline, and four numbers of at most 20 digits
 abbrev pub longest : ℕ
-longest = 147
+longest = 111
 
--- the text, if `longest` bytes are left from place `at` on in a buffer of this size; else nothing
-unfoldable pub if_room : ℕ → ℕ → List ℕ → List ℕ
-if_room size at text = cond (leb (at + longest) size) text []
+-- the text, if `most` bytes are left from place `at` on in a buffer of this size; else nothing
+unfoldable pub if_left : ℕ → ℕ → ℕ → List ℕ → List ℕ
+if_left most size at text = cond (leb (at + most) size) text []
+
+-- the text, if `longest` bytes are left
+abbrev pub if_room : ℕ → ℕ → List ℕ → List ℕ
+if_room size at text = if_left longest size at text

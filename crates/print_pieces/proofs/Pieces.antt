@@ -8,7 +8,7 @@ use Rattle.run_answer.specs.declared.Answer.{Answer}
 use Rattle.run_answer.specs.Answers.{run_report}
 use Rattle.frame.specs.Files.{second}
 use Rattle.schedules.specs.Print.{turn_lines, answer_to}
-use Rattle.print_fields.specs.Puts.{Put, longest, if_room}
+use Rattle.print_fields.specs.Puts.{Put, longest, if_left, if_room}
 use Rattle.printing.specs.Turns.{Standing, Placed, gathered, turns_from, lines_of, Lines}
 use Rattle.print_fields.proofs.Puts.{put-nothing}
 use Rattle.printing.proofs.Turns.{gathered-few}
@@ -18,7 +18,7 @@ use Rattle.print_pieces.proofs.Answers.{table_long}
 
 -- a line that has room is put
 pub put-line : (line text old new : List ℕ) (r : ℕ) → text ≡ line → longest ≤ length old → Put (if_room (length old) 0 text) old 0 new r → Put line old 0 new r
-unfolding if_room
+unfolding if_left
 put-line line text old new r e room p = rw (← e) (rw (le-leb (0 + longest) (length old) (omega arith)) at p)
 
 -- there are turns in the used part of a turn table only where the run has turns

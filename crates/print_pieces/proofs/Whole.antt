@@ -14,8 +14,8 @@ use Rattle.schedules.specs.Print.{decimal, spaced, islands_word, turns_word, tak
 use Rattle.schedules.specs.Condition.{takes_on}
 use Rattle.schedules.proofs.Accepted.{accepted}
 use Rattle.schedules.proofs.Condition3.{run_once, run_report_lem}
-use Rattle.print_fields.specs.Puts.{longest}
-use Rattle.printing.specs.Turns.{line_of, ready, gathered, turns_from, lines_of}
+use Rattle.printing.specs.Turns.{longest_turn, line_of, ready, gathered, turns_from, lines_of}
+use Rattle.printing.proofs.Lines.{most_turn}
 use Rattle.printing.proofs.Turns.{line_some, lines_append, gathered-few}
 use Rattle.print_pieces.specs.declared.Piece.{Piece}
 use Rattle.print_pieces.specs.Pieces.{buffer_size, piece_text, PieceStands, turns_left, NextPiece, Written, done, more, WholePrint}
@@ -40,13 +40,14 @@ known-rest bs (suc d) (i ∷ []) h = clashes false h refl
 known-rest bs (suc d) (i ∷ k ∷ []) h = clashes false h refl
 
 -- with room for a line, a turn that is left is gathered
-none_left : (bs : List ℕ) (size at : ℕ) (l : List ℕ) → known bs l ≡ true → at + longest ≤ size → gathered bs size at l ≡ 0 → l ≡ []
+none_left : (bs : List ℕ) (size at : ℕ) (l : List ℕ) → known bs l ≡ true → at + 147 ≤ size → gathered bs size at l ≡ 0 → l ≡ []
 unfolding known gathered ready
 none_left bs size at [] h room e = refl
 none_left bs size at (i ∷ []) h room e = clashes false h refl
 none_left bs size at (i ∷ k ∷ []) h room e = clashes false h refl
 none_left bs size at (i ∷ k ∷ n ∷ r) h room e =
-    absurd (omega (arith, rw (and_left (ltb n (count_m bs + count_j bs)) (known bs r) h, le-leb (at + longest) size room) at e))
+    let ends = length (constraint_at (decode bs) n).ends in
+    absurd (omega (arith, rw (and_left (ltb n (count_m bs + count_j bs)) (known bs r) h, le-leb (at + longest_turn ends) size (omega (arith, room, most_turn ends))) at e))
 
 -- and its line is not empty
 no_lines : (bs l : List ℕ) (d : ℕ) → 3 * d ≤ length l → length (lines_of bs l d) ≡ 0 → d ≡ 0

@@ -106,8 +106,8 @@ fn put_lines(
     out: &mut [u8],
     at: usize,
 ) -> Piece
-    requires { Placed frame.now (take (3 * count) turns.now) places.now }
-    ensures { (result.turns ≡ count) × Lines frame.now (take (3 * count) turns.now) first out.old at out.new (record { at = result.size; turn = result.next }) }
+    ensures turns { result.turns ≡ count }
+    ensures lines { Placed frame.now (take (3 * count) turns.now) places.now → Lines frame.now (take (3 * count) turns.now) first out.old at out.new (record { at = result.size; turn = result.next }) }
 {
     let done = printing::put_turns(out, at, used(turns, count), first, frame, places);
     Piece {
@@ -144,8 +144,7 @@ pub fn next_piece(
     out: &mut [u8; OUTPUT],
     piece: Piece,
 ) -> Piece
-    requires { PiecePlaced frame.now piece places.now }
-    ensures { NextPiece frame.now turns.now out.old piece out.new result }
+    ensures { PiecePlaced frame.now piece places.now → NextPiece frame.now turns.now out.old piece out.new result }
 {
     put_lines(frame, turns, places, piece.turns, piece.next, out, 0)
 }

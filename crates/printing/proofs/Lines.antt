@@ -1,9 +1,11 @@
 -- The lines as their fields one behind the other, each with its end; and the test for room.
-use Rattle.std.proofs.Common.{ℕ, suc, ◌+◌, ◌-◌, ◌*◌, ◌≤◌, ◌<◌, ◌≡◌, refl, sym, ap, subst, ◌∙◌, true, false, List, [], ◌∷◌, ◌++◌, map, append_assoc, arith, leb, length, length-append}
+use Rattle.std.proofs.Common.{ℕ, suc, ◌+◌, ◌-◌, ◌*◌, ◌≤◌, ◌<◌, ◌≡◌, refl, sym, ap, subst, ◌∙◌, true, false, List, [], ◌∷◌, ◌++◌, map, append_assoc, arith, leb, length, length-append, leb-true}
+use Rattle.lists.proofs.Laws.{by_cases}
 use Rattle.frame.specs.Files.{half, halves_from}
 use Rattle.frame.proofs.Walks.{halves_next, halves_long}
 use Rattle.schedules.specs.Print.{decimal, spaced, line, head_of, turn_line, refusal_line, islands_word, turns_word, takes_word, degree_word, refused_word}
-use Rattle.print_fields.specs.Puts.{Put, longest, if_room}
+use Rattle.print_fields.specs.Puts.{Put, if_left}
+use Rattle.printing.specs.Turns.{longest_turn}
 use Rattle.print_fields.proofs.Puts.{put-nothing, Wrote, wrote_none, wrote_then}
 use Rattle.print_fields.proofs.Fields.{number, field, number_short}
 
@@ -25,6 +27,17 @@ ends-few e (d ∷ es) = subst (λ (l : List ℕ). length l ≤ 21 * suc (suc (le
 turn_numbers : (i k n e : ℕ) (es : List ℕ) → number i 32 ++ number k 32 ++ number n 32 ++ line (map decimal (e ∷ es)) ≡ turn_line i k n (e ∷ es)
 unfolding turn_line spaced
 turn_numbers i k n e es = simp append_assoc
+
+-- three numbers and c more
+pub turn_room : (c : ℕ) → c ≤ 4 → 63 + 21 * c ≤ longest_turn c
+turn_room c h = by_cases (leb c 2) (λ e. rw e (omega (arith, leb-true c 2 e))) (λ e. rw e (omega (arith, h)))
+
+-- no turn needs more room than one of four bodies
+pub most_turn : (c : ℕ) → longest_turn c ≤ 147
+most_turn c = by_cases (leb c 2) (λ e. rw e (omega arith)) (λ e. rw e (omega arith))
+
+pub room_for_turn : (c : ℕ) {most : ℕ} (at size : ℕ) → most ≡ longest_turn c → c ≤ 4 → leb (at + most) size ≡ true → at + (63 + 21 * c) ≤ size
+room_for_turn c {most} at size e h r = omega (arith, turn_room c h, e, leb-true (at + most) size r)
 
 -- of endpoints in a file: c of them from place s on
 abbrev pub ends_line : List ℕ → ℕ → ℕ → List ℕ
@@ -56,12 +69,13 @@ module _ (bs : List ℕ) (s c : ℕ) where
         ∙ turn_numbers i k n (half bs s) (halves_from bs (s + 2) (c - 1))
         ∙ ap (turn_line i k n) here
 
-    pub turn_short : (i k n : ℕ) → c ≤ 4 → length (turn_line i k n (halves_from bs s c)) ≤ longest
+    pub turn_short : (i k n : ℕ) → c ≤ 4 → length (turn_line i k n (halves_from bs s c)) ≤ longest_turn c
     turn_short i k n m =
         let ends = ends_line bs s c in
-        subst (λ (l : List ℕ). length l ≤ longest) (turn_fields i k n)
+        subst (λ (l : List ℕ). length l ≤ longest_turn c) (turn_fields i k n)
         (omega (
           arith,
+          turn_room c m,
           ends_short,
           number_short i 32,
           number_short k 32,
@@ -114,11 +128,12 @@ unfolding refusal_line spaced
 refusal-field n = simp append_assoc
 
 -- without room nothing is put
-pub no_room : (text old : List ℕ) (at : ℕ) → leb (at + longest) (length old) ≡ false → Put (if_room (length old) at text) old at old at
-unfolding if_room
-no_room text old at e = rw e (put-nothing old at)
+pub no_room : (most : ℕ) (text old : List ℕ) (at : ℕ) → leb (at + most) (length old) ≡ false → Put (if_left most (length old) at text) old at old at
+unfolding if_left
+no_room most text old at e = rw e (put-nothing old at)
 
 -- with room the text is put
-pub with_room : (text line old : List ℕ) (at : ℕ) (new : List ℕ) (r : ℕ) → leb (at + longest) (length old) ≡ true → text ≡ line → Put text old at new r → Put (if_room (length old) at line) old at new r
-unfolding if_room
-with_room text line old at new r e t p = rw e (subst (λ (l : List ℕ). Put l old at new r) t p)
+pub with_room : (most : ℕ) (text line old : List ℕ) (at : ℕ) (new : List ℕ) (r : ℕ) → leb (at + most) (length old) ≡ true → text ≡ line → Put text old at new r
+    → Put (if_left most (length old) at line) old at new r
+unfolding if_left
+with_room most text line old at new r e t p = rw e (subst (λ (l : List ℕ). Put l old at new r) t p)

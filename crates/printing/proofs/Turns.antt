@@ -6,12 +6,12 @@ use Rattle.lists.proofs.Puts.{put-none}
 use Rattle.frame.specs.Frames.{Frame, constraint_at}
 use Rattle.frame.specs.Questions.{asked}
 use Rattle.frame.specs.Files.{half, count_m, count_j, pairs_at, joints_at, ends_at, second, count_at, places_from, halves_from, decode, file_questions}
-use Rattle.frame.proofs.Walks.{Whole, places_long}
+use Rattle.frame.proofs.Walks.{Whole, places_long, halves_long}
 use Rattle.frame.proofs.Files.{file-entry, ends_manifold, ends-first, ends-second}
 use Rattle.schedules.specs.Print.{decimal, spaced, turn_line, turn_lines}
-use Rattle.print_fields.specs.Puts.{Put, longest, if_room}
+use Rattle.print_fields.specs.Puts.{Put, if_left}
 use Rattle.printing.specs.declared.Ends.{Ends}
-use Rattle.printing.specs.Turns.{Standing, EndsStand, line_of, ready, if_ready, gathered, turns_from, lines_of, Lines}
+use Rattle.printing.specs.Turns.{Standing, EndsStand, longest_turn, line_of, ready, if_ready, gathered, turns_from, lines_of, Lines}
 use Rattle.print_fields.proofs.Puts.{put-nothing, wrote_then}
 use Rattle.printing.proofs.Lines.{turn_short}
 
@@ -63,11 +63,16 @@ module _ (bs : List ℕ) (i k n : ℕ) (e : Ends) (w : EndsStand bs n e) where
   unfolding line_of
   line_at = ap (turn_line i k n) w.ends
 
-  short_line : length (line_of bs i k n) ≤ longest
-  short_line = subst (λ (l : List ℕ). length l ≤ longest) line_at (turn_short bs e.at e.count (omega (arith, w.least)) i k n w.most)
+  count_is : e.count ≡ length (constraint_at (decode bs) n).ends
+  count_is = sym (halves_long bs e.at e.count) ∙ ap length w.ends
+
+  short_line : length (line_of bs i k n) ≤ longest_turn (length (constraint_at (decode bs) n).ends)
+  short_line =
+      subst (λ (c : ℕ). length (line_of bs i k n) ≤ longest_turn c) count_is
+      (subst (λ (l : List ℕ). length l ≤ longest_turn e.count) line_at (turn_short bs e.at e.count (omega (arith, w.least)) i k n w.most))
 
 -- no line of an accepted file is too long
-line_short : (bs : List ℕ) (i k n : ℕ) → (second bs ≡ true → asked (file_questions bs) ≡ 0) → n < count_m bs + count_j bs → length (line_of bs i k n) ≤ longest
+line_short : (bs : List ℕ) (i k n : ℕ) → (second bs ≡ true → asked (file_questions bs) ≡ 0) → n < count_m bs + count_j bs → length (line_of bs i k n) ≤ longest_turn (length (constraint_at (decode bs) n).ends)
 line_short bs i k n f h =
     by_cases (second bs)
     (λ v. by_cases (ltb n (count_m bs))
@@ -86,19 +91,19 @@ unfolding if_ready ready
 no_constraint bs old at i k n h = rw (le-ltb n (count_m bs + count_j bs) h) (put-nothing old at)
 
 pub with_ends : (bs old : List ℕ) (at i k n : ℕ) (e : Ends) (new : List ℕ) (r : ℕ) → n < count_m bs + count_j bs → EndsStand bs n e
-    → Put (if_room (length old) at (turn_line i k n (halves_from bs e.at e.count))) old at new r → Put (if_ready bs (length old) at i k n) old at new r
-unfolding if_ready ready if_room
-with_ends bs old at i k n e new r h w p = rw (lt-ltb n (count_m bs + count_j bs) h) (rw (line_at bs i k n e w) at p)
+    → Put (if_left (longest_turn e.count) (length old) at (turn_line i k n (halves_from bs e.at e.count))) old at new r → Put (if_ready bs (length old) at i k n) old at new r
+unfolding if_ready ready if_left
+with_ends bs old at i k n e new r h w p = rw (lt-ltb n (count_m bs + count_j bs) h) (rw (line_at bs i k n e w, count_is bs i k n e w) at p)
 
 -- a turn that is ready, and one that is not
 module _ (bs : List ℕ) (size at i k n : ℕ) where
   ready_pair : ready bs size at n ≡ true → n < count_m bs + count_j bs
   unfolding ready
-  ready_pair e = ltb-true n (count_m bs + count_j bs) (and_left (ltb n (count_m bs + count_j bs)) (leb (at + longest) size) e)
+  ready_pair e = ltb-true n (count_m bs + count_j bs) (and_left (ltb n (count_m bs + count_j bs)) (leb (at + longest_turn (length (constraint_at (decode bs) n).ends)) size) e)
 
-  ready-room : ready bs size at n ≡ true → at + longest ≤ size
+  ready-room : ready bs size at n ≡ true → at + longest_turn (length (constraint_at (decode bs) n).ends) ≤ size
   unfolding ready
-  ready-room e = leb-true (at + longest) size (and_right (ltb n (count_m bs + count_j bs)) (leb (at + longest) size) e)
+  ready-room e = leb-true (at + longest_turn (length (constraint_at (decode bs) n).ends)) size (and_right (ltb n (count_m bs + count_j bs)) (leb (at + longest_turn (length (constraint_at (decode bs) n).ends)) size) e)
 
   ready_text : ready bs size at n ≡ true → if_ready bs size at i k n ≡ line_of bs i k n
   unfolding if_ready
@@ -234,8 +239,8 @@ module _ (bs turns : List ℕ) (first : ℕ) (old : List ℕ) (at : ℕ) (out : 
         let l : lines_of bs rest (d + 1) ≡ lines_of bs rest d ++ line_of bs i k n =
         lines_more bs rest d i k n (turns_from turns (t + 1)) (omega (arith, g.past, length-drop (3 * first) turns)) f in
         let w =
-        wrote_then (lines_of bs rest d) (line_of bs i k n) old out new at m next longest 0
-        (record { put = g.put; kept = g.kept; left = ready-room bs (length old) m i k n y }) (was y) (line_short bs i k n file (ready_pair bs (length old) m i k n y)) in
+        wrote_then (lines_of bs rest d) (line_of bs i k n) old out new at m next (longest_turn (length (constraint_at (decode bs) n).ends)) 0
+        (record { put = g.put; kept = g.kept; left = omega (arith, ready-room bs (length old) m i k n y) }) (was y) (line_short bs i k n file (ready_pair bs (length old) m i k n y)) in
         record {
           past = omega (arith, g.past);
           put = rw (q, l) w.put;

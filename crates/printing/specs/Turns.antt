@@ -31,9 +31,13 @@ pub record EndsStand (bs : List ℕ) (n : ℕ) (e : Ends) : Type 0 where
 unfoldable pub line_of : List ℕ → ℕ → ℕ → ℕ → List ℕ
 line_of bs i k n = turn_line i k n (constraint_at (decode bs) n).ends
 
+-- no line of a turn of c bodies is longer, of two to four: seven numbers of at most 20 digits, each with a space or the newline behind it
+abbrev pub longest_turn : ℕ → ℕ
+longest_turn c = cond (leb c 2) longest 147
+
 -- is there a constraint n, and room for its line from place `at` on in a buffer of this size?
 unfoldable pub ready : List ℕ → ℕ → ℕ → ℕ → Bool
-ready bs size at n = ltb n (count_m bs + count_j bs) && leb (at + longest) size
+ready bs size at n = ltb n (count_m bs + count_j bs) && leb (at + longest_turn (length (constraint_at (decode bs) n).ends)) size
 
 -- the line of a turn that is ready; else nothing
 unfoldable pub if_ready : List ℕ → ℕ → ℕ → ℕ → ℕ → ℕ → List ℕ

@@ -1,16 +1,18 @@
 // The bytes that the program `turns` prints, appended to a lent buffer: a head, a line of a turn, a refusal, and the
-// lines of a turn table as far as the buffer goes. Every line is written whole or not at all: where fewer than `MAX_LINE`
-// bytes are left nothing is written. Each answers the place after what it wrote.
+// lines of a turn table as far as the buffer goes. The public functions answer every buffer and every place: where fewer bytes
+// are left than a line may have, nothing is written. Each answers the place after what it wrote.
 #![tactic(auto)]
 
-ghost use Rattle.std.specs.Prelude.{◌≡◌, ◌∷◌, [], ◌+◌, ◌-◌, ◌*◌, ◌≤◌, ◌<◌, true, leb, length, map};
+ghost use Rattle.std.specs.Prelude.{◌≡◌, ◌∷◌, [], ◌+◌, ◌-◌, ◌*◌, ◌≤◌, ◌<◌, true, leb, length, get_or, map};
 ghost use Rattle.frame.specs.Files.{count_m, count_j, second, halves_from};
 ghost use Rattle.schedules.specs.Print.{decimal, line, head_of, turn_line, refusal_line};
-ghost use Rattle.print_fields.specs.Puts.{Put, longest, if_room};
-ghost use Rattle.printing.specs.Turns.{Standing, EndsStand, if_ready, Placed, Lines};
+ghost use Rattle.print_fields.specs.Puts.{Put, if_left, if_room};
+ghost use Rattle.printing.specs.Turns.{Standing, EndsStand, longest_turn, if_ready, Placed, Lines};
 
-// No line is longer.
-pub const MAX_LINE: usize = 147;
+// No head, refusal or turn of two bodies is longer, and no turn of three or four.
+pub const MAX_LINE: usize = 111;
+
+const MAX_TURN: usize = 147;
 
 // How far the lines of a turn table were gathered: the place after them, and the first turn that is left.
 #[derive(Clone, Copy)]
@@ -26,14 +28,24 @@ pub struct Ends {
     pub count: usize,
 }
 
-// Are MAX_LINE bytes left from a place on?
-fn line_fits(size: usize, at: usize) -> bool
-    ensures { result ≡ leb (at + longest) size }
+// Are `most` bytes left from a place on?
+fn line_fits(size: usize, at: usize, most: usize) -> bool
+    ensures { result ≡ leb (at + most) size }
 {
-    if size < MAX_LINE {
+    if size < most {
         return false;
     }
-    at <= size - MAX_LINE
+    at <= size - most
+}
+
+// The most bytes that the line of a turn of two to four bodies has.
+fn turn_most(count: usize) -> usize
+    ensures { result ≡ longest_turn count }
+{
+    if count <= 2 {
+        return MAX_LINE;
+    }
+    MAX_TURN
 }
 
 // The head: the four carried numbers, each after its word.
@@ -47,7 +59,7 @@ pub fn put_head(
 ) -> usize
     ensures { Put (if_room (length out.old) at (head_of islands turns takes degree)) out.old at out.new result }
 {
-    if !line_fits(out.len(), at) {
+    if !line_fits(out.len(), at, MAX_LINE) {
         return at;
     }
     let with_islands = print_fields::put_field(out, at, b"islands", islands, b' ');
@@ -87,9 +99,9 @@ fn put_turn_line(
 ) -> usize
     requires some { (1 ≤ ends.count) × (ends.count ≤ 4) }
     requires near { ends.at + 2 * (ends.count - 1) < 1048576 }
-    ensures { Put (if_room (length out.old) at (turn_line island group constraint (halves_from frame.now ends.at ends.count))) out.old at out.new result }
+    ensures { Put (if_left (longest_turn ends.count) (length out.old) at (turn_line island group constraint (halves_from frame.now ends.at ends.count))) out.old at out.new result }
 {
-    if !line_fits(out.len(), at) {
+    if !line_fits(out.len(), at, turn_most(ends.count)) {
         return at;
     }
     let with_island = print_fields::put_number(out, at, island, b' ');
@@ -102,26 +114,50 @@ fn put_turn_line(
 pub fn put_refusal(out: &mut [u8], at: usize, number: usize) -> usize
     ensures { Put (if_room (length out.old) at (refusal_line number)) out.old at out.new result }
 {
-    if !line_fits(out.len(), at) {
+    if !line_fits(out.len(), at, MAX_LINE) {
         return at;
     }
     print_fields::put_field(out, at, b"refused", number, b'\n')
 }
 
+// The place in a table of places, 0 behind its end.
+fn place_at(places: &[u16], i: usize) -> usize
+    ensures { (result ≡ get_or places.now i 0) × (result < 65536) }
+{
+    if i < places.len() {
+        return places[i] as usize;
+    }
+    0
+}
+
+// A count of endpoints, 2 for one that is none.
+fn two_to_four(count: usize) -> usize
+    ensures few { (1 ≤ result) × (result ≤ 4) }
+    ensures kept { 2 ≤ count → count ≤ 4 → result ≡ count }
+{
+    if count < 2 {
+        return 2;
+    }
+    if 4 < count {
+        return 2;
+    }
+    count
+}
+
 // Where the endpoints of a constraint of the file stand: of a manifold, and on version 1, by arithmetic; of a joint of version 2
-// behind its entry's count, and the entry is where `places` says.
+// behind its entry's count, and the entry is where `places` says. Where the table says nothing of use, it is two numbers anywhere.
 fn ends_of(frame: &[u8], places: &[u16], constraint: usize) -> Ends
-    requires there { (constraint < count_m frame.now + count_j frame.now) × (constraint < 131072) }
-    requires placed { second frame.now ≡ true → Standing frame.now places.now }
-    ensures { EndsStand frame.now constraint result × (result.at + 2 * (result.count - 1) < 1048576) }
+    requires { constraint < 131072 }
+    ensures few { (1 ≤ result.count) × (result.count ≤ 4) × (result.at + 2 * (result.count - 1) < 1048576) }
+    ensures there { constraint < count_m frame.now + count_j frame.now → (second frame.now ≡ true → Standing frame.now places.now) → EndsStand frame.now constraint result }
 {
     if frame::is_second(frame) {
         let manifolds = frame::half_or_zero(frame, 7);
         if manifolds <= constraint {
-            let place = places[constraint - manifolds] as usize;
+            let place = place_at(places, constraint - manifolds);
             return Ends {
                 at: place + 2,
-                count: frame[place + 1] as usize,
+                count: two_to_four(frame::byte_or_zero(frame, place + 1)),
             };
         }
     }
@@ -141,8 +177,7 @@ fn put_turn(
     frame: &[u8],
     places: &[u16],
 ) -> usize
-    requires { second frame.now ≡ true → Standing frame.now places.now }
-    ensures { Put (if_ready frame.now (length out.old) at island group constraint) out.old at out.new result }
+    ensures { (second frame.now ≡ true → Standing frame.now places.now) → Put (if_ready frame.now (length out.old) at island group constraint) out.old at out.new result }
 {
     if frame::constraint_count(frame) <= constraint {
         return at;
@@ -160,8 +195,7 @@ pub fn put_turns(
     frame: &[u8],
     places: &[u16],
 ) -> Gathered
-    requires { Placed frame.now turns.now places.now }
-    ensures { Lines frame.now turns.now first out.old at out.new result }
+    ensures { Placed frame.now turns.now places.now → Lines frame.now turns.now first out.old at out.new result }
 {
     let mut place = at;
     let mut turn = first;

@@ -12,14 +12,9 @@ place_joints-requires c =
     let count = ap (λ (r : Report). r.turns) c.report_of-count.ensures ∙ c.answer_to-answer.ensures.turns in
     (turns_asked c.args.frame.now (omega (arith, count, c.if-count-gt0.true)), omega arith)
 
-pub put_lines-requires : goal.put_lines-requires
-put_lines-requires c =
-    turns_placed c.args.frame.now c.answer_to-answer.new.turns c.if-count-gt0.places c.report_of-count.result.turns
-    (λ some v. elim c.if-count-gt0.branch [ then-count-gt0 w ↦ rw w.places-is (w.place_joints.ensures v) | else-count-gt0 w ↦ absurd (omega (arith, some, w.if-count-gt0.false)) ])
-
 pub returns-clause-placed : goal.returns-clause-placed
 returns-clause-placed c =
-    λ some v. elim c.if-count-gt0.branch [ then-count-gt0 w ↦ rw w.places-is (w.place_joints.ensures v) | else-count-gt0 w ↦ absurd (omega (arith, some, c.put_lines.ensures.0, w.if-count-gt0.false)) ]
+    λ some v. elim c.if-count-gt0.branch [ then-count-gt0 w ↦ rw w.places-is (w.place_joints.ensures v) | else-count-gt0 w ↦ absurd (omega (arith, some, c.put_lines.ensures.turns, w.if-count-gt0.false)) ]
 
 pub returns-clause-piece : goal.returns-clause-piece
 returns-clause-piece c =
@@ -27,5 +22,9 @@ returns-clause-piece c =
     let n = c.report_of-count in
     let f = c.put_first_line-line in
     let l = c.put_lines in
+    let placed =
+    turns_placed c.args.frame.now a.new.turns c.if-count-gt0.places n.result.turns
+    (λ some v. elim c.if-count-gt0.branch [ then-count-gt0 w ↦ rw w.places-is (w.place_joints.ensures v) | else-count-gt0 w ↦ absurd (omega (arith, some, w.if-count-gt0.false)) ])
+    in
     first_stands c.args.frame.now c.args.turns.now a.new.turns c.args.out.now f.new.out l.new.out a.result n.result.turns f.result l.result
-    (omega arith) f.auto.out a.ensures (ap (λ (r : Report). r.turns) n.ensures) f.ensures l.ensures.0 l.ensures.1
+    (omega arith) f.auto.out a.ensures (ap (λ (r : Report). r.turns) n.ensures) f.ensures l.ensures.turns (l.ensures.lines placed)

@@ -10,7 +10,7 @@ use Rattle.printing.proofs.put_head.Goals as goal
 pub returns-then-not-line_fits : goal.returns-then-not-line_fits
 returns-then-not-line_fits c =
     let a = c.args in
-    no_room (head_of a.islands a.turns a.takes a.degree) a.out.now a.at (sym c.if-not-line_fits.ensures)
+    no_room _ (head_of a.islands a.turns a.takes a.degree) a.out.now a.at (sym c.if-not-line_fits.ensures)
 
 pub put_field-with_turns-requires : goal.put_field-with_turns-requires
 put_field-with_turns-requires c =
@@ -60,5 +60,5 @@ returns c =
     let degree : Wrote (fi ++ ft ++ fk ++ fd) a.out.now a.at s.new.out s.result 0 =
     wrote_then (fi ++ ft ++ fk) fd a.out.now r.new.out s.new.out a.at r.result s.result 28 0 takes s.ensures (field_short degree_word a.degree 10)
     in
-    with_room (fi ++ ft ++ fk ++ fd) (head_of a.islands a.turns a.takes a.degree) a.out.now a.at s.new.out s.result (sym c.if-not-line_fits.ensures)
+    with_room _ (fi ++ ft ++ fk ++ fd) (head_of a.islands a.turns a.takes a.degree) a.out.now a.at s.new.out s.result (sym c.if-not-line_fits.ensures)
     (head_fields a.islands a.turns a.takes a.degree) degree.put
