@@ -1,7 +1,8 @@
 #!/usr/bin/env python3
-"""Respells the repository's own definitions, fields and laws as today's Rattle spells names: snake case, and a dash only between two names.
+"""Respells the repository's own definitions, fields and laws as today's Rattle spells names: snake case, and a dash only between two names. A name that
+would have become another's gets another word (`_lem`, `plan_left`).
 
-usage: python3 tools/names.py [FOLDER]     once, at the top of FOLDER (default: here), over crates/ and the documents
+usage: python3 tools/names.py [FOLDER]     at the top of FOLDER (default: here), over crates/ and the documents: once, after the kit's port.py, never again
 
 A row of names.tsv is old, tab, new and, where the name turns in some files alone, tab and the beginning of their path. Whole words turn: in .antt, in .rt outside
 strings and in .edit; in a comment, and in .md, words between backquotes, and in a comment also those with a capital inside. Functions of src/, exported names,

@@ -8,7 +8,7 @@ use Rattle.std.proofs.lemmas.Bool.{lt-leb}
 use Rattle.std.proofs.lemmas.Bool.Decides.{nat_tests}
 use Rattle.lists.specs.Basics.{all, one, distinct, sorted, four}
 use Rattle.lists.proofs.Bits.{byte_one}
-use Rattle.lists.proofs.Laws.{and_right, by_cases, all_weaken, all_in, all_intro, all_get_d}
+use Rattle.lists.proofs.Laws.{and_right, by_cases, all_weaken, all_in, all_intro, all-get_or}
 use Rattle.frame.specs.Frames.{counted}
 use Rattle.frame.proofs.Questions.{passed, zero-cond}
 use Rattle.colored_bodies.specs.Bindings.{placed, ask_refusal, spend, refusal_from, marks_from, take_refusal, take_marks, handed_at, take_of}
@@ -24,7 +24,7 @@ abbrev pub Places : List ℕ → Type 0
 Places ps = all (λ p. ltb p 4096) ps ≡ true
 
 pub place_below : (ps : List ℕ) (i : ℕ) → Places ps → get_or ps i 0 < 4096
-place_below ps i h = ltb-true (get_or ps i 0) 4096 (all_get_d (λ p. ltb p 4096) 0 ps i refl h)
+place_below ps i h = ltb-true (get_or ps i 0) 4096 (all-get_or (λ p. ltb p 4096) 0 ps i refl h)
 
 under : (p count : ℕ) → ltb p (cond (ltb count 4096) count 4096) ≡ (ltb p count && ltb p 4096)
 under p count = grind (arith, nat_tests)

@@ -4,7 +4,7 @@ use Rattle.std.proofs.Common.{ℕ, ◌+◌, ◌-◌, ◌≤◌, ◌<◌, ◌≡�
 use Rattle.std.proofs.Math.Bool.{and-false, or-false}
 use Rattle.std.proofs.Math.Seq.{take-set-le}
 use Rattle.lists.specs.Basics.{one, any, all, filter, range, mem}
-use Rattle.lists.proofs.Laws.{by_cases, all_in, get_or-mem, all_get_d, cond-or}
+use Rattle.lists.proofs.Laws.{by_cases, all_in, get_or-mem, all-get_or, cond-or}
 use Rattle.lists.proofs.Ranges.{filter-append}
 use Rattle.lists.proofs.Scans.{any_next, any_ext_in, filter-filter}
 use Rattle.groups.specs.Groups.{flagged, colors_of, members}
@@ -69,7 +69,7 @@ module _ {flags : List ℕ} {cs : List (List ℕ)} {k start count : ℕ} {remain
       end_in = omega (arith, v.ended, v.order, v.members_length, o.members_length, o.counted)
 
       bodies_exist : all (λ b. ltb b (length flags)) (get_or cs next []) ≡ true
-      bodies_exist = all_get_d (λ bs. all (λ b. ltb b (length flags)) bs) [] cs next refl o.bodies
+      bodies_exist = all-get_or (λ bs. all (λ b. ltb b (length flags)) bs) [] cs next refl o.bodies
 
       pub next-bodies : (bs : List ℕ) → bs ≡ get_or cs next [] → all (λ b. ltb b (length flags)) bs ≡ true
       next-bodies bs e = ap (all (λ b. ltb b (length flags))) e ∙ bodies_exist

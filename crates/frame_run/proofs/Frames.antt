@@ -5,7 +5,7 @@ use mathlib.Core.List.{map-map}
 use Rattle.std.proofs.Math.ListN.{length-map, get_or-map}
 use Rattle.std.proofs.lemmas.Bool.{eqb-false}
 use Rattle.lists.specs.Basics.{join_map, range, mem, place}
-use Rattle.lists.proofs.Laws.{by_cases, clashes, filter-mem, range_high, get_d_any, length-range, filter-length-le, count-few, sum_one, no_length, map_ext_in, place-lt, place_get}
+use Rattle.lists.proofs.Laws.{by_cases, clashes, filter-mem, range_high, get_or-any, length-range, filter-length-le, count-few, sum_one, no_length, map_ext_in, place-lt, place_get}
 use Rattle.lists.proofs.Ranges.{filter_ext_in, join_map_ext_in}
 use Rattle.lists.proofs.Sums.{length-filter, sum_le, sum_times}
 use Rattle.frame.specs.Frames.{Frame, constraints, constraint_at, nothing, numbers, bodies, conflicting, on, touches, flag_of, turn_count, degree, degree_sum}
@@ -54,7 +54,7 @@ module _ (f : Frame) where
       (filter_ext_in _ _ (numbers f)
       (λ n m.
       let h : n < length (map (label f) (constraints f)) = omega (arith, range_high n 0 (length (constraints f)) m, length-map (constraints f) (label f)) in
-      ap (eqb i) (get_d_any (map (label f) (constraints f)) n 0 (label f nothing) h ∙ get_or-map (label f) (constraints f) n nothing)))
+      ap (eqb i) (get_or-any (map (label f) (constraints f)) n 0 (label f nothing) h ∙ get_or-map (label f) (constraints f) n nothing)))
 
   -- they have numbers of the frame
   of_frame : (i n : ℕ) → mem n (of_island f i) ≡ true → n < length (constraints f)

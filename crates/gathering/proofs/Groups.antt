@@ -6,7 +6,7 @@ use Rattle.std.proofs.Math.Seq.{take-length, drop-append-add}
 use Rattle.std.proofs.lemmas.Bool.{eqb-false}
 use Rattle.lists.specs.Basics.{one, all, sum_of, range, mem, over, join_map}
 use Rattle.lists.proofs.Sums.{sum_le, sum_ext, sum_add, sum_filter, sum_get_or}
-use Rattle.lists.proofs.Laws.{by_cases, all_intro, all_get_d}
+use Rattle.lists.proofs.Laws.{by_cases, all_intro, all-get_or}
 use Rattle.lists.proofs.Ranges.{length-join_map, map-range-suc, join_map_ext_in, all-join_map}
 use Rattle.parts.specs.Parts.{cut, Cut}
 use Rattle.groups.specs.Groups.{members, group_bodies, flatten, offsets}
@@ -117,7 +117,7 @@ module _ {nb n : ℕ} {cs : List (List ℕ)} {colors color_offsets constraints s
           (record {
             notable = record {
               stampable = record {
-                below = rw v.st_size (all-join_map below (λ r. get_or cs r []) (members colors color) ∙ all_intro (λ r. all below (get_or cs r [])) (members colors color) (λ r m. all_get_d (λ bs. all below bs) [] cs r refl p.below));
+                below = rw v.st_size (all-join_map below (λ r. get_or cs r []) (members colors color) ∙ all_intro (λ r. all below (get_or cs r [])) (members colors color) (λ r m. all-get_or (λ bs. all below bs) [] cs r refl p.below));
                 small = omega (arith, before-suc cs colors color, before-few cs colors size (suc color), p.small);
               };
               room = omega (arith, v.counted, v.bodies_size, starts-few cs colors nb color, before-suc cs colors color, before-few cs colors size (suc color), p.room);

@@ -2,7 +2,7 @@
 use Rattle.std.proofs.Common.{ℕ, ◌+◌, ◌≤◌, ◌<◌, min, arith, add-one, ◌≡◌, refl, sym, ap, ◌∙◌, Bool, true, ◌&&◌, List, [], ◌∷◌, ◌++◌, map, eqb, ltb, length, get_or, set, take, drop, length-append, length-take, drop_of_length-le, drop-cons, ltb-true}
 use Rattle.std.proofs.Math.ListN.{length-map}
 use Rattle.lists.specs.Basics.{all}
-use Rattle.lists.proofs.Laws.{and_left, and_right, get_d_any, all_in, get_or-mem}
+use Rattle.lists.proofs.Laws.{and_left, and_right, get_or-any, all_in, get_or-mem}
 use Rattle.lists.proofs.Fills.{fill_turn, fill_end}
 use Rattle.frame.specs.Frames.{Constraint, constraint, constraints_of, sound, none}
 use Rattle.frame.proofs.Pairs.{pairs_step}
@@ -10,7 +10,7 @@ use Rattle.island_labels.specs.Labels.{least, label_by}
 
 -- ---- one constraint
 pub label_live : (l : List ℕ) (t : Bool) (a b r : ℕ) → t ≡ true → a < length l → b < length l → r ≡ min (get_or l a 0) (get_or l b 0) → get_or l b 0 ≤ none → r ≡ label_by l (constraint t a b)
-label_live l t a b r e ha hb q k = rw e (omega (arith, q, k, get_d_any l a 0 none ha, get_d_any l b 0 none hb))
+label_live l t a b r e ha hb q k = rw e (omega (arith, q, k, get_or-any l a 0 none ha, get_or-any l b 0 none hb))
 
 -- one on any number of bodies
 abbrev pub tied : Bool → List ℕ → Constraint
@@ -34,7 +34,7 @@ least-starts l bs = record { small = omega arith; within = omega (arith, least-l
 pub least_turns : (l bs : List ℕ) (r i v : ℕ) → Least l bs r i → i < length bs → get_or bs i 0 < length l → v ≡ min r (get_or l (get_or bs i 0) 0) → Least l bs v (i + 1)
 least_turns l bs r i v w h k e = record {
   small = omega (arith, w.small, e);
-  within = omega (arith, w.within, e, get_d_any l (get_or bs i 0) 0 none k, ap (least l) (drop-cons bs i 0 h), ap (λ (n : ℕ). least l (drop n bs)) (add-one i));
+  within = omega (arith, w.within, e, get_or-any l (get_or bs i 0) 0 none k, ap (least l) (drop-cons bs i 0 h), ap (λ (n : ℕ). least l (drop n bs)) (add-one i));
 }
 
 pub least-ends : (l bs : List ℕ) (r i : ℕ) → Least l bs r i → length bs ≤ i → (t : Bool) → t ≡ true → r ≡ label_by l (tied t bs)

@@ -5,7 +5,7 @@ use Rattle.std.proofs.Math.Decide.{ℕ_discrete, dec_lt}
 use Rattle.std.proofs.Math.Path.{fun_ext}
 use Rattle.std.proofs.Math.ListN.{get_or-eq_default}
 use Rattle.lists.specs.Basics.{one, count, range}
-use Rattle.lists.proofs.Laws.{by_cases, clashes, or_left, get_d_any}
+use Rattle.lists.proofs.Laws.{by_cases, clashes, or_left, get_or-any}
 use Rattle.lists.proofs.Counts.{count_next, count-le}
 use Rattle.frame.specs.Frames.{dynamic, none}
 use Rattle.island_sets.specs.Sets.{root_of}
@@ -28,7 +28,7 @@ module _ (ts l₀ l : List ℕ) (b : ℕ) (w : Flagging ts l₀ l b) (size : len
 
   in_island_here : b < length ts → test ≡ in_island_by ts l₀ b
   unfolding dynamic
-  in_island_here k = ap (λ (v : ℕ). eqb (get_or ts b 0) 2 && not (eqb v none)) (get_d_any l b 0 none (omega (arith, w.long)) ∙ w.todo b (le_refl b))
+  in_island_here k = ap (λ (v : ℕ). eqb (get_or ts b 0) 2 && not (eqb v none)) (get_or-any l b 0 none (omega (arith, w.long)) ∙ w.todo b (le_refl b))
 
   pub flagging_turns : b < length ts → (f : ℕ) → f ≡ cond test unnumbered none → Flagging ts l₀ (set l b f) (b + 1)
   flagging_turns k f e = record {
@@ -46,7 +46,7 @@ module _ (ts l₀ l : List ℕ) (b : ℕ) (w : Flagging ts l₀ l b) (size : len
 -- ---- one body, in the terms of `number_one`: r is its root
 module _ (p l : List ℕ) (b n r : ℕ) (e : r ≡ root_of p b) (k : r < length l) where
   root_label : get_or l r 0 ≡ get_or l (root_of p b) none
-  root_label = get_d_any l r 0 none k ∙ ap (λ (x : ℕ). get_or l x none) e
+  root_label = get_or-any l r 0 none k ∙ ap (λ (x : ℕ). get_or l x none) e
 
   pub stepped : (v q : ℕ) → v ≡ cond (eqb (get_or l r 0) unnumbered) n (get_or l r 0) → q ≡ cond (eqb (get_or l r 0) unnumbered) r b
       → (n' : ℕ) → n' ≡ n + one (eqb (get_or l r 0) unnumbered) → Stepped p l b n (set (set l q v) b v) n'

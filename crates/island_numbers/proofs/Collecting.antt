@@ -63,8 +63,8 @@ module _ {counts ends ns bounds island_ends island_counts : List ℕ} (c : Colle
     unfolding counts_among
     counts-among = rw (ne_eqb (length counts) 0 some)
 
-    pub counts_room_lem : length island_counts ≡ length ns
-    counts_room_lem = c.counts_long ∙ ap length (sym counts-among) ∙ length-map ns (λ (n : ℕ). get_or counts n 0)
+    pub as_many_counts : length island_counts ≡ length ns
+    as_many_counts = c.counts_long ∙ ap length (sym counts-among) ∙ length-map ns (λ (n : ℕ). get_or counts n 0)
 
     pub ends-few : end_count counts ≤ 32768
     ends-few = omega (arith, (known-many counts c.known).1, c.few)

@@ -3,7 +3,7 @@
 use Rattle.std.proofs.Common.{ℕ, zero, suc, ◌≤◌, ◌<◌, arith, ◌≡◌, refl, sym, ap, ◌∙◌, subst, List, length, get_or, set, get_or-set_same, get_or-set_other, eq-eqb, ne_eqb}
 use Rattle.std.proofs.Math.Decide.{ℕ_discrete}
 use Rattle.std.proofs.Math.Path.{fun_ext}
-use Rattle.lists.proofs.Laws.{get_d_any}
+use Rattle.lists.proofs.Laws.{get_or-any}
 use Rattle.island_sets.specs.Sets.{link, follow, root_of, steps, links_of}
 
 pub follow_stays : (p : List ℕ) (n b : ℕ) → link p b ≡ b → follow p n b ≡ b
@@ -105,4 +105,4 @@ link_other p b r x n = get_or-set_other p b x r x n
 
 -- what the code reads, `get_or p r 0` at an index within the table
 pub read_is : (p : List ℕ) (r : ℕ) → r < length p → get_or p r 0 ≡ link p r
-read_is p r k = get_d_any p r 0 r k
+read_is p r k = get_or-any p r 0 r k

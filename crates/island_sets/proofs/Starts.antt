@@ -3,7 +3,7 @@ use Rattle.std.proofs.Common.{ℕ, ◌*◌, ◌≤◌, ◌<◌, arith, ◌≡◌
 use Rattle.std.proofs.Math.Decide.{dec_lt}
 use Rattle.std.proofs.Math.ListN.{length-replicate, get_or-replicate, get_or-eq_default}
 use Rattle.lists.specs.Basics.{one, range}
-use Rattle.lists.proofs.Laws.{length-range, get_d_any}
+use Rattle.lists.proofs.Laws.{length-range, get_or-any}
 use Rattle.lists.proofs.Ranges.{range_at}
 use Rattle.lists.proofs.Sums.{sum_ext, collapse}
 use Rattle.island_sets.specs.Sets.{link, root_of, size_in}
@@ -15,7 +15,7 @@ link_self : (n x : ℕ) → link (range n) x ≡ x
 link_self n x = go (dec_lt x n)
   where
     go : Dec (x < n) → link (range n) x ≡ x
-    go (yes h) = get_d_any (range n) x x 0 (omega (arith, length-range 0 n)) ∙ range_at n x h
+    go (yes h) = get_or-any (range n) x x 0 (omega (arith, length-range 0 n)) ∙ range_at n x h
     go (no h) = link_past (range n) x (omega (arith, length-range 0 n))
 
 -- n sizes of 1

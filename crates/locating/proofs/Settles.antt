@@ -4,7 +4,7 @@ use Rattle.std.proofs.Common.{ℕ, suc, ◌+◌, ◌≤◌, ◌<◌, ◌≡◌, 
 use Rattle.std.proofs.Math.Seq.{take-length}
 use Rattle.std.proofs.lemmas.Bool.{eqb-false}
 use Rattle.lists.specs.Basics.{all, mem, join_map}
-use Rattle.lists.proofs.Laws.{by_cases, all_in, all_intro, all_get_d, max_in, get_or-mem}
+use Rattle.lists.proofs.Laws.{by_cases, all_in, all_intro, all-get_or, max_in, get_or-mem}
 use Rattle.lists.proofs.Ranges.{all-join_map}
 use Rattle.groups.specs.Groups.{group_count, members, group_bodies, positions, flatten}
 use Rattle.groups.proofs.Members.{member_is, member_at, bodies_rise, bodies-few, bodies_exist, has_body}
@@ -20,7 +20,7 @@ bodies-all : (nb : ℕ) (cs : List (List ℕ)) (colors : List ℕ) (k : ℕ) →
 bodies-all nb cs colors k below r m =
     let low : ℕ → Bool = λ b. ltb b nb in
     all_intro (λ b. mem b (group_bodies nb cs colors k)) (get_or cs r [])
-    (λ b o. has_body nb cs colors k r b m o (ltb-true b nb (all_in low b (get_or cs r []) o (all_get_d (λ bs. all low bs) [] cs r refl below))))
+    (λ b o. has_body nb cs colors k r b m o (ltb-true b nb (all_in low b (get_or cs r []) o (all-get_or (λ bs. all low bs) [] cs r refl below))))
 
 -- ---- group k in the tables: its constraints ms and its bodies bs
 module _ {nb n : ℕ} {cs : List (List ℕ)} {colors offsets constraints starts bodies places₀ : List ℕ} (p : Locatable nb cs colors n offsets constraints starts bodies places₀) (k : ℕ) (h : k < n) where

@@ -136,7 +136,7 @@ pub fn first_piece(
     put_lines(frame, turns, places, count, 0, out, line)
 }
 
-// The piece after another one of the same print.
+// The piece after another one of the same print. Of a version 2 file nothing is promised unless `places` has its joints' places.
 pub fn next_piece(
     frame: &[u8],
     turns: &[u16; TURNS],

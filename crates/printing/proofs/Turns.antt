@@ -101,17 +101,17 @@ module _ (bs : List ℕ) (size at i k n : ℕ) where
   unfolding ready
   ready_pair e = ltb-true n (count_m bs + count_j bs) (and_left (ltb n (count_m bs + count_j bs)) (leb (at + longest_turn (length (constraint_at (decode bs) n).ends)) size) e)
 
-  ready-room : ready bs size at n ≡ true → at + longest_turn (length (constraint_at (decode bs) n).ends) ≤ size
+  ready_room : ready bs size at n ≡ true → at + longest_turn (length (constraint_at (decode bs) n).ends) ≤ size
   unfolding ready
-  ready-room e = leb-true (at + longest_turn (length (constraint_at (decode bs) n).ends)) size (and_right (ltb n (count_m bs + count_j bs)) (leb (at + longest_turn (length (constraint_at (decode bs) n).ends)) size) e)
+  ready_room e = leb-true (at + longest_turn (length (constraint_at (decode bs) n).ends)) size (and_right (ltb n (count_m bs + count_j bs)) (leb (at + longest_turn (length (constraint_at (decode bs) n).ends)) size) e)
 
   ready_text : ready bs size at n ≡ true → if_ready bs size at i k n ≡ line_of bs i k n
   unfolding if_ready
   ready_text e = rw e
 
-  ready-count : (r : List ℕ) → ready bs size at n ≡ true → gathered bs size at (i ∷ k ∷ n ∷ r) ≡ suc (gathered bs size (at + length (line_of bs i k n)) r)
+  ready_count : (r : List ℕ) → ready bs size at n ≡ true → gathered bs size at (i ∷ k ∷ n ∷ r) ≡ suc (gathered bs size (at + length (line_of bs i k n)) r)
   unfolding gathered
-  ready-count r e = rw e
+  ready_count r e = rw e
 
   unready_text : ready bs size at n ≡ false → if_ready bs size at i k n ≡ []
   unfolding if_ready
@@ -240,7 +240,7 @@ module _ (bs turns : List ℕ) (first : ℕ) (old : List ℕ) (at : ℕ) (out : 
         lines_more bs rest d i k n (turns_from turns (t + 1)) (omega (arith, g.past, length-drop (3 * first) turns)) f in
         let w =
         wrote_then (lines_of bs rest d) (line_of bs i k n) old out new at m next (longest_turn (length (constraint_at (decode bs) n).ends)) 0
-        (record { put = g.put; kept = g.kept; left = omega (arith, ready-room bs (length old) m i k n y) }) (was y) (line_short bs i k n file (ready_pair bs (length old) m i k n y)) in
+        (record { put = g.put; kept = g.kept; left = omega (arith, ready_room bs (length old) m i k n y) }) (was y) (line_short bs i k n file (ready_pair bs (length old) m i k n y)) in
         record {
           past = omega (arith, g.past);
           put = rw (q, l) w.put;
@@ -248,7 +248,7 @@ module _ (bs turns : List ℕ) (first : ℕ) (old : List ℕ) (at : ℕ) (out : 
           count =
               g.count
               ∙ ap (λ (x : List ℕ). d + gathered bs (length old) m x) here
-              ∙ ap (λ (x : ℕ). d + x) (ready-count bs (length old) m i k n (turns_from turns (t + 1)) y)
+              ∙ ap (λ (x : ℕ). d + x) (ready_count bs (length old) m i k n (turns_from turns (t + 1)) y)
               ∙ ap (λ (x : ℕ). d + suc (gathered bs (length old) x (turns_from turns (t + 1)))) (sym (was y).next)
               ∙ omega (arith, q);
         })

@@ -31,7 +31,7 @@ pub record EndsStand (bs : List ℕ) (n : ℕ) (e : Ends) : Type 0 where
 unfoldable pub line_of : List ℕ → ℕ → ℕ → ℕ → List ℕ
 line_of bs i k n = turn_line i k n (constraint_at (decode bs) n).ends
 
--- no line of a turn of c bodies is longer, of two to four: seven numbers of at most 20 digits, each with a space or the newline behind it
+-- no line of a turn of c bodies is longer: of two as `longest` says; of three or four it has at most seven numbers of 20 digits, each with its end
 abbrev pub longest_turn : ℕ → ℕ
 longest_turn c = cond (leb c 2) longest 147
 

@@ -9,9 +9,12 @@ ghost use Rattle.schedules.specs.Print.{decimal, line, head_of, turn_line, refus
 ghost use Rattle.print_fields.specs.Puts.{Put, if_left, if_room};
 ghost use Rattle.printing.specs.Turns.{Standing, EndsStand, longest_turn, if_ready, Placed, Lines};
 
-// No head, refusal or turn of two bodies is longer, and no turn of three or four.
+use frame::Frame;
+
+// No head, refusal or turn of two bodies is longer.
 pub const MAX_LINE: usize = 111;
 
+// No turn of three or four bodies is longer.
 const MAX_TURN: usize = 147;
 
 // How far the lines of a turn table were gathered: the place after them, and the first turn that is left.
@@ -130,25 +133,23 @@ fn place_at(places: &[u16], i: usize) -> usize
     0
 }
 
-// A count of endpoints, 2 for one that is none.
+// A count of endpoints as it is from 2 to 4, else 2.
 fn two_to_four(count: usize) -> usize
-    ensures few { (1 ≤ result) × (result ≤ 4) }
+    ensures few { (2 ≤ result) × (result ≤ 4) }
     ensures kept { 2 ≤ count → count ≤ 4 → result ≡ count }
 {
-    if count < 2 {
-        return 2;
-    }
-    if 4 < count {
-        return 2;
+    if (count < Frame::MIN_ENDS) | (Frame::MAX_ENDS < count) {
+        return Frame::MIN_ENDS;
     }
     count
 }
 
 // Where the endpoints of a constraint of the file stand: of a manifold, and on version 1, by arithmetic; of a joint of version 2
-// behind its entry's count, and the entry is where `places` says. Where the table says nothing of use, it is two numbers anywhere.
+// behind its entry's count, and the entry is where `places` says. Where the table is not the file's, it is two to four
+// numbers anywhere.
 fn ends_of(frame: &[u8], places: &[u16], constraint: usize) -> Ends
     requires { constraint < 131072 }
-    ensures few { (1 ≤ result.count) × (result.count ≤ 4) × (result.at + 2 * (result.count - 1) < 1048576) }
+    ensures few { (2 ≤ result.count) × (result.count ≤ 4) × (result.at + 2 * (result.count - 1) < 1048576) }
     ensures there { constraint < count_m frame.now + count_j frame.now → (second frame.now ≡ true → Standing frame.now places.now) → EndsStand frame.now constraint result }
 {
     if frame::is_second(frame) {
@@ -186,7 +187,8 @@ fn put_turn(
     put_turn_line(out, at, island, group, constraint, frame, ends)
 }
 
-// The lines of a file's turn table from turn `first` on, as far as there is room.
+// The lines of a file's turn table from turn `first` on, as far as there is room. Of a version 2 file nothing is promised unless `places` has its
+// joints' places.
 pub fn put_turns(
     out: &mut [u8],
     at: usize,

@@ -3,7 +3,7 @@
 use Rattle.std.proofs.Common.{ℕ, ◌≤◌, ◌<◌, ◌≡◌, refl, ap, ◌∙◌, Bool, true, false, cond, List, [], ◌∷◌, arith, leb, ltb, eqb, length, get_or, drop, length-take, le-leb, ltb-true, ltb-false}
 use Rattle.std.proofs.Math.ListN.{get_or-map, get_or-eq_default}
 use Rattle.lists.specs.Basics.{any}
-use Rattle.lists.proofs.Laws.{and_left, and_both, or_left, clashes, by_cases, all_get_d}
+use Rattle.lists.proofs.Laws.{and_left, and_both, or_left, clashes, by_cases, all-get_or}
 use Rattle.lists.proofs.Bits.{one-true}
 use Rattle.frame.specs.Frames.{Constraint, Frame, constraints, constraint_at, nothing, connects, logged, conflicts, dynamic, conflicting, touches, fits, counted as two_to_four, sound, all_sound, flag_of}
 use Rattle.frame.specs.Questions.{question, types_known}
@@ -58,7 +58,7 @@ touch_is_live f c t = and_left c.live (any (dynamic f) c.ends) t
 module _ {counted : Bool} (f : Frame) (ok : Accepted counted f) (n : ℕ) (e : (constraint_at f n).live ≡ true) where
   pub fitting : fits (length f.types) (constraint_at f n).ends ≡ true
   unfolding constraint_at sound all_sound
-  fitting = rw e at (all_get_d (sound (length f.types)) nothing (constraints f) n refl ok.each_sound)
+  fitting = rw e at (all-get_or (sound (length f.types)) nothing (constraints f) n refl ok.each_sound)
 
   -- a live constraint's endpoints: two to four, different, of the frame
   pub live : Fitting (length f.types) (constraint_at f n).ends

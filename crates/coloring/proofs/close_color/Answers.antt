@@ -3,7 +3,7 @@ use Rattle.std.proofs.Common.{ℕ, ◌+◌, ◌<◌, ◌≡◌, refl, sym, ◌�
 use Rattle.std.proofs.Math.Bool.{or-true, or-false}
 use Rattle.std.proofs.lemmas.Bool.{eqb-false}
 use Rattle.lists.specs.Basics.{all, mem}
-use Rattle.lists.proofs.Laws.{by_cases, all_in, all_get_d, get_or-mem, cond-or}
+use Rattle.lists.proofs.Laws.{by_cases, all_in, all-get_or, get_or-mem, cond-or}
 use Rattle.lists.proofs.Scans.{any_next}
 use Rattle.parts.specs.Parts.{parts_at}
 use Rattle.parts.proofs.Parts.{parts-at}
@@ -40,7 +40,7 @@ make_idle-requires c =
     let cs = parts_at (length c.args.constraint_colors.now) c.args.bounds.now c.args.endpoints.now in
     let size : length c.loop-place.busy_bodies ≡ n = c.loop-place.auto.busy_bodies in
     let e : all (λ b. ltb b (length c.loop-place.busy_bodies)) c.part.result.now ≡ true =
-    rw (bodies_are (goal.at.make_idle-requires c).After-part, size) (all_get_d (λ bs. all (λ b. ltb b n) bs) [] cs (get_or c.args.members.now c.loop-place.place 0) refl c.requires.closable.bodies) in
+    rw (bodies_are (goal.at.make_idle-requires c).After-part, size) (all-get_or (λ bs. all (λ b. ltb b n) bs) [] cs (get_or c.args.members.now c.loop-place.place 0) refl c.requires.closable.bodies) in
     e
 
 pub loop-place-preserved : goal.loop-place-preserved
