@@ -14,7 +14,7 @@ use Rattle.schedules.specs.Print.{decimal, spaced, islands_word, turns_word, tak
 use Rattle.schedules.specs.Condition.{takes_on}
 use Rattle.schedules.proofs.Accepted.{accepted}
 use Rattle.schedules.proofs.Condition3.{run_once, run_report_lem}
-use Rattle.printing.specs.Turns.{longest_turn, line_of, ready, gathered, turns_from, lines_of}
+use Rattle.printing.specs.Turns.{longest_of, line_of, ready, gathered, turns_from, lines_of}
 use Rattle.printing.proofs.Lines.{most_turn}
 use Rattle.printing.proofs.Turns.{line_some, lines_append, gathered-few}
 use Rattle.print_pieces.specs.declared.Piece.{Piece}
@@ -46,8 +46,7 @@ none_left bs size at [] h room e = refl
 none_left bs size at (i ∷ []) h room e = clashes false h refl
 none_left bs size at (i ∷ k ∷ []) h room e = clashes false h refl
 none_left bs size at (i ∷ k ∷ n ∷ r) h room e =
-    let ends = length (constraint_at (decode bs) n).ends in
-    absurd (omega (arith, rw (and_left (ltb n (count_m bs + count_j bs)) (known bs r) h, le-leb (at + longest_turn ends) size (omega (arith, room, most_turn ends))) at e))
+    absurd (omega (arith, rw (and_left (ltb n (count_m bs + count_j bs)) (known bs r) h, le-leb (at + longest_of bs n) size (omega (arith, room, most_turn (length (constraint_at (decode bs) n).ends)))) at e))
 
 -- and its line is not empty
 no_lines : (bs l : List ℕ) (d : ℕ) → 3 * d ≤ length l → length (lines_of bs l d) ≡ 0 → d ≡ 0

@@ -1,17 +1,17 @@
 -- Lines are gathered turn by turn: what was gathered and what is still to be gathered make up what the definition gathers.
 -- A turn that is not ready puts nothing, and no line is empty, so a place that stays tells that the gathering ends.
-use Rattle.std.proofs.Common.{ℕ, zero, suc, ◌+◌, ◌-◌, ◌*◌, ◌/◌, ◌≤◌, ◌<◌, ◌≡◌, refl, sym, ap, subst, ◌∙◌, true, false, List, [], ◌∷◌, ◌++◌, map, append_assoc, append-nil, arith, leb, ltb, length, get_or, take, drop, length-append, length-drop, length-take, drop-cons, drop-drop, take-add, length-take-le, get_or-take, lt-ltb, le-ltb, ltb-true, ltb-false, leb-true}
+use Rattle.std.proofs.Common.{ℕ, zero, suc, ◌+◌, ◌-◌, ◌*◌, ◌/◌, ◌≤◌, ◌<◌, ◌≡◌, refl, sym, ap, subst, ◌∙◌, true, false, List, [], ◌∷◌, ◌++◌, map, append_assoc, append-nil, arith, leb, ltb, length, get_or, take, drop, length-append, length-drop, drop-cons, drop-drop, take-add, length-take-le, get_or-take, lt-ltb, le-ltb, ltb-true, ltb-false, leb-true}
 use Rattle.lists.proofs.Laws.{by_cases, and_left, and_right}
 use Rattle.lists.proofs.Puts.{put-none}
 use Rattle.frame.specs.Frames.{Frame, constraint_at}
 use Rattle.frame.specs.Questions.{asked}
 use Rattle.frame.specs.Files.{half, count_m, count_j, pairs_at, joints_at, ends_at, second, count_at, places_from, halves_from, decode, file_questions}
-use Rattle.frame.proofs.Walks.{Whole, places_long, halves_long}
+use Rattle.frame.proofs.Walks.{Whole, halves_long}
 use Rattle.frame.proofs.Files.{file-entry, ends_manifold, ends-first, ends-second}
 use Rattle.schedules.specs.Print.{decimal, spaced, turn_line, turn_lines}
 use Rattle.print_fields.specs.Puts.{Put, if_left}
 use Rattle.printing.specs.declared.Ends.{Ends}
-use Rattle.printing.specs.Turns.{Standing, EndsStand, longest_turn, line_of, ready, if_ready, gathered, turns_from, lines_of, Lines}
+use Rattle.printing.specs.Turns.{Standing, EndsStand, longest_turn, longest_of, line_of, ready, if_ready, gathered, turns_from, lines_of, Lines}
 use Rattle.print_fields.proofs.Puts.{put-nothing, wrote_then}
 use Rattle.printing.proofs.Lines.{turn_short}
 
@@ -34,7 +34,7 @@ module _ (bs : List ℕ) (n : ℕ) where
   entry_of = get_or (places_from bs (joints_at bs) (count_j bs)) (n - count_m bs) 0
 
   module _ (h : n < count_m bs + count_j bs) (v : second bs ≡ true) (f : asked (file_questions bs) ≡ 0) (m : count_m bs ≤ n) where
-    pub entry_whole : Whole bs entry_of
+    entry_whole : Whole bs entry_of
     entry_whole = file-entry bs f v (n - count_m bs) (omega arith)
 
     pub joint_stands : EndsStand bs n (record { at = entry_of + 2; count = count_at bs entry_of })
@@ -44,15 +44,9 @@ module _ (bs : List ℕ) (n : ℕ) where
 
   -- in a table that begins with the places
   module _ (ps : List ℕ) (w : Standing bs ps) where
-    pub few_places : count_j bs ≤ length ps
-    few_places = omega (arith, length-take (count_j bs) ps, ap length w.places, places_long bs (joints_at bs) (count_j bs))
-
     module _ (h : n < count_m bs + count_j bs) (v : second bs ≡ true) (m : count_m bs ≤ n) where
       place_is : get_or ps (n - count_m bs) 0 ≡ entry_of
       place_is = sym (get_or-take (count_j bs) ps (n - count_m bs) 0 (omega arith)) ∙ ap (λ (l : List ℕ). get_or l (n - count_m bs) 0) w.places
-
-      pub place_whole : Whole bs (get_or ps (n - count_m bs) 0)
-      place_whole = rw place_is (entry_whole h v w.file m)
 
       pub place_stands : EndsStand bs n (record { at = get_or ps (n - count_m bs) 0 + 2; count = count_at bs (get_or ps (n - count_m bs) 0) })
       place_stands = rw place_is (joint_stands h v w.file m)
@@ -66,13 +60,13 @@ module _ (bs : List ℕ) (i k n : ℕ) (e : Ends) (w : EndsStand bs n e) where
   count_is : e.count ≡ length (constraint_at (decode bs) n).ends
   count_is = sym (halves_long bs e.at e.count) ∙ ap length w.ends
 
-  short_line : length (line_of bs i k n) ≤ longest_turn (length (constraint_at (decode bs) n).ends)
+  short_line : length (line_of bs i k n) ≤ longest_of bs n
   short_line =
       subst (λ (c : ℕ). length (line_of bs i k n) ≤ longest_turn c) count_is
       (subst (λ (l : List ℕ). length l ≤ longest_turn e.count) line_at (turn_short bs e.at e.count (omega (arith, w.least)) i k n w.most))
 
 -- no line of an accepted file is too long
-line_short : (bs : List ℕ) (i k n : ℕ) → (second bs ≡ true → asked (file_questions bs) ≡ 0) → n < count_m bs + count_j bs → length (line_of bs i k n) ≤ longest_turn (length (constraint_at (decode bs) n).ends)
+line_short : (bs : List ℕ) (i k n : ℕ) → (second bs ≡ true → asked (file_questions bs) ≡ 0) → n < count_m bs + count_j bs → length (line_of bs i k n) ≤ longest_of bs n
 line_short bs i k n f h =
     by_cases (second bs)
     (λ v. by_cases (ltb n (count_m bs))
@@ -99,11 +93,11 @@ with_ends bs old at i k n e new r h w p = rw (lt-ltb n (count_m bs + count_j bs)
 module _ (bs : List ℕ) (size at i k n : ℕ) where
   ready_pair : ready bs size at n ≡ true → n < count_m bs + count_j bs
   unfolding ready
-  ready_pair e = ltb-true n (count_m bs + count_j bs) (and_left (ltb n (count_m bs + count_j bs)) (leb (at + longest_turn (length (constraint_at (decode bs) n).ends)) size) e)
+  ready_pair e = ltb-true n (count_m bs + count_j bs) (and_left (ltb n (count_m bs + count_j bs)) (leb (at + longest_of bs n) size) e)
 
-  ready_room : ready bs size at n ≡ true → at + longest_turn (length (constraint_at (decode bs) n).ends) ≤ size
+  ready_room : ready bs size at n ≡ true → at + longest_of bs n ≤ size
   unfolding ready
-  ready_room e = leb-true (at + longest_turn (length (constraint_at (decode bs) n).ends)) size (and_right (ltb n (count_m bs + count_j bs)) (leb (at + longest_turn (length (constraint_at (decode bs) n).ends)) size) e)
+  ready_room e = leb-true (at + longest_of bs n) size (and_right (ltb n (count_m bs + count_j bs)) (leb (at + longest_of bs n) size) e)
 
   ready_text : ready bs size at n ≡ true → if_ready bs size at i k n ≡ line_of bs i k n
   unfolding if_ready
@@ -239,7 +233,7 @@ module _ (bs turns : List ℕ) (first : ℕ) (old : List ℕ) (at : ℕ) (out : 
         let l : lines_of bs rest (d + 1) ≡ lines_of bs rest d ++ line_of bs i k n =
         lines_more bs rest d i k n (turns_from turns (t + 1)) (omega (arith, g.past, length-drop (3 * first) turns)) f in
         let w =
-        wrote_then (lines_of bs rest d) (line_of bs i k n) old out new at m next (longest_turn (length (constraint_at (decode bs) n).ends)) 0
+        wrote_then (lines_of bs rest d) (line_of bs i k n) old out new at m next (longest_of bs n) 0
         (record { put = g.put; kept = g.kept; left = omega (arith, ready_room bs (length old) m i k n y) }) (was y) (line_short bs i k n file (ready_pair bs (length old) m i k n y)) in
         record {
           past = omega (arith, g.past);

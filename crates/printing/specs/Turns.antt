@@ -35,9 +35,13 @@ line_of bs i k n = turn_line i k n (constraint_at (decode bs) n).ends
 abbrev pub longest_turn : ℕ → ℕ
 longest_turn c = cond (leb c 2) longest 147
 
+-- of a turn of constraint n
+abbrev pub longest_of : List ℕ → ℕ → ℕ
+longest_of bs n = longest_turn (length (constraint_at (decode bs) n).ends)
+
 -- is there a constraint n, and room for its line from place `at` on in a buffer of this size?
 unfoldable pub ready : List ℕ → ℕ → ℕ → ℕ → Bool
-ready bs size at n = ltb n (count_m bs + count_j bs) && leb (at + longest_turn (length (constraint_at (decode bs) n).ends)) size
+ready bs size at n = ltb n (count_m bs + count_j bs) && leb (at + longest_of bs n) size
 
 -- the line of a turn that is ready; else nothing
 unfoldable pub if_ready : List ℕ → ℕ → ℕ → ℕ → ℕ → ℕ → List ℕ
