@@ -4,3 +4,5 @@ pub mod Files
 pub mod Joints
 pub mod Answers
 pub mod Decodes
+pub mod Refusals
+pub mod Lists

@@ -6,6 +6,7 @@
 
 pub mod entries;
 pub mod multi;
+pub mod refusal;
 
 ghost use Rattle.std.specs.Prelude.{◌≡◌, ◌&&◌, ◌||◌, map, ◌+◌, ◌-◌, ◌*◌, ◌/◌, ◌%◌, ◌≤◌, ◌<◌, leb, ltb, eqb, length, get_or, take, drop, replicate};
 ghost use Rattle.lists.specs.Basics.{all};
@@ -17,6 +18,7 @@ ghost use Rattle.frame.specs.Decodes.{Decodable, Decoded};
 ghost use Rattle.frame.specs.Answers.{read_number, read_sizes, Read};
 
 use crate::entries::Walked;
+pub use crate::refusal::Refusal;
 
 // The file form: how many bytes stand before the types, and how many a manifold and a joint have.
 pub const HEADER: usize = 11;
@@ -40,6 +42,17 @@ pub struct Frame {
 pub enum Reading {
     Accepted(Frame),
     Refused(u8),
+}
+
+// A frame as a call is lent it: a type for each body, the endpoint pairs of manifolds, and the joints' endpoints, counts and enabled bytes;
+// without counts the joints are pairs.
+#[derive(Clone, Copy)]
+pub struct Lists<'a> {
+    pub types: &'a [u8],
+    pub manifolds: &'a [u16],
+    pub joint_ends: &'a [u16],
+    pub joint_counts: &'a [u8],
+    pub enabled: &'a [u8],
 }
 
 // What reading the file answered: the refusal or 0, and the sizes.

@@ -1,0 +1,38 @@
+// Refusals: which question got the first "no". Its number is what C is answered and what is printed.
+ghost use Rattle.std.specs.Prelude.{◌≡◌};
+ghost use Rattle.frame.specs.Refusals.{number_of, refused_by};
+
+#[derive(Clone, Copy, Debug, PartialEq, Eq)]
+pub enum Refusal {
+    Version = 1,
+    FileLength = 2,
+    TooMany = 3,
+    Lengths = 4,
+    Values = 5,
+    Room = 6,
+    Endpoints = 7,
+    BodyList = 8,
+    Positions = 9,
+    LowerTaken = 10,
+    HigherTaken = 11,
+    NoConstraint = 12,
+    NoPair = 13,
+}
+
+impl Refusal {
+    pub fn number(self) -> u8
+        ensures { result ≡ number_of self }
+    {
+        self as u8
+    }
+}
+
+// The number of an answer: its refusal's, or 0.
+pub fn refusal_number<T: Drop>(answer: &Result<T, Refusal>) -> u8
+    ensures { result ≡ refused_by answer.now }
+{
+    match answer {
+        Ok(_) => 0,
+        Err(refusal) => refusal.number(),
+    }
+}
