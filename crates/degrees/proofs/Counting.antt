@@ -1,81 +1,12 @@
--- A live constraint has two different endpoints, so one more at each of these two places is one more for each body that it is on. What is
--- counted and what is still to come make up the whole.
-use Rattle.std.proofs.Common.{ℕ, ◌+◌, ◌≤◌, ◌<◌, max, ◌≡◌, refl, sym, ap, ◌∙◌, Bool, true, false, not, ◌&&◌, ◌||◌, List, [], ◌∷◌, arith, add-one, ltb, eqb, length, get_or, set, drop, replicate, length-set, get_or-set_same, get_or-set_other, eqb-true, eq-eqb, ne_eqb, ltb-true}
-use mir.Val.{bool_byte}
+-- What is counted and what is still to come make up the whole.
+use Rattle.std.proofs.Common.{ℕ, ◌+◌, ◌≤◌, ◌<◌, max, ◌≡◌, refl, sym, ap, ◌∙◌, Bool, true, false, ◌&&◌, List, [], ◌∷◌, arith, add-one, eqb, length, get_or, replicate}
 use Rattle.std.proofs.Math.ListN.{length-replicate, get_or-replicate}
-use Rattle.std.proofs.lemmas.Bool.{eqb-false, not-true}
 use Rattle.lists.specs.Basics.{one, all, count, max_of, range, mem}
-use Rattle.lists.proofs.Laws.{and_left, and_right, and_both, by_cases, or_right, mem_self, range_high, all_append, count-few}
-use Rattle.lists.proofs.Bits.{byte_one}
+use Rattle.lists.proofs.Laws.{and_left, and_right, or_right, mem_self, range_high, all_append, count-few}
 use Rattle.lists.proofs.Ranges.{max-range-suc}
 use Rattle.lists.proofs.Sums.{sum_append}
-use Rattle.frame.specs.Frames.{Constraint, Frame, constraint, constraints_of, constraints, frame_of, dynamic, on, touches, sound, all_sound, degree, degree_max}
-use Rattle.frame.proofs.Pairs.{sound_live, pairs_step}
+use Rattle.frame.specs.Frames.{Constraint, Frame, constraints, dynamic, touches, sound, all_sound, degree, degree_max}
 use Rattle.degrees.specs.Counts.{counts_for, Countable, Counted, counted}
-
-always : (t : Bool) → (t && true) ≡ t
-always true = refl
-always false = refl
-
-never : (t : Bool) → (t && false) ≡ false
-never true = refl
-never false = refl
-
-pub either : (x y : Bool) → (x || y) ≡ (x || (y || false))
-either true y = refl
-either false true = refl
-either false false = refl
-
--- a live constraint that touches a dynamic body counts for its two bodies
-counts_live : (ts : List ℕ) (x : ℕ) (live : Bool) (a b : ℕ) → live ≡ true → (t : Bool) → t ≡ touches (frame_of ts [] [] []) (constraint true a b) → counts_for ts x (constraint live a b) ≡ (t && (eqb x a || (eqb x b || false)))
-unfolding on
-counts_live ts x live a b e t h = rw (e, sym h)
-
--- ---- one constraint
-
-module _ (ts counts : List ℕ) (live : Bool) (a b : ℕ) (h : Countable ts (constraint live a b ∷ []) counts) where
-  -- a live constraint that passes question 7
-  pub record Apart : Type 0 where
-    pub a_in : a < length counts
-    pub b_in : b < length counts
-    pub apart : a ≡ b → ⊥
-
-  pub apart_live : live ≡ true → Apart
-  apart_live e =
-      let t : (ltb a (length counts) && ltb b (length counts) && not (eqb a b)) ≡ true = sound_live (length counts) live a b e ∙ and_left (sound (length counts) (constraint live a b)) true h.sound in
-      let l = and_left (ltb a (length counts) && ltb b (length counts)) (not (eqb a b)) t in
-      record {
-        a_in = ltb-true a (length counts) (and_left (ltb a (length counts)) (ltb b (length counts)) l);
-        b_in = ltb-true b (length counts) (and_right (ltb a (length counts)) (ltb b (length counts)) l);
-        apart = eqb-false a b (not-true (eqb a b) (and_right (ltb a (length counts) && ltb b (length counts)) (not (eqb a b)) t));
-      }
-
-  -- t: it touches a dynamic body
-  module _ (e : live ≡ true) (t : Bool) (et : t ≡ touches (frame_of ts [] [] []) (constraint true a b)) where
-    counts_a : counts_for ts a (constraint live a b) ≡ t
-    counts_a = counts_live ts a live a b e t et ∙ rw (eq-eqb a a refl) (always t)
-
-    counts-b : counts_for ts b (constraint live a b) ≡ t
-    counts-b = counts_live ts b live a b e t et ∙ rw (ne_eqb b a (λ q. (apart_live e).apart (sym q)), eq-eqb b b refl) (always t)
-
-    pub fits_a : get_or counts a 0 + bool_byte t ≤ 65535
-    fits_a = omega (arith, h.fits a (apart_live e).a_in, ap one counts_a, byte_one t)
-
-    pub fits-b : get_or counts b 0 + bool_byte t ≤ 65535
-    fits-b = omega (arith, h.fits b (apart_live e).b_in, ap one counts-b, byte_one t)
-
-    pub same-b : (v : ℕ) → get_or (set counts a v) b 0 ≡ get_or counts b 0
-    same-b v = get_or-set_other counts a b v 0 (λ q. (apart_live e).apart (sym q))
-
-    pub counted_live : (v w : ℕ) → v ≡ get_or counts a 0 + bool_byte t → w ≡ get_or counts b 0 + bool_byte t → Counted ts (constraint live a b ∷ []) counts (set (set counts a v) b w)
-    counted_live v w ev ew = record { each = λ x l. each x l }
-      where
-        each : (x : ℕ) → x < length counts → get_or (set (set counts a v) b w) x 0 ≡ get_or counts x 0 + (one (counts_for ts x (constraint live a b)) + 0)
-        each x l = by_cases (eqb x b)
-            (λ q. rw (eqb-true x b q, counts-b, get_or-set_same (set counts a v) b w 0 (rw (length-set counts a v) (apart_live e).b_in)) (omega (arith, byte_one t)))
-            (λ q. rw (get_or-set_other (set counts a v) b x w 0 (eqb-false x b q)) (by_cases (eqb x a)
-            (λ r. rw (eqb-true x a r, counts_a, get_or-set_same counts a v 0 (apart_live e).a_in) (omega (arith, byte_one t)))
-            (λ r. rw (get_or-set_other counts a x v 0 (eqb-false x a r), counts_live ts x live a b e t et, q, r) (omega (arith, ap one (never t))))))
 
 -- a dead constraint counts for no body
 pub counted_dead : (ts counts : List ℕ) (c : Constraint) → c.live ≡ false → Counted ts (c ∷ []) counts counts
@@ -89,37 +20,6 @@ pub record Counting (ts : List ℕ) (cs rest : List Constraint) (old now : List 
   pub sound : all (sound (length old)) rest ≡ true
   pub long : length now ≡ length old
   pub each : (b : ℕ) → b < length old → get_or now b 0 + count (counts_for ts b) rest ≡ get_or old b 0 + count (counts_for ts b) cs
-
-module _ {ts : List ℕ} {cs rest later : List Constraint} {c : Constraint} {old now : List ℕ} (h : Countable ts cs old) (g : Counting ts cs rest old now) (e : rest ≡ c ∷ later) where
-  next : Counting ts cs (c ∷ later) old now
-  next = rw e at g
-
-  -- the next one can be counted
-  pub counting_one : Countable ts (c ∷ []) now
-  counting_one = record {
-    sound = rw next.long (and_both (sound (length old) c) true (and_left (sound (length old) c) (all (sound (length old)) later) next.sound) refl);
-    long = next.long ∙ h.long;
-    fits = λ b k. omega (arith, next.long, next.each b (omega (arith, next.long)), h.fits b (omega (arith, next.long)));
-  }
-
-  pub counting_more : (new : List ℕ) → length new ≡ length now → Counted ts (c ∷ []) now new → Counting ts cs later old new
-  counting_more new l d = record {
-    sound = and_right (sound (length old) c) (all (sound (length old)) later) next.sound;
-    long = l ∙ next.long;
-    each = λ b k.
-        let k' : b < length now = omega (arith, next.long) in
-        omega (arith, next.each b k, d.each b k');
-  }
-
-pub counting_last : {ts : List ℕ} {cs rest : List Constraint} {old now : List ℕ} → Counting ts cs rest old now → rest ≡ [] → Counted ts cs old now
-counting_last g e =
-    let last : Counting _ _ [] _ _ = rw e at g in
-    record { each = λ b l. omega (arith, last.each b l) }
-
--- the next pair
-pub pair_next : (ps es : List ℕ) (k i : ℕ) (live : Bool) → k + 1 < length ps → live ≡ eqb (get_or es i 1) 1
-    → constraints_of (drop k ps) (drop i es) ≡ constraint live (get_or ps k 0) (get_or ps (k + 1) 0) ∷ constraints_of (drop (k + 2) ps) (drop (i + 1) es)
-pair_next ps es k i live h e = pairs_step ps es k i h ∙ ap (λ (t : Bool). constraint t (get_or ps k 0) (get_or ps (k + 1) 0) ∷ constraints_of (drop (k + 2) ps) (drop (i + 1) es)) (sym e)
 
 -- ---- the largest
 

@@ -1,106 +1,60 @@
 // D, internal to the frame run: the largest number of constraints with an island on one body that makes conflicts.
 #![tactic(auto)]
 
-ghost use Rattle.std.specs.Prelude.{◌≤◌, ◌<◌, ◌≡◌, true, [], ◌∷◌, ltb, length, get_or};
+ghost use Rattle.std.specs.Prelude.{◌≤◌, ◌≡◌, true, [], ◌∷◌, ltb, length, get_or};
 ghost use Rattle.lists.specs.Basics.{all, max_of, range};
-ghost use Rattle.frame.specs.Frames.{constraint, constraints, constraints_of, counted_of, joints_of, frame_of, frame_with, end_count, touches, all_sound, degree_max};
+ghost use Rattle.frame.specs.Constraints.{lent};
+ghost use Rattle.frame.specs.Frames.{constraints, joints_of, frame_of, frame_with, touches, all_sound, degree_max};
 ghost use Rattle.degrees.specs.Counts.{CountsOf, Addable, Added, Countable, Counted, counted};
 
-// Whether a live constraint on these two bodies touches a dynamic one: then it has an island.
-fn touches(types: &[u8], a: u16, b: u16) -> bool
-    requires { (a < length types.now) × (b < length types.now) }
-    ensures { result ≡ touches (frame_of types.now [] [] []) (constraint true a b) }
-{
-    (types[a as usize] == 2) | (types[b as usize] == 2)
-}
-
-// A live constraint that has an island counts for its two bodies. Only liveness is a branch: which types meet can't be guessed.
-fn count_one(types: &[u8], counts: &mut [u16], live: bool, a: u16, b: u16)
-    requires { Countable types.now (constraint live a b ∷ []) counts.old }
-    ensures { Counted types.now (constraint live a b ∷ []) counts.old counts.new }
-{
-    if live {
-        let one = touches(types, a, b) as u16;
-        counts[a as usize] += one;
-        counts[b as usize] += one;
-    }
-}
-
-// The constraints of a list of endpoint pairs; those with an enabled byte 0 are not counted.
-fn count_all(types: &[u8], pairs: &[u16], enabled: &[u8], counts: &mut [u16])
-    requires { Countable types.now (constraints_of pairs.now enabled.now) counts.old }
-    ensures { Counted types.now (constraints_of pairs.now enabled.now) counts.old counts.new }
-{
-    let mut k: usize = 0;
-    let mut i: usize = 0;
-    // Each body's count has grown by the constraints that count for it among the first i, up to entry k.
-    while k + 1 < pairs.len() {
-        let live = frame::live_at(enabled, i);
-        count_one(types, counts, live, pairs[k], pairs[k + 1]);
-        k += 2;
-        i += 1;
-    }
-}
+use frame::constraints::{Constraints, Lent, Pairs};
 
 // Whether one of these endpoints of a live constraint is a dynamic body: then it has an island.
-fn touches_any(types: &[u8], ends: &[u16]) -> bool
+#[inline(always)]
+fn touches(types: &[u8], ends: &[u16]) -> bool
     requires { all (λ b. ltb b (length types.now)) ends.now ≡ true }
     ensures { result ≡ touches (frame_of types.now [] [] []) (record { ends = ends.now; live = true }) }
 {
     let mut touched = false;
-    let mut i = 0;
-    // `touched` tells whether one of the first i endpoints is a dynamic body.
-    while i < ends.len() {
-        touched = touched | (types[ends[i] as usize] == 2);
-        i += 1;
+    // `touched` tells whether one of the endpoints passed is a dynamic body.
+    for end in ends {
+        touched = touched | (types[*end as usize] == 2);
     }
     touched
 }
 
 // Each of these endpoints counts this amount.
+#[inline(always)]
 fn count_ends(ends: &[u16], amount: u16, counts: &mut [u16])
     requires { Addable amount ends.now counts.old }
     ensures { Added amount ends.now counts.old counts.new }
 {
-    let mut k = 0;
-    // The first k endpoints have counted.
-    while k < ends.len() {
-        counts[ends[k] as usize] += amount;
-        k += 1;
+    // The endpoints passed have counted.
+    for end in ends {
+        counts[*end as usize] += amount;
     }
 }
 
-// A live constraint that has an island counts for each of its bodies.
-fn count_part(types: &[u8], counts: &mut [u16], live: bool, ends: &[u16])
-    requires { Countable types.now (record { ends = ends.now; live = live } ∷ []) counts.old }
-    ensures { Counted types.now (record { ends = ends.now; live = live } ∷ []) counts.old counts.new }
+// A live constraint that has an island counts for each of its bodies. Only liveness is a branch: which types meet can't be guessed.
+#[inline(always)]
+fn count_one(types: &[u8], constraint: Lent<'_>, counts: &mut [u16])
+    requires { Countable types.now (lent constraint ∷ []) counts.old }
+    ensures { Counted types.now (lent constraint.entry ∷ []) counts.old counts.new }
 {
-    if live {
-        let one = touches_any(types, ends) as u16;
-        count_ends(ends, one, counts);
+    if constraint.live {
+        let one = touches(types, constraint.ends) as u16;
+        count_ends(constraint.ends, one, counts);
     }
 }
 
-// The same of joints that have a count each: the endpoints of one start where those of the one before it end.
-fn count_counted(
-    types: &[u8],
-    ends: &[u16],
-    joint_counts: &[u8],
-    enabled: &[u8],
-    counts: &mut [u16],
-)
-    requires { (end_count joint_counts.now ≤ length ends.now) × Countable types.now (counted_of joint_counts.now ends.now enabled.now) counts.old }
-    ensures { Counted types.now (counted_of joint_counts.now ends.now enabled.now) counts.old counts.new }
+// Every constraint; those that are not live are not counted.
+fn count_each<'a, C: Constraints<'a>>(types: &[u8], mut constraints: C, counts: &mut [u16])
+    requires { Countable types.now (C.left constraints) counts.old }
+    ensures { Counted types.now (C.left constraints) counts.old counts.new }
 {
-    let mut start: usize = 0;
-    let mut joint: usize = 0;
-    // Each body's count has grown by the joints that count for it among those before `joint`, whose endpoints end at `start`.
-    while joint < joint_counts.len() {
-        let live = frame::live_at(enabled, joint);
-        let count = frame::wide(joint_counts[joint]);
-        count_part(types, counts, live, &ends[start..start + count]);
-        start += count;
-        joint += 1;
+    // Each body's count has grown by the constraints that count for it among those before the ones left.
+    while let Some(constraint) = constraints.next() {
+        count_one(types, constraint, counts);
     }
 }
 
@@ -116,10 +70,19 @@ fn count_joints(
     ensures { Counted types.now (joints_of joint_counts.now joints.now enabled.now) counts.old counts.new }
 {
     if joint_counts.len() == 0 {
-        count_all(types, joints, enabled, counts);
-    } else {
-        count_counted(types, joints, joint_counts, enabled, counts);
+        let pairs = Pairs {
+            pairs: joints,
+            enabled,
+        };
+        count_each(types, pairs, counts);
+        return;
     }
+    let counted = frame::constraints::Counted {
+        ends: joints,
+        counts: joint_counts,
+        enabled,
+    };
+    count_each(types, counted, counts);
 }
 
 // What a body counts for.
@@ -137,12 +100,10 @@ fn largest(types: &[u8], counts: &[u16]) -> usize
     requires { length counts.now ≡ length types.now }
     ensures { result ≡ max_of (λ b. counted (get_or types.now b 0) (get_or counts.now b 0)) (range (length types.now)) }
 {
-    let mut most = 0;
-    let mut body = 0;
+    let mut most: u16 = 0;
     // `most` is the largest of the bodies passed.
-    while body < types.len() {
-        most = tables::larger(most, degree_of(types[body], counts[body]));
-        body += 1;
+    for body in 0..types.len() {
+        most = most.max(degree_of(types[body], counts[body]));
     }
     most as usize
 }
@@ -161,7 +122,11 @@ pub fn degree(
     ensures { result ≡ degree_max (frame_with types.now manifolds.now joints.now counts.now enabled.now) }
 {
     tables::fill(on_bodies, 0);
-    count_all(types, manifolds, &[], on_bodies);
+    let pairs = Pairs {
+        pairs: manifolds,
+        enabled: &[],
+    };
+    count_each(types, pairs, on_bodies);
     count_joints(types, joints, counts, enabled, on_bodies);
     largest(types, on_bodies)
 }

@@ -6,3 +6,4 @@ pub mod Answers
 pub mod Decodes
 pub mod Refusals
 pub mod Lists
+pub mod Constraints

@@ -4,6 +4,7 @@
 // `decode` is internal: a stage of the frame run, which calls it on a file that `Frame::read` accepted.
 #![tactic(auto)]
 
+pub mod constraints;
 pub mod entries;
 pub mod multi;
 pub mod refusal;
@@ -17,6 +18,7 @@ ghost use Rattle.frame.specs.Joints.{JointsRead, Passed};
 ghost use Rattle.frame.specs.Decodes.{Decodable, Decoded};
 ghost use Rattle.frame.specs.Answers.{read_number, read_sizes, Read};
 
+use crate::constraints::Pairs;
 use crate::entries::Walked;
 pub use crate::refusal::Refusal;
 
@@ -448,16 +450,5 @@ pub fn sound_one(bodies: usize, live: bool, a: u16, b: u16) -> bool
 pub fn all_sound(bodies: usize, pairs: &[u16], enabled: &[u8]) -> bool
     ensures { result ≡ all (sound bodies) (constraints_of pairs.now enabled.now) }
 {
-    let mut k: usize = 0;
-    let mut i: usize = 0;
-    // The first i constraints, up to entry k, pass question 7.
-    while k + 1 < pairs.len() {
-        let live = live_at(enabled, i);
-        if !sound_one(bodies, live, pairs[k], pairs[k + 1]) {
-            return false;
-        }
-        k += 2;
-        i += 1;
-    }
-    true
+    constraints::all_sound(bodies, Pairs { pairs, enabled })
 }

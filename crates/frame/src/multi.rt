@@ -4,7 +4,8 @@ ghost use Rattle.std.specs.Prelude.{◌≡◌, ◌&&◌, ◌≤◌, ltb, length}
 ghost use Rattle.lists.specs.Basics.{all, mem, distinct};
 ghost use Rattle.frame.specs.Frames.{counted, counts_known, end_count, counted_of, fits, sound};
 
-use crate::{Frame, live_at, wide};
+use crate::constraints::Counted;
+use crate::{Frame, constraints, wide};
 
 // Is this the number of endpoints of a constraint, two to four?
 pub fn counted(count: usize) -> bool
@@ -98,17 +99,12 @@ pub fn all_fit(bodies: usize, ends: &[u16], counts: &[u8], enabled: &[u8]) -> bo
     requires { end_count counts.now ≤ length ends.now }
     ensures { result ≡ all (sound bodies) (counted_of counts.now ends.now enabled.now) }
 {
-    let mut k: usize = 0;
-    let mut i: usize = 0;
-    // The first i constraints, up to entry k, pass question 7.
-    while i < counts.len() {
-        let live = live_at(enabled, i);
-        let count = wide(counts[i]);
-        if !sound_ends(bodies, live, &ends[k..k + count]) {
-            return false;
-        }
-        k += count;
-        i += 1;
-    }
-    true
+    constraints::all_sound(
+        bodies,
+        Counted {
+            ends,
+            counts,
+            enabled,
+        },
+    )
 }

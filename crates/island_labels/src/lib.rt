@@ -1,11 +1,14 @@
 // The labels of bodies and constraints, once the constraints are joined. Internal: stages of an islands call.
 #![tactic(auto)]
 
-ghost use Rattle.std.specs.Prelude.{◌≡◌, true, cond, map, min, ◌<◌, ◌≤◌, length};
+ghost use Rattle.std.specs.Prelude.{◌≡◌, true, cond, map, ◌<◌, ◌≤◌, length};
 ghost use Rattle.lists.specs.Basics.{all};
-ghost use Rattle.frame.specs.Frames.{constraint, constraints_of, counted_of, end_count, joints_of, sound};
+ghost use Rattle.frame.specs.Constraints.{lent};
+ghost use Rattle.frame.specs.Frames.{constraints_of, end_count, joints_of, sound};
 ghost use Rattle.island_sets.specs.Steps.{Balanced};
 ghost use Rattle.island_labels.specs.Labels.{in_island_by, Numberable, Flagged, Stepped, NumberedByLowest, label_by};
+
+use frame::constraints::{Constraints, Counted, Lent, Pairs};
 
 // The label of what has no island.
 pub const NONE: u16 = 65535;
@@ -28,12 +31,10 @@ fn flag_bodies(body_types: &[u8], body_islands: &mut [u16])
     requires { length body_islands.old ≡ length body_types.now }
     ensures { Flagged (in_island_by body_types.now body_islands.old) body_islands.new }
 {
-    let mut body = 0;
     // The bodies passed are flagged, and the others have the labels that they had.
-    while body < body_islands.len() {
-        let in_island = (body_types[body] == 2) & (body_islands[body] != NONE);
-        body_islands[body] = tables::pick(in_island, UNNUMBERED, NONE);
-        body += 1;
+    for (body, label) in body_islands.iter_mut().enumerate() {
+        let in_island = (body_types[body] == 2) & (*label != NONE);
+        *label = tables::pick(in_island, UNNUMBERED, NONE);
     }
 }
 
@@ -62,93 +63,54 @@ pub fn number(body_types: &[u8], parents: &[u16], body_islands: &mut [u16]) -> u
 {
     flag_bodies(body_types, body_islands);
     let mut islands: u16 = 0;
-    let mut next = 0;
     // The bodies below `next` have their labels, and so have the roots of the sets whose lowest body is below `next`: `islands` sets.
-    while next < body_islands.len() {
+    for next in 0..body_islands.len() {
         islands = number_one(parents, body_islands, next, islands);
-        next += 1;
     }
     islands
 }
 
-// The lower of two labels.
-fn lower(a: u16, b: u16) -> u16
-    ensures { result ≡ min a b }
+// The label of one constraint: none if it is not live, else the least of its bodies' labels. Its dynamic bodies all have the same, and any
+// other body has none, above every label.
+#[inline(always)]
+fn label_one(body_islands: &[u16], constraint: Lent<'_>) -> u16
+    requires { sound (length body_islands.now) (lent constraint) ≡ true }
+    ensures { result ≡ label_by body_islands.now (lent constraint.entry) }
 {
-    if a < b {
-        return a;
-    }
-    b
-}
-
-// The label of one constraint: none if it is not live, else the lower of its bodies' labels. Two dynamic bodies have the
-// same, and any other body has none, above every label.
-fn label_one(body_islands: &[u16], live: bool, a: u16, b: u16) -> u16
-    requires { sound (length body_islands.now) (constraint live a b) ≡ true }
-    ensures { result ≡ label_by body_islands.now (constraint live a b) }
-{
-    if !live {
+    if !constraint.live {
         return NONE;
     }
-    lower(body_islands[a as usize], body_islands[b as usize])
+    let mut least = NONE;
+    // `least` is the least of the labels of the bodies passed.
+    for body in constraint.ends {
+        least = least.min(body_islands[*body as usize]);
+    }
+    least
 }
 
-// The label of each constraint of a list.
+// The label of each constraint.
+pub fn label_each<'a, C: Constraints<'a>>(
+    mut constraints: C,
+    body_islands: &[u16],
+    labels: &mut [u16],
+)
+    requires { (length labels.old ≡ length (C.left constraints))
+        × (all (sound (length body_islands.now)) (C.left constraints) ≡ true) }
+    ensures { labels.new ≡ map (label_by body_islands.now) (C.left constraints) }
+{
+    // The constraints passed have their labels; there are as many left as labels.
+    for label in labels.iter_mut() {
+        *label = label_one(body_islands, constraints.next().unwrap());
+    }
+}
+
+// The label of each constraint of a list of pairs.
 pub fn label_all(pairs: &[u16], enabled: &[u8], body_islands: &[u16], labels: &mut [u16])
     requires { (length labels.old ≡ length (constraints_of pairs.now enabled.now))
         × (all (sound (length body_islands.now)) (constraints_of pairs.now enabled.now) ≡ true) }
     ensures { labels.new ≡ map (label_by body_islands.now) (constraints_of pairs.now enabled.now) }
 {
-    let mut k: usize = 0;
-    let mut i: usize = 0;
-    // The first i constraints, up to entry k, have their labels.
-    while k + 1 < pairs.len() {
-        let live = frame::live_at(enabled, i);
-        labels[i] = label_one(body_islands, live, pairs[k], pairs[k + 1]);
-        k += 2;
-        i += 1;
-    }
-}
-
-// The label of one constraint on any number of bodies: none if it is not live, else the least of its bodies' labels, as `label_one`.
-fn label_ends(body_islands: &[u16], live: bool, ends: &[u16]) -> u16
-    requires { sound (length body_islands.now) (record { ends = ends.now; live = live }) ≡ true }
-    ensures { result ≡ label_by body_islands.now (record { ends = ends.now; live = live }) }
-{
-    if !live {
-        return NONE;
-    }
-    let mut least = NONE;
-    // `least` is the least of the labels of the bodies before `place`.
-    for place in 0..ends.len() {
-        least = lower(least, body_islands[ends[place] as usize]);
-    }
-    least
-}
-
-// The label of each constraint of a list with a count each: their bodies stand in `ends`, constraint after constraint.
-fn label_counted(
-    ends: &[u16],
-    counts: &[u8],
-    enabled: &[u8],
-    body_islands: &[u16],
-    labels: &mut [u16],
-)
-    requires { (end_count counts.now ≤ length ends.now)
-        × (length labels.old ≡ length (counted_of counts.now ends.now enabled.now))
-        × (all (sound (length body_islands.now)) (counted_of counts.now ends.now enabled.now) ≡ true) }
-    ensures { labels.new ≡ map (label_by body_islands.now) (counted_of counts.now ends.now enabled.now) }
-{
-    let mut start: usize = 0;
-    let mut i: usize = 0;
-    // The first i constraints have their labels; the bodies of the next stand from `start` on.
-    while i < counts.len() {
-        let live = frame::live_at(enabled, i);
-        let end = start + frame::wide(counts[i]);
-        labels[i] = label_ends(body_islands, live, &ends[start..end]);
-        start = end;
-        i += 1;
-    }
+    label_each(Pairs { pairs, enabled }, body_islands, labels);
 }
 
 // The labels of a frame's joints: pairs where there are no counts. A function of its own, so that the loop over pairs keeps its registers.
@@ -169,5 +131,10 @@ pub fn label_joints(
         label_all(ends, enabled, body_islands, labels);
         return;
     }
-    label_counted(ends, counts, enabled, body_islands, labels);
+    let joints = Counted {
+        ends,
+        counts,
+        enabled,
+    };
+    label_each(joints, body_islands, labels);
 }

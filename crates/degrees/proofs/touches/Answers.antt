@@ -1,9 +1,13 @@
--- `degrees::touches`: the two tests are those of the two endpoints.
-use Rattle.std.proofs.Common.{get_or, nat_eq}
-use Rattle.frame.specs.Frames.{dynamic, touches}
-use Rattle.degrees.proofs.Counting.{either}
+-- `degrees::touches`: the tests passed, and those to come, are those of all endpoints.
+use Rattle.std.proofs.Common.{[]}
+use Rattle.frame.specs.Frames.{frame_of, dynamic, touches}
+use Rattle.degrees.proofs.Ends.{any_turn, any_last}
 use Rattle.degrees.proofs.touches.Goals as goal
 
+pub loop-end-preserved : goal.loop-end-preserved
+unfolding dynamic
+loop-end-preserved c = any_turn (dynamic (frame_of c.args.types.now [] [] [])) c.args.ends.now c.loop-end.end-index c.loop-end.touched c.loop-end-test.true c.loop-end.invariant
+
 pub returns : goal.returns
-unfolding touches dynamic
-returns c = either (nat_eq (get_or c.args.types.now c.args.a 0) 2) (nat_eq (get_or c.args.types.now c.args.b 0) 2)
+unfolding touches
+returns c = any_last (dynamic (frame_of c.args.types.now [] [] [])) c.args.ends.now c.loop-end.end-index c.loop-end.touched c.loop-end-test.false c.loop-end.invariant

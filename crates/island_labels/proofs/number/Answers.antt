@@ -25,4 +25,4 @@ returns c =
     let a = c.args in
     let f = c.flag_bodies in
     let l = c.loop-next in
-    numbering_ends a.body_types.now a.parents.now a.body_islands.now f.new.body_islands c.requires f.ensures f.auto.body_islands l.body_islands l.islands l.next l.invariant c.loop-next-test.false
+    numbering_ends a.body_types.now a.parents.now a.body_islands.now f.new.body_islands c.requires f.ensures f.auto.body_islands l.body_islands l.islands l.next l.invariant (omega (arith, l.invariant.long, c.loop-next-test.false))
