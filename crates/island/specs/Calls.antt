@@ -1,12 +1,10 @@
 -- What an islands call answers, and what it leaves in its five tables.
-use Rattle.std.specs.Prelude.{ℕ, ◌^◌, ◌≤◌, ◌<◌, ◌≡◌, Bool, not, ◌&&◌, cond, List, [], ◌∷◌, ◌++◌, map, eqb, leb, length, get_or, take, drop, replicate}
+use Rattle.std.specs.Prelude.{ℕ, ◌^◌, ◌≤◌, ◌<◌, ◌≡◌, Bool, ◌&&◌, cond, List, [], ◌∷◌, ◌++◌, map, eqb, leb, length, get_or, take, drop, replicate}
 use Rattle.lists.specs.Basics.{over}
 use Rattle.frame.specs.Frames.{Frame, frame_of, frame_with, counts_known, end_count, bodies, all_sound, none}
 use Rattle.frame.specs.Questions.{Question, question, asked, few_each, even, pair_count, types_known, bits}
 use Rattle.island_sets.specs.Sets.{link, root_of, links_of}
 use Rattle.connected_sets.specs.Islands.{heaviest, set_size, island_count, body_label, label}
-use Rattle.island.specs.declared.Answer.{Answer}
-use Rattle.island.specs.Answers.{answer_number, answer_refused, answer_islands}
 
 -- ---- the lent tables
 pub record IslandTables : Type 0 where
@@ -96,7 +94,7 @@ pub record SetsAfter (k : ℕ) (alone old new : List ℕ) : Type 0 where
 unfoldable pub labels_after : ℕ → List ℕ → List ℕ → List ℕ
 labels_after k labels old = cond (eqb k 0) (over labels old) (cond (eqb k 7) (over (replicate (length labels) none) old) old)
 
--- tables at entry (t) and at exit (u); the answer's number and its island count
+-- the contract: tables at entry (t) and at exit (u); the answer's number and its island count
 pub record Built (f : Frame) (k : ℕ) (t u : IslandTables) (number islands : ℕ) : Type 0 where
   pub refusal : number ≡ k
   pub count : islands ≡ cond (eqb k 0) (island_count f) 0
@@ -106,8 +104,3 @@ pub record Built (f : Frame) (k : ℕ) (t u : IslandTables) (number islands : �
   pub parents : SetsAfter k (bodies f) t.parents u.parents
   pub sizes : SetsAfter k (replicate (length f.types) 1) t.sizes u.sizes
   pub sets : k ≡ 0 → WeighedSets f (take (length f.types) u.parents) (take (length f.types) u.sizes)
-
--- the contract: what is left, and the answer, which is a refusal exactly if k is
-pub record Builds (f : Frame) (k : ℕ) (t u : IslandTables) (r : Answer) : Type 0 where
-  pub built : Built f k t u (answer_number r) (answer_islands r)
-  pub refused : answer_refused r ≡ not (eqb k 0)

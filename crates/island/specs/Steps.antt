@@ -1,13 +1,14 @@
 -- What the steps of a build leave: only the private functions' contracts cite these.
-use Rattle.std.specs.Prelude.{ℕ, ◌≤◌, ◌≡◌, true, false, not, cond, List, map, length, get_or, replicate}
+use Rattle.std.specs.Prelude.{ℕ, ◌≤◌, ◌≡◌, true, false, cond, List, Result, map, length, get_or, replicate}
 use Rattle.lists.specs.Basics.{any}
 use Rattle.frame.specs.Frames.{Frame, constraints, bodies, on, all_sound, none}
 use Rattle.island_sets.specs.Sets.{root_of}
 use Rattle.island_sets.specs.Steps.{Balanced}
 use Rattle.connected_sets.specs.Islands.{heaviest, island_count, body_label, label}
-use Rattle.island.specs.declared.Answer.{Answer}
-use Rattle.island.specs.Answers.{answer_number, answer_refused, answer_islands}
-use Rattle.island.specs.Calls.{WeighedSets}
+use Rattle.frame.specs.declared.refusal.Refusal.{Refusal}
+use Rattle.frame.specs.Refusals.{refused_by}
+use Rattle.island.specs.Answers.{answer_islands}
+use Rattle.island.specs.Calls.{IslandTables, WeighedSets, Built}
 
 -- ---- a frame on tables of just its sizes
 
@@ -43,8 +44,24 @@ pub record Blank (f : Frame) (p s b m j : List ℕ) (islands : ℕ) : Type 0 whe
   pub joint_labels : j ≡ replicate (length f.joints) none
 
 -- question 7 decides between the two
-pub record BuiltSized (f : Frame) (p s b m j : List ℕ) (r : Answer) : Type 0 where
-  pub refusal : answer_number r ≡ cond (all_sound f) 0 7
-  pub refused : answer_refused r ≡ not (all_sound f)
+pub record BuiltSized (f : Frame) (p s b m j : List ℕ) (r : Result ℕ Refusal) : Type 0 where
+  pub refusal : refused_by r ≡ cond (all_sound f) 0 7
   pub accepted : all_sound f ≡ true → WeighedSets f p s × Labelled f b m j (answer_islands r)
   pub blank : all_sound f ≡ false → Blank f p s b m j (answer_islands r)
+
+-- ---- a frame of nm manifolds and nj joints that passed questions 3 to 6
+
+-- its tables are long enough
+pub record Room (f : Frame) (nm nj : ℕ) (t : IslandTables) : Type 0 where
+  pub few : length f.types ≤ 4096
+  pub manifold_count : length f.manifolds ≡ nm
+  pub joint_count : length f.joints ≡ nj
+  pub parents : length f.types ≤ length t.parents
+  pub sizes : length f.types ≤ length t.sizes
+  pub bodies : length f.types ≤ length t.body_islands
+  pub manifolds : nm ≤ length t.manifold_islands
+  pub joints : nj ≤ length t.joint_islands
+
+-- what is left of them: only question 7 is still asked
+abbrev pub BuiltFront : Frame → IslandTables → IslandTables → Result ℕ Refusal → Type 0
+BuiltFront f t u r = Built f (cond (all_sound f) 0 7) t u (refused_by r) (answer_islands r)

@@ -1,45 +1,32 @@
 // Islands: the sets of dynamic bodies that live constraints connect, and the labels of bodies, manifolds and joints. A manifold is on two bodies, a
 // joint on two, or on two to four where joints have counts.
-// Every table is lent by the caller; a call that is refused says so by the number of the first question that got a "no".
+// Every table is lent by the caller; a call that is refused says so by the first question that got a "no".
 // Cost: two lookups for each live constraint between dynamic bodies and one for each body (crate island_sets, after Tarjan 1975), and else
 // a few passes over the bodies and the constraints.
 #![tactic(auto)]
 
-ghost use Rattle.std.specs.Prelude.{◌≡◌, ◌&&◌, [], ◌/◌, ◌%◌, ◌≤◌, eqb, length, replicate};
+ghost use Rattle.std.specs.Prelude.{◌≡◌, ◌&&◌, cond, [], ◌/◌, ◌%◌, ◌≤◌, eqb, length, replicate};
 ghost use Rattle.lists.specs.Basics.{range};
-ghost use Rattle.frame.specs.Frames.{frame_of, frame_with, end_count, none};
-ghost use Rattle.frame.specs.Questions.{asked};
-ghost use Rattle.island.specs.Calls.{island_tables_of, rooms_of, roomy, early_questions, island_refusal, multi_early_questions, multi_island_refusal, Builds};
-ghost use Rattle.island.specs.Answers.{answer_number, answer_islands};
-ghost use Rattle.island.specs.Steps.{Sized, Ready, Labelled, BuiltSized};
+ghost use Rattle.frame.specs.Frames.{frame_of, end_count, none, counts_known};
+ghost use Rattle.frame.specs.Lists.{frame_in};
+ghost use Rattle.frame.specs.Questions.{asked, types_known, bits};
+ghost use Rattle.frame.specs.Refusals.{number_of, refused_by};
+ghost use Rattle.island.specs.Calls.{rooms_of, roomy, early_questions, island_refusal, multi_early_questions, multi_island_refusal, Built};
+ghost use Rattle.island.specs.Answers.{answer_islands};
+ghost use Rattle.island.specs.Lent.{tables_in, SameTables};
+ghost use Rattle.island.specs.Steps.{Sized, Ready, Labelled, BuiltSized, Room, BuiltFront};
 
+use frame::{Frame, Lists, Refusal};
 use island_labels::NONE;
 
-// How many islands there are, or the number of the first question that got a "no".
-#[derive(Clone, Copy)]
-pub enum Answer {
-    Islands(u16),
-    Refused(u8),
-}
-
-// Its number: the refusal, or 0.
-pub fn refusal_of(answer: Answer) -> u8
-    ensures { result ≡ answer_number answer }
-{
-    match answer {
-        Answer::Islands(_) => 0,
-        Answer::Refused(n) => n,
-    }
-}
-
-// How many islands; 0 where refused.
-pub fn islands_of(answer: Answer) -> u16
-    ensures { result ≡ answer_islands answer }
-{
-    match answer {
-        Answer::Islands(count) => count,
-        Answer::Refused(_) => 0,
-    }
+// The tables that an islands call is lent: two to join bodies in, and three for the labels.
+#[derive(Drop)]
+pub struct IslandTables<'a> {
+    pub parents: &'a mut [u16],
+    pub sizes: &'a mut [u16],
+    pub body_islands: &'a mut [u16],
+    pub manifold_islands: &'a mut [u16],
+    pub joint_islands: &'a mut [u16],
 }
 
 // Every body alone, and no body constrained.
@@ -49,33 +36,27 @@ fn reset(parents: &mut [u16], sizes: &mut [u16], body_islands: &mut [u16])
         × (body_islands.new ≡ replicate (length body_islands.old) none) }
 {
     island_sets::reset(parents, sizes);
-    tables::fill(body_islands, NONE);
+    body_islands.fill(NONE);
 }
 
 // The labels of a frame whose constraints are joined. Answers how many islands there are.
 fn label_frame(
-    body_types: &[u8],
-    manifolds: &[u16],
-    joint_ends: &[u16],
-    joint_counts: &[u8],
-    enabled: &[u8],
+    lists: Lists<'_>,
     parents: &[u16],
     body_islands: &mut [u16],
     manifold_islands: &mut [u16],
     joint_islands: &mut [u16],
 ) -> u16
-    requires ready { Ready (frame_with body_types.now manifolds.now joint_ends.now joint_counts.now enabled.now)
-        parents.now body_islands.old manifold_islands.old joint_islands.old }
-    requires ends_len { end_count joint_counts.now ≤ length joint_ends.now }
-    ensures { Labelled (frame_with body_types.now manifolds.now joint_ends.now joint_counts.now enabled.now)
-        body_islands.new manifold_islands.new joint_islands.new result }
+    requires ready { Ready (frame_in lists) parents.now body_islands.old manifold_islands.old joint_islands.old }
+    requires ends_len { end_count lists.joint_counts.now ≤ length lists.joint_ends.now }
+    ensures { Labelled (frame_in lists.entry) body_islands.new manifold_islands.new joint_islands.new result }
 {
-    let islands = island_labels::number(body_types, parents, body_islands);
-    island_labels::label_all(manifolds, &enabled[..0], body_islands, manifold_islands);
+    let islands = island_labels::number(lists.types, parents, body_islands);
+    island_labels::label_all(lists.manifolds, &[], body_islands, manifold_islands);
     island_labels::label_joints(
-        joint_ends,
-        joint_counts,
-        enabled,
+        lists.joint_ends,
+        lists.joint_counts,
+        lists.enabled,
         body_islands,
         joint_islands,
     );
@@ -84,46 +65,36 @@ fn label_frame(
 
 // A frame on tables of just its sizes: question 7 while it is joined, then its labels. Joints are pairs where there are no counts.
 fn build_sized(
-    body_types: &[u8],
-    manifolds: &[u16],
-    joint_ends: &[u16],
-    joint_counts: &[u8],
-    enabled: &[u8],
+    lists: Lists<'_>,
     parents: &mut [u16],
     sizes: &mut [u16],
     body_islands: &mut [u16],
     manifold_islands: &mut [u16],
     joint_islands: &mut [u16],
-) -> Answer
-    requires sized { Sized (frame_with body_types.now manifolds.now joint_ends.now joint_counts.now enabled.now)
-        parents.old body_islands.old manifold_islands.old joint_islands.old }
-    requires ends_len { end_count joint_counts.now ≤ length joint_ends.now }
+) -> Result<u16, Refusal>
+    requires sized { Sized (frame_in lists) parents.old body_islands.old manifold_islands.old joint_islands.old }
+    requires ends_len { end_count lists.joint_counts.now ≤ length lists.joint_ends.now }
     requires sizes_len { length sizes.old ≡ length parents.old }
-    ensures { BuiltSized (frame_with body_types.now manifolds.now joint_ends.now joint_counts.now enabled.now)
-        parents.new sizes.new body_islands.new manifold_islands.new joint_islands.new result }
+    ensures { BuiltSized (frame_in lists.entry) parents.new sizes.new body_islands.new manifold_islands.new joint_islands.new result }
 {
     reset(parents, sizes, body_islands);
     if !island_joins::join_frame(
-        body_types,
-        manifolds,
-        joint_ends,
-        joint_counts,
-        enabled,
+        lists.types,
+        lists.manifolds,
+        lists.joint_ends,
+        lists.joint_counts,
+        lists.enabled,
         parents,
         sizes,
         body_islands,
     ) {
         reset(parents, sizes, body_islands);
-        tables::fill(manifold_islands, NONE);
-        tables::fill(joint_islands, NONE);
-        return Answer::Refused(7);
+        manifold_islands.fill(NONE);
+        joint_islands.fill(NONE);
+        return Err(Refusal::Endpoints);
     }
-    Answer::Islands(label_frame(
-        body_types,
-        manifolds,
-        joint_ends,
-        joint_counts,
-        enabled,
+    Ok(label_frame(
+        lists,
         parents,
         body_islands,
         manifold_islands,
@@ -131,257 +102,159 @@ fn build_sized(
     ))
 }
 
-// Question 4.
-fn lengths_agree(manifolds: usize, joints: usize, enabled: usize) -> bool
-    ensures { result ≡ (eqb (manifolds % 2) 0 && eqb (joints % 2) 0 && eqb enabled (joints / 2)) }
+// A frame of so many joints that passed questions 3 to 6, on the first places of its tables.
+fn build_front(
+    lists: Lists<'_>,
+    joints: usize,
+    tables: &mut IslandTables<'_>,
+) -> Result<u16, Refusal>
+    requires room { Room (frame_in lists) (length lists.manifolds.now / 2) joints (tables_in tables.old) }
+    requires ends_len { end_count lists.joint_counts.now ≤ length lists.joint_ends.now }
+    ensures built { BuiltFront (frame_in lists.entry) (tables_in tables.old) (tables_in tables.new) result }
+    ensures same { SameTables tables.old tables.new }
 {
-    (manifolds % 2 == 0) & (joints % 2 == 0) & (enabled == joints / 2)
+    let bodies = lists.types.len();
+    let parents = &mut *tables.parents;
+    let sizes = &mut *tables.sizes;
+    let body_islands = &mut *tables.body_islands;
+    let manifold_islands = &mut *tables.manifold_islands;
+    let joint_islands = &mut *tables.joint_islands;
+    build_sized(
+        lists,
+        &mut parents[..bodies],
+        &mut sizes[..bodies],
+        &mut body_islands[..bodies],
+        &mut manifold_islands[..lists.manifolds.len() / 2],
+        &mut joint_islands[..joints],
+    )
+}
+
+// A question: a "no" is the refusal.
+fn ask(yes: bool, refusal: Refusal) -> Result<(), Refusal>
+    ensures { refused_by result ≡ cond yes 0 (number_of refusal) }
+{
+    if yes { Ok(()) } else { Err(refusal) }
+}
+
+// Question 4 of joints that are pairs.
+fn pairs_agree(lists: Lists<'_>) -> bool
+    ensures { result ≡ (eqb (length lists.entry.manifolds.now % 2) 0 && eqb (length lists.entry.joint_ends.now % 2) 0
+        && eqb (length lists.entry.enabled.now) (length lists.entry.joint_ends.now / 2)) }
+{
+    (lists.manifolds.len() % 2 == 0)
+        & (lists.joint_ends.len() % 2 == 0)
+        & (lists.enabled.len() == lists.joint_ends.len() / 2)
 }
 
 // Question 4 of joints with a count each.
-fn counts_agree(manifolds: usize, ends: usize, counts: &[u8], enabled: usize) -> bool
-    requires { length counts.now ≤ 4096 }
-    ensures { result ≡ (eqb (manifolds % 2) 0 && eqb (end_count counts.now) ends && eqb enabled (length counts.now)) }
+fn counts_agree(lists: Lists<'_>) -> bool
+    requires { length lists.joint_counts.now ≤ 4096 }
+    ensures { result ≡ (eqb (length lists.entry.manifolds.now % 2) 0
+        && eqb (end_count lists.entry.joint_counts.now) (length lists.entry.joint_ends.now)
+        && eqb (length lists.entry.enabled.now) (length lists.entry.joint_counts.now)) }
 {
-    (manifolds % 2 == 0) & (frame::multi::sum_counts(counts) == ends) & (enabled == counts.len())
+    (lists.manifolds.len() % 2 == 0)
+        & (frame::multi::sum_counts(lists.joint_counts) == lists.joint_ends.len())
+        & (lists.enabled.len() == lists.joint_counts.len())
 }
 
-// Question 6 of so many bodies, manifolds and joints, and of tables with these lengths.
-fn room_enough(
-    bodies: usize,
-    manifolds: usize,
-    joints: usize,
-    parents: usize,
-    sizes: usize,
-    body_islands: usize,
-    manifold_islands: usize,
-    joint_islands: usize,
-) -> bool
-    ensures { result ≡ roomy bodies manifolds joints
-        (record { parents = parents; sizes = sizes; bodies = body_islands; manifolds = manifold_islands; joints = joint_islands }) }
+// Question 5 of types and enabled bytes.
+fn values_known(lists: Lists<'_>) -> bool
+    ensures { result ≡ (types_known lists.entry.types.now && bits lists.entry.enabled.now) }
 {
-    (bodies <= parents)
-        & (bodies <= sizes)
-        & (bodies <= body_islands)
-        & (manifolds <= manifold_islands)
-        & (joints <= joint_islands)
+    frame::at_most(lists.types, Frame::MAX_TYPE) & frame::at_most(lists.enabled, 1)
 }
 
-// Questions 3 to 5 of a frame, and 6 of tables with these lengths; 0 where all get a "yes".
-fn early_refusal(
-    body_types: &[u8],
-    manifolds: &[u16],
-    joints: &[u16],
-    enabled: &[u8],
-    parents: usize,
-    sizes: usize,
-    body_islands: usize,
-    manifold_islands: usize,
-    joint_islands: usize,
-) -> u8
-    ensures { result ≡ asked (early_questions body_types.now manifolds.now joints.now enabled.now
-        (record { parents = parents; sizes = sizes; bodies = body_islands; manifolds = manifold_islands; joints = joint_islands })) }
+// Question 6 of so many bodies, manifolds and joints.
+fn room_enough(tables: &IslandTables<'_>, bodies: usize, manifolds: usize, joints: usize) -> bool
+    ensures { result ≡ roomy bodies manifolds joints (rooms_of (tables_in tables.now)) }
 {
-    let bodies = body_types.len();
-    let manifold_count = manifolds.len() / 2;
-    let joint_count = joints.len() / 2;
-    if !frame::few_each(bodies, manifold_count, joint_count) {
-        return 3;
-    }
-    if !lengths_agree(manifolds.len(), joints.len(), enabled.len()) {
-        return 4;
-    }
-    let known = frame::at_most(body_types, frame::Frame::MAX_TYPE) & frame::at_most(enabled, 1);
-    if !known {
-        return 5;
-    }
-    if !room_enough(
-        bodies,
-        manifold_count,
-        joint_count,
-        parents,
-        sizes,
-        body_islands,
-        manifold_islands,
-        joint_islands,
-    ) {
-        return 6;
-    }
-    0
+    (bodies <= tables.parents.len())
+        & (bodies <= tables.sizes.len())
+        & (bodies <= tables.body_islands.len())
+        & (manifolds <= tables.manifold_islands.len())
+        & (joints <= tables.joint_islands.len())
 }
 
-// The same of a frame whose joints have a count each.
-fn multi_early_refusal(
-    body_types: &[u8],
-    manifolds: &[u16],
-    joint_ends: &[u16],
-    joint_counts: &[u8],
-    enabled: &[u8],
-    parents: usize,
-    sizes: usize,
-    body_islands: usize,
-    manifold_islands: usize,
-    joint_islands: usize,
-) -> u8
-    ensures { result ≡ asked (multi_early_questions body_types.now manifolds.now joint_ends.now joint_counts.now enabled.now
-        (record { parents = parents; sizes = sizes; bodies = body_islands; manifolds = manifold_islands; joints = joint_islands })) }
+// Questions 3 to 6 of a frame whose joints are pairs.
+fn ask_pairs(lists: Lists<'_>, tables: &IslandTables<'_>) -> Result<(), Refusal>
+    ensures { refused_by result ≡ asked (early_questions lists.entry.types.now lists.entry.manifolds.now lists.entry.joint_ends.now lists.entry.enabled.now
+        (rooms_of (tables_in tables.now))) }
 {
-    let bodies = body_types.len();
-    let manifold_count = manifolds.len() / 2;
-    if !frame::few_each(bodies, manifold_count, joint_counts.len()) {
-        return 3;
-    }
-    if !counts_agree(
-        manifolds.len(),
-        joint_ends.len(),
-        joint_counts,
-        enabled.len(),
-    ) {
-        return 4;
-    }
-    let known = frame::at_most(body_types, frame::Frame::MAX_TYPE)
-        & frame::at_most(enabled, 1)
-        & frame::multi::counts_known(joint_counts);
-    if !known {
-        return 5;
-    }
-    if !room_enough(
-        bodies,
-        manifold_count,
-        joint_counts.len(),
-        parents,
-        sizes,
-        body_islands,
-        manifold_islands,
-        joint_islands,
-    ) {
-        return 6;
-    }
-    0
-}
-
-// The islands of a frame: body types, endpoint pairs of manifolds and of joints, an enabled byte a joint.
-pub fn build_with_joints(
-    body_types: &[u8],
-    manifolds: &[u16],
-    joints: &[u16],
-    enabled: &[u8],
-    parents: &mut [u16],
-    sizes: &mut [u16],
-    body_islands: &mut [u16],
-    manifold_islands: &mut [u16],
-    joint_islands: &mut [u16],
-) -> Answer
-    ensures { Builds (frame_of body_types.now manifolds.now joints.now enabled.now)
-        (island_refusal body_types.now manifolds.now joints.now enabled.now
-        (rooms_of (island_tables_of parents.old sizes.old body_islands.old manifold_islands.old joint_islands.old)))
-        (island_tables_of parents.old sizes.old body_islands.old manifold_islands.old joint_islands.old)
-        (island_tables_of parents.new sizes.new body_islands.new manifold_islands.new joint_islands.new) result }
-{
-    let refusal = early_refusal(
-        body_types,
-        manifolds,
-        joints,
-        enabled,
-        parents.len(),
-        sizes.len(),
-        body_islands.len(),
-        manifold_islands.len(),
-        joint_islands.len(),
-    );
-    if refusal != 0 {
-        return Answer::Refused(refusal);
-    }
-    let bodies = body_types.len();
-    build_sized(
-        body_types,
-        manifolds,
-        joints,
-        &enabled[..0],
-        enabled,
-        &mut parents[..bodies],
-        &mut sizes[..bodies],
-        &mut body_islands[..bodies],
-        &mut manifold_islands[..manifolds.len() / 2],
-        &mut joint_islands[..joints.len() / 2],
+    let bodies = lists.types.len();
+    let manifolds = lists.manifolds.len() / 2;
+    let joints = lists.joint_ends.len() / 2;
+    ask(frame::few_each(bodies, manifolds, joints), Refusal::TooMany)?;
+    ask(pairs_agree(lists), Refusal::Lengths)?;
+    ask(values_known(lists), Refusal::Values)?;
+    ask(
+        room_enough(tables, bodies, manifolds, joints),
+        Refusal::Room,
     )
 }
 
-// The islands of a frame whose joints have two to four bodies each: body types, endpoint pairs of manifolds, the joints' endpoints one
-// joint after another, and of each joint how many it has and an enabled byte.
+// Questions 3 to 6 of a frame whose joints have a count each.
+fn ask_counted(lists: Lists<'_>, tables: &IslandTables<'_>) -> Result<(), Refusal>
+    ensures { refused_by result ≡ asked (multi_early_questions lists.entry.types.now lists.entry.manifolds.now lists.entry.joint_ends.now
+        lists.entry.joint_counts.now lists.entry.enabled.now (rooms_of (tables_in tables.now))) }
+{
+    let bodies = lists.types.len();
+    let manifolds = lists.manifolds.len() / 2;
+    let joints = lists.joint_counts.len();
+    ask(frame::few_each(bodies, manifolds, joints), Refusal::TooMany)?;
+    ask(counts_agree(lists), Refusal::Lengths)?;
+    let known = values_known(lists) & frame::multi::counts_known(lists.joint_counts);
+    ask(known, Refusal::Values)?;
+    ask(
+        room_enough(tables, bodies, manifolds, joints),
+        Refusal::Room,
+    )
+}
+
+// The islands of a frame whose joints are pairs, with an enabled byte each. Counts are not read.
+pub fn build_with_joints(lists: Lists<'_>, tables: &mut IslandTables<'_>) -> Result<u16, Refusal>
+    ensures built { Built (frame_of lists.entry.types.now lists.entry.manifolds.now lists.entry.joint_ends.now lists.entry.enabled.now)
+        (island_refusal lists.entry.types.now lists.entry.manifolds.now lists.entry.joint_ends.now lists.entry.enabled.now
+        (rooms_of (tables_in tables.old)))
+        (tables_in tables.old) (tables_in tables.new) (refused_by result) (answer_islands result) }
+    ensures same { SameTables tables.old tables.new }
+{
+    ask_pairs(lists, tables)?;
+    let pairs = Lists {
+        joint_counts: &[],
+        ..lists
+    };
+    build_front(pairs, lists.joint_ends.len() / 2, tables)
+}
+
+// The islands of a frame whose joints have two to four bodies each, with a count and an enabled byte each.
 pub fn build_with_multi_joints(
-    body_types: &[u8],
-    manifolds: &[u16],
-    joint_ends: &[u16],
-    joint_counts: &[u8],
-    enabled: &[u8],
-    parents: &mut [u16],
-    sizes: &mut [u16],
-    body_islands: &mut [u16],
-    manifold_islands: &mut [u16],
-    joint_islands: &mut [u16],
-) -> Answer
-    ensures { Builds (frame_with body_types.now manifolds.now joint_ends.now joint_counts.now enabled.now)
-        (multi_island_refusal body_types.now manifolds.now joint_ends.now joint_counts.now enabled.now
-        (rooms_of (island_tables_of parents.old sizes.old body_islands.old manifold_islands.old joint_islands.old)))
-        (island_tables_of parents.old sizes.old body_islands.old manifold_islands.old joint_islands.old)
-        (island_tables_of parents.new sizes.new body_islands.new manifold_islands.new joint_islands.new) result }
+    lists: Lists<'_>,
+    tables: &mut IslandTables<'_>,
+) -> Result<u16, Refusal>
+    ensures built { Built (frame_in lists.entry)
+        (multi_island_refusal lists.entry.types.now lists.entry.manifolds.now lists.entry.joint_ends.now lists.entry.joint_counts.now
+        lists.entry.enabled.now (rooms_of (tables_in tables.old)))
+        (tables_in tables.old) (tables_in tables.new) (refused_by result) (answer_islands result) }
+    ensures same { SameTables tables.old tables.new }
 {
-    let refusal = multi_early_refusal(
-        body_types,
-        manifolds,
-        joint_ends,
-        joint_counts,
-        enabled,
-        parents.len(),
-        sizes.len(),
-        body_islands.len(),
-        manifold_islands.len(),
-        joint_islands.len(),
-    );
-    if refusal != 0 {
-        return Answer::Refused(refusal);
-    }
-    let bodies = body_types.len();
-    build_sized(
-        body_types,
-        manifolds,
-        joint_ends,
-        joint_counts,
-        enabled,
-        &mut parents[..bodies],
-        &mut sizes[..bodies],
-        &mut body_islands[..bodies],
-        &mut manifold_islands[..manifolds.len() / 2],
-        &mut joint_islands[..joint_counts.len()],
-    )
+    ask_counted(lists, tables)?;
+    build_front(lists, lists.joint_counts.len(), tables)
 }
 
-// The islands of a frame without joints.
-pub fn build(
-    body_types: &[u8],
-    manifolds: &[u16],
-    parents: &mut [u16],
-    sizes: &mut [u16],
-    body_islands: &mut [u16],
-    manifold_islands: &mut [u16],
-) -> Answer
-    ensures { Builds (frame_of body_types.now manifolds.now [] [])
-        (island_refusal body_types.now manifolds.now [] []
-        (rooms_of (island_tables_of parents.old sizes.old body_islands.old manifold_islands.old [])))
-        (island_tables_of parents.old sizes.old body_islands.old manifold_islands.old [])
-        (island_tables_of parents.new sizes.new body_islands.new manifold_islands.new []) result }
+// The islands of a frame without joints; the table of the joints' labels may have any length, and stays as it was.
+pub fn build(types: &[u8], manifolds: &[u16], tables: &mut IslandTables<'_>) -> Result<u16, Refusal>
+    ensures built { Built (frame_of types.now manifolds.now [] [])
+        (island_refusal types.now manifolds.now [] [] (rooms_of (tables_in tables.old)))
+        (tables_in tables.old) (tables_in tables.new) (refused_by result) (answer_islands result) }
+    ensures same { SameTables tables.old tables.new }
 {
-    let mut joint_islands = [0; 1];
-    build_with_joints(
-        body_types,
+    let lists = Lists {
+        types,
         manifolds,
-        &manifolds[..0],
-        &body_types[..0],
-        parents,
-        sizes,
-        body_islands,
-        manifold_islands,
-        &mut joint_islands[..0],
-    )
+        joint_ends: &[],
+        joint_counts: &[],
+        enabled: &[],
+    };
+    build_with_joints(lists, tables)
 }

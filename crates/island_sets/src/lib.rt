@@ -12,7 +12,7 @@ ghost use Rattle.island_sets.specs.Steps.{Sets, Balanced, LookedUp, Shortened};
 const FEW: u16 = 32;
 
 // A set's root, and how many links a lookup followed to it.
-#[derive(Clone, Copy)]
+#[derive(Clone, Copy, Debug, PartialEq, Eq)]
 pub struct Found {
     pub root: u16,
     pub links: u16,
@@ -36,7 +36,7 @@ pub fn root_of(parents: &[u16], body: usize) -> Found
     }
     Found {
         root: root as u16,
-        links: links,
+        links,
     }
 }
 
@@ -76,13 +76,10 @@ fn winner(size_left: u16, size_right: u16, left: u16, right: u16) -> u16
     if size_right < size_left {
         return left;
     }
-    if left < right {
-        return left;
-    }
-    right
+    left.min(right)
 }
 
-// The same without a branch.
+// The same without a branch: `join_roots` says where each is the faster.
 fn pick_winner(size_left: u16, size_right: u16, left: u16, right: u16) -> u16
     ensures { result ≡ winner_of size_left size_right left right }
 {
@@ -98,7 +95,7 @@ fn link_under(parents: &mut [u16], sizes: &mut [u16], top: u16, under: u16)
         × (sizes.new ≡ set sizes.old top (get_or sizes.old top 0 + get_or sizes.old under 0)) }
 {
     parents[under as usize] = top;
-    sizes[top as usize] = sizes[top as usize] + sizes[under as usize];
+    sizes[top as usize] += sizes[under as usize];
 }
 
 // The sets of two different roots become one. Of few bodies either side may be the larger, and a wrong guess would cost more than the choice;
@@ -147,10 +144,8 @@ fn fill_self(parents: &mut [u16])
     requires { length parents.old ≤ 4096 }
     ensures { parents.new ≡ range (length parents.old) }
 {
-    let mut body = 0;
-    while body < parents.len() {
-        parents[body] = body as u16;
-        body += 1;
+    for (body, parent) in parents.iter_mut().enumerate() {
+        *parent = body as u16;
     }
 }
 
@@ -160,5 +155,5 @@ pub fn reset(parents: &mut [u16], sizes: &mut [u16])
     ensures { (parents.new ≡ range (length parents.old)) × (sizes.new ≡ replicate (length sizes.old) 1) }
 {
     fill_self(parents);
-    tables::fill(sizes, 1);
+    sizes.fill(1);
 }

@@ -1,8 +1,9 @@
 -- `island::build_sized` meets its contract: a frame whose constraints all pass is joined and labelled; any other leaves blank tables.
-use Rattle.std.proofs.Common.{ℕ, List, Bool, true, false, ◌≡◌, length, replicate, refl, sym, ap, ◌∙◌, arith, not, cond}
+use Rattle.std.proofs.Common.{rules, ℕ, List, Bool, true, false, ◌≡◌, length, replicate, refl, sym, ap, ◌∙◌, arith, cond}
 use Rattle.lists.specs.Basics.{range}
 use Rattle.lists.proofs.Laws.{clashes}
-use Rattle.frame.specs.Frames.{Frame, frame_with, constraints, all_sound, none}
+use Rattle.frame.specs.Frames.{Frame, constraints, all_sound, none}
+use Rattle.frame.specs.Lists.{frame_in}
 use Rattle.island_sets.specs.Sets.{root_of}
 use Rattle.island_sets.specs.Steps.{Sets}
 use Rattle.island_sets.proofs.Starts.{fresh}
@@ -18,12 +19,10 @@ alone f p₀ s₀ b m j p z h e = fresh (length p₀) (length s₀) p z (omega (
 
 pub join_frame-requires-clause-fit : goal.join_frame-requires-clause-fit
 join_frame-requires-clause-fit c =
-    let a = c.args in
-    let f = frame_with a.body_types.now a.manifolds.now a.joint_ends.now a.joint_counts.now a.enabled.now in
     let r = c.reset in
     let q = c.requires in
     record {
-      sets = (alone f a.parents.now a.sizes.now a.body_islands.now a.manifold_islands.now a.joint_islands.now r.new.parents r.new.sizes q.sized q.sizes_len r.ensures.0 r.ensures.1).0;
+      sets = (alone _ _ _ _ _ _ r.new.parents r.new.sizes q.sized q.sizes_len r.ensures.0 r.ensures.1).0;
       long_parents = r.auto.parents ∙ q.sized.long_parents;
       long_bodies = r.auto.body_islands ∙ q.sized.long_bodies;
     }
@@ -31,24 +30,24 @@ join_frame-requires-clause-fit c =
 pub returns-then-not-join_frame : goal.returns-then-not-join_frame
 unfolding all_sound
 returns-then-not-join_frame c =
-    let a = c.args in
-    let f = frame_with a.body_types.now a.manifolds.now a.joint_ends.now a.joint_counts.now a.enabled.now in
+    let f = frame_in c.args.lists in
     let h = c.requires in
     let j = c.join_frame in
     let r = c.reset in
     let q = c.reset-then-not-join_frame in
     let bad : all_sound f ≡ false = sym j.ensures.answer ∙ c.if-not-join_frame.true in
+    let fill_manifolds : c.fill.new.self ≡ replicate (length c.args.manifold_islands.now) none = search rules in
+    let fill_joints : c.fill-then-not-join_frame.new.self ≡ replicate (length c.args.joint_islands.now) none = search rules in
     record {
       refusal = ap (λ (t : Bool). cond t 0 7) (sym bad);
-      refused = ap not (sym bad);
       accepted = λ e. clashes (all_sound f) e bad;
       blank = λ e. record {
         count = refl;
         parents = q.ensures.0 ∙ ap range (j.auto.parents ∙ r.auto.parents ∙ h.sized.long_parents);
         sizes = q.ensures.1 ∙ ap (λ (n : ℕ). replicate n 1) (j.auto.sizes ∙ r.auto.sizes ∙ h.sizes_len ∙ h.sized.long_parents);
         body_labels = q.ensures.2 ∙ ap (λ (n : ℕ). replicate n none) (j.auto.body_islands ∙ r.auto.body_islands ∙ h.sized.long_bodies);
-        manifold_labels = c.fill.ensures ∙ ap (λ (n : ℕ). replicate n none) h.sized.long_manifolds;
-        joint_labels = c.fill-then-not-join_frame.ensures ∙ ap (λ (n : ℕ). replicate n none) h.sized.long_joints;
+        manifold_labels = fill_manifolds ∙ ap (λ (n : ℕ). replicate n none) h.sized.long_manifolds;
+        joint_labels = fill_joints ∙ ap (λ (n : ℕ). replicate n none) h.sized.long_joints;
       };
     }
 
@@ -71,30 +70,24 @@ module _ (f : Frame) (p₀ s₀ b₀ m j p₁ s₁ b₁ p s b : List ℕ) (h : S
 pub label_frame-requires-clause-ready : goal.label_frame-requires-clause-ready
 unfolding all_sound
 label_frame-requires-clause-ready c =
-    let a = c.args in
-    let f = frame_with a.body_types.now a.manifolds.now a.joint_ends.now a.joint_counts.now a.enabled.now in
     let h = c.requires in
     let r = c.reset in
     let j = c.join_frame in
     let ok = c.if-not-join_frame.false in
-    joined_ready f a.parents.now a.sizes.now a.body_islands.now a.manifold_islands.now a.joint_islands.now r.new.parents r.new.sizes r.new.body_islands j.new.parents j.new.sizes j.new.body_islands
-    h.sized h.sizes_len r.ensures.0 r.ensures.1 r.ensures.2 (j.auto.parents ∙ r.auto.parents) (j.auto.body_islands ∙ r.auto.body_islands) (j.ensures.joined ok) (sym j.ensures.answer ∙ ok)
+    joined_ready (frame_in c.args.lists) _ _ _ _ _ _ _ r.new.body_islands _ _ _ h.sized h.sizes_len r.ensures.0 r.ensures.1 r.ensures.2 (j.auto.parents ∙ r.auto.parents) (j.auto.body_islands ∙ r.auto.body_islands) (j.ensures.joined ok) (sym j.ensures.answer ∙ ok)
 
 pub returns : goal.returns
 unfolding all_sound
 returns c =
-    let a = c.args in
-    let f = frame_with a.body_types.now a.manifolds.now a.joint_ends.now a.joint_counts.now a.enabled.now in
+    let f = frame_in c.args.lists in
     let h = c.requires in
     let r = c.reset in
     let j = c.join_frame in
     let ok = c.if-not-join_frame.false in
     let passed : all_sound f ≡ true = sym j.ensures.answer ∙ ok in
-    let sets = joined_sets f a.parents.now a.sizes.now a.body_islands.now a.manifold_islands.now a.joint_islands.now r.new.parents r.new.sizes r.new.body_islands j.new.parents j.new.sizes j.new.body_islands
-    h.sized h.sizes_len r.ensures.0 r.ensures.1 r.ensures.2 (j.auto.parents ∙ r.auto.parents) (j.auto.body_islands ∙ r.auto.body_islands) (j.ensures.joined ok) in
+    let sets = joined_sets f _ _ _ _ _ _ _ r.new.body_islands _ _ _ h.sized h.sizes_len r.ensures.0 r.ensures.1 r.ensures.2 (j.auto.parents ∙ r.auto.parents) (j.auto.body_islands ∙ r.auto.body_islands) (j.ensures.joined ok) in
     record {
       refusal = ap (λ (t : Bool). cond t 0 7) (sym passed);
-      refused = ap not (sym passed);
       accepted = λ e. (sets, c.label_frame.ensures);
       blank = λ e. clashes (all_sound f) passed e;
     }

@@ -1,58 +1,16 @@
--- `island::build_with_joints` meets its contract: a "no" to one of the questions 3 to 6 writes nothing; after four "yes" the frame is built on the first places of the tables.
-use Rattle.std.proofs.Common.{length, ◌/◌, sym, ◌∙◌}
-use Rattle.std.proofs.Math.Seq.{length-take-le}
-use Rattle.island.specs.Calls.{island_tables_of}
-use Rattle.island.proofs.Entry.{pairs_room, pairs_kept, pairs_sized, pairs_builds}
+-- `island::build_with_joints`: a "no" to one of the questions 3 to 6 writes nothing; after four "yes" the tables have room.
+use Rattle.std.proofs.Common.{sym}
+use Rattle.std.proofs.lemmas.Result.{err_from_is_err_and}
+use Rattle.island.proofs.Entry.{pairs_room, pairs_kept, pairs_built}
 use Rattle.island.proofs.build_with_joints.Goals as goal
 
-pub returns-then-refusal-ne0 : goal.returns-then-refusal-ne0
-returns-then-refusal-ne0 c =
-    let a = c.args in
-    let t = island_tables_of a.parents.now a.sizes.now a.body_islands.now a.manifold_islands.now a.joint_islands.now in
-    pairs_kept a.body_types.now a.manifolds.now a.joints.now a.enabled.now t c.early_refusal-refusal.result c.early_refusal-refusal.ensures c.if-refusal-ne0.true
+pub returns-in_err-ask_pairs-clause-built : goal.returns-in_err-ask_pairs-clause-built
+returns-in_err-ask_pairs-clause-built c =
+    let p = err_from_is_err_and c.from_residual.result c.from_residual.ensures.1 in
+    rw (p.1, p.2) (pairs_kept _ _ _ _ _ c.in_err-ask_pairs.field-0.0 c.in_err-ask_pairs.ensures)
 
-pub slice_bounds-build_sized-end-8 : goal.slice_bounds-build_sized-end-8
-slice_bounds-build_sized-end-8 c =
-    let a = c.args in
-    let t = island_tables_of a.parents.now a.sizes.now a.body_islands.now a.manifold_islands.now a.joint_islands.now in
-    let room = pairs_room a.body_types.now a.manifolds.now a.joints.now a.enabled.now t (sym c.early_refusal-refusal.ensures ∙ c.if-refusal-ne0.false) in
-    room.manifolds
+pub build_front-requires-clause-room : goal.build_front-requires-clause-room
+build_front-requires-clause-room c = pairs_room _ _ _ _ _ (sym c.in_ok-ask_pairs.ensures)
 
-pub slice_bounds-build_sized-end-10 : goal.slice_bounds-build_sized-end-10
-slice_bounds-build_sized-end-10 c =
-    let a = c.args in
-    let t = island_tables_of a.parents.now a.sizes.now a.body_islands.now a.manifold_islands.now a.joint_islands.now in
-    let room = pairs_room a.body_types.now a.manifolds.now a.joints.now a.enabled.now t (sym c.early_refusal-refusal.ensures ∙ c.if-refusal-ne0.false) in
-    room.joints
-
-pub slice_bounds-build_sized-end-11 : goal.slice_bounds-build_sized-end-11
-slice_bounds-build_sized-end-11 c =
-    let a = c.args in
-    let t = island_tables_of a.parents.now a.sizes.now a.body_islands.now a.manifold_islands.now a.joint_islands.now in
-    let room = pairs_room a.body_types.now a.manifolds.now a.joints.now a.enabled.now t (sym c.early_refusal-refusal.ensures ∙ c.if-refusal-ne0.false) in
-    sym (length-take-le (length a.joints.now / 2) a.joint_islands.now room.joints)
-
-pub build_sized-requires-clause-sizes_len : goal.build_sized-requires-clause-sizes_len
-build_sized-requires-clause-sizes_len c =
-    let a = c.args in
-    let t = island_tables_of a.parents.now a.sizes.now a.body_islands.now a.manifold_islands.now a.joint_islands.now in
-    let room = pairs_room a.body_types.now a.manifolds.now a.joints.now a.enabled.now t (sym c.early_refusal-refusal.ensures ∙ c.if-refusal-ne0.false) in
-    length-take-le (length a.body_types.now) a.sizes.now room.sizes ∙ sym (length-take-le (length a.body_types.now) a.parents.now room.parents)
-
-pub build_sized-requires-clause-sized : goal.build_sized-requires-clause-sized
-build_sized-requires-clause-sized c =
-    let a = c.args in
-    let t = island_tables_of a.parents.now a.sizes.now a.body_islands.now a.manifold_islands.now a.joint_islands.now in
-    pairs_sized a.body_types.now a.manifolds.now a.joints.now a.enabled.now t (sym c.early_refusal-refusal.ensures ∙ c.if-refusal-ne0.false)
-
-pub returns : goal.returns
-returns c =
-    let a = c.args in
-    let t = island_tables_of a.parents.now a.sizes.now a.body_islands.now a.manifold_islands.now a.joint_islands.now in
-    let room = pairs_room a.body_types.now a.manifolds.now a.joints.now a.enabled.now t (sym c.early_refusal-refusal.ensures ∙ c.if-refusal-ne0.false) in
-    let f = c.build_sized in
-    let n = length a.body_types.now in
-    pairs_builds a.body_types.now a.manifolds.now a.joints.now a.enabled.now t (sym c.early_refusal-refusal.ensures ∙ c.if-refusal-ne0.false)
-    f.new.parents f.new.sizes f.new.body_islands f.new.manifold_islands f.new.joint_islands f.result f.ensures
-    (f.auto.parents ∙ length-take-le n a.parents.now room.parents)
-    (f.auto.sizes ∙ length-take-le n a.sizes.now room.sizes)
+pub returns-clause-built : goal.returns-clause-built
+returns-clause-built c = pairs_built _ _ _ _ _ (sym c.in_ok-ask_pairs.ensures) _ _ c.build_front.ensures.built
