@@ -11,6 +11,8 @@ ghost use Rattle.parts.specs.Parts.{Bounded, parts_at};
 ghost use Rattle.coloring.specs.Coloring.{Ready, Colored, Opened, Walked};
 ghost use Rattle.coloring.specs.Steps.{MadeBusy, MadeIdle, Closable, Closed};
 
+use parts::Ends;
+
 // Which constraints fit one of the first colors, this many, the processor can't predict, so these walks don't branch on it. Later walks
 // leave most constraints uncolored, so they pass one at its first busy body.
 const UNPREDICTED: usize = 8;
@@ -20,8 +22,8 @@ fn list_all(remaining: &mut [u16], constraint_count: usize)
     requires { (constraint_count ≤ length remaining.old) × (constraint_count ≤ 8192) }
     ensures { take constraint_count remaining.new ≡ range constraint_count }
 {
-    for constraint in 0..constraint_count {
-        remaining[constraint] = constraint as u16;
+    for (constraint, place) in remaining[..constraint_count].iter_mut().enumerate() {
+        *place = constraint as u16;
     }
 }
 
@@ -32,10 +34,9 @@ fn make_busy(dynamic_bodies: &[u8], bodies: &[u16], fits: u16, busy_bodies: &mut
     ensures { MadeBusy dynamic_bodies.now fits bodies.now busy_bodies.old busy_bodies.new }
 {
     // The bodies passed are busy if they are dynamic and the color fits, and the others what they were.
-    for place in 0..bodies.len() {
-        let body = bodies[place] as usize;
-        let dynamic = (dynamic_bodies[body] == 1) as u16;
-        busy_bodies[body] = busy_bodies[body] | (dynamic & fits);
+    for &body in bodies {
+        let dynamic = (dynamic_bodies[body as usize] == 1) as u16;
+        busy_bodies[body as usize] |= dynamic & fits;
     }
 }
 
@@ -44,8 +45,7 @@ fn make_busy(dynamic_bodies: &[u8], bodies: &[u16], fits: u16, busy_bodies: &mut
 #[inline(always)]
 fn walk(
     dynamic_bodies: &[u8],
-    endpoints: &[u16],
-    bounds: &[u16],
+    ends: Ends<'_>,
     remaining: &mut [u16],
     colored_constraints: &mut [u16],
     busy_bodies: &mut [u16],
@@ -53,9 +53,9 @@ fn walk(
     start: usize,
     count: usize,
 ) -> usize
-    requires bounded { Bounded (length colored_constraints.old) bounds.now endpoints.now }
-    requires opened { Opened dynamic_bodies.now (parts_at (length colored_constraints.old) bounds.now endpoints.now) color start count remaining.old colored_constraints.old busy_bodies.old }
-    ensures { Walked dynamic_bodies.now (parts_at (length colored_constraints.old) bounds.now endpoints.now) color start count result remaining.new colored_constraints.new busy_bodies.new }
+    requires bounded { Bounded (length colored_constraints.old) ends.bounds.now ends.endpoints.now }
+    requires opened { Opened dynamic_bodies.now (parts_at (length colored_constraints.old) ends.bounds.now ends.endpoints.now) color start count remaining.old colored_constraints.old busy_bodies.old }
+    ensures { Walked dynamic_bodies.now (parts_at (length colored_constraints.old) ends.entry.bounds.now ends.entry.endpoints.now) color start count result remaining.new colored_constraints.new busy_bodies.new }
 {
     let predicted = UNPREDICTED <= color;
     // Of those passed, the first `left` of the remaining stay uncolored, and the others are listed up to place `end`.
@@ -63,12 +63,11 @@ fn walk(
     let mut end = start;
     'walk: for passed in 0..count {
         let constraint = remaining[passed];
-        let bodies = parts::part(endpoints, bounds, constraint as usize);
+        let bodies = ends.part(constraint as usize);
         let mut busy = 0;
         // `busy` is 1 if a body passed is busy, else 0.
-        'bodies: for place in 0..bodies.len() {
-            let body = bodies[place] as usize;
-            busy = busy | busy_bodies[body];
+        'bodies: for &body in bodies {
+            busy |= busy_bodies[body as usize];
             if predicted & (busy == 1) {
                 remaining[left] = constraint;
                 left += 1;
@@ -92,30 +91,28 @@ fn make_idle(bodies: &[u16], busy_bodies: &mut [u16])
     ensures { MadeIdle bodies.now busy_bodies.old busy_bodies.new }
 {
     // The bodies passed are idle.
-    for place in 0..bodies.len() {
-        busy_bodies[bodies[place] as usize] = 0;
+    for &body in bodies {
+        busy_bodies[body as usize] = 0;
     }
 }
 
 // Gives the color to its members, and makes their bodies idle.
 #[inline(always)]
 fn close_color(
-    endpoints: &[u16],
-    bounds: &[u16],
+    ends: Ends<'_>,
     members: &[u16],
     color: usize,
     constraint_colors: &mut [u16],
     busy_bodies: &mut [u16],
 )
-    requires bounded { Bounded (length constraint_colors.old) bounds.now endpoints.now }
-    requires closable { Closable (parts_at (length constraint_colors.old) bounds.now endpoints.now) color members.now constraint_colors.old busy_bodies.old }
-    ensures { Closed (parts_at (length constraint_colors.old) bounds.now endpoints.now) color members.now constraint_colors.old busy_bodies.old constraint_colors.new busy_bodies.new }
+    requires bounded { Bounded (length constraint_colors.old) ends.bounds.now ends.endpoints.now }
+    requires closable { Closable (parts_at (length constraint_colors.old) ends.bounds.now ends.endpoints.now) color members.now constraint_colors.old busy_bodies.old }
+    ensures { Closed (parts_at (length constraint_colors.old) ends.entry.bounds.now ends.entry.endpoints.now) color members.now constraint_colors.old busy_bodies.old constraint_colors.new busy_bodies.new }
 {
     // The members passed have the color, and their bodies are idle.
-    for place in 0..members.len() {
-        let constraint = members[place] as usize;
-        constraint_colors[constraint] = color as u16;
-        make_idle(parts::part(endpoints, bounds, constraint), busy_bodies);
+    for &member in members {
+        constraint_colors[member as usize] = color as u16;
+        make_idle(ends.part(member as usize), busy_bodies);
     }
 }
 
@@ -124,20 +121,19 @@ fn close_color(
 #[inline(always)]
 pub fn color_constraints(
     dynamic_bodies: &[u8],
-    endpoints: &[u16],
-    bounds: &[u16],
+    ends: Ends<'_>,
     remaining: &mut [u16],
     constraint_colors: &mut [u16],
     color_offsets: &mut [u16],
     colored_constraints: &mut [u16],
     busy_bodies: &mut [u16],
 ) -> usize
-    requires bounded { Bounded (length constraint_colors.old) bounds.now endpoints.now }
-    requires ready { Ready dynamic_bodies.now (parts_at (length constraint_colors.old) bounds.now endpoints.now) remaining.old constraint_colors.old color_offsets.old colored_constraints.old busy_bodies.old }
-    ensures { Colored dynamic_bodies.now (parts_at (length constraint_colors.old) bounds.now endpoints.now) color_offsets.old constraint_colors.new color_offsets.new colored_constraints.new busy_bodies.new result }
+    requires bounded { Bounded (length constraint_colors.old) ends.bounds.now ends.endpoints.now }
+    requires ready { Ready dynamic_bodies.now (parts_at (length constraint_colors.old) ends.bounds.now ends.endpoints.now) remaining.old constraint_colors.old color_offsets.old colored_constraints.old busy_bodies.old }
+    ensures { Colored dynamic_bodies.now (parts_at (length constraint_colors.old) ends.entry.bounds.now ends.entry.endpoints.now) color_offsets.old constraint_colors.new color_offsets.new colored_constraints.new busy_bodies.new result }
 {
     let constraint_count = constraint_colors.len();
-    tables::fill(busy_bodies, 0);
+    busy_bodies.fill(0);
     list_all(remaining, constraint_count);
     color_offsets[0] = 0;
     let mut uncolored_count = constraint_count;
@@ -150,8 +146,7 @@ pub fn color_constraints(
         let start = constraint_count - uncolored_count;
         uncolored_count = walk(
             dynamic_bodies,
-            endpoints,
-            bounds,
+            ends,
             remaining,
             colored_constraints,
             busy_bodies,
@@ -161,8 +156,7 @@ pub fn color_constraints(
         );
         let end = constraint_count - uncolored_count;
         close_color(
-            endpoints,
-            bounds,
+            ends,
             &colored_constraints[start..end],
             color,
             constraint_colors,

@@ -12,6 +12,7 @@ ghost use Rattle.constraint_coloring.specs.Calls.{update_number, update_changed,
 ghost use Rattle.constraint_coloring.specs.Stages.{Scheduled, Buildable, Rebuilt};
 
 use frame::Frame;
+use parts::{Ends, Grouped};
 
 // What a plan carries by value; the rest stands in the tables that its caller lends.
 #[derive(Clone, Copy)]
@@ -100,29 +101,33 @@ fn list_groups(
     requires gatherable { Gatherable body_count (parts_at (length constraint_colors.now) bounds.now endpoints.now) constraint_colors.now color_count color_offsets.now colored_constraints.now body_stamps.old scratch_offsets.old color_body_offsets.old color_bodies.old × (color_count ≡ group_count constraint_colors.now) }
     ensures { Scheduled body_count (parts_at (length constraint_colors.now) bounds.now endpoints.now) constraint_colors.now color_count color_bodies.old color_body_offsets.new color_bodies.new constraint_body_positions.new }
 {
+    let ends = Ends { endpoints, bounds };
+    let constraints = Grouped {
+        table: colored_constraints,
+        offsets: color_offsets,
+    };
     gathering::gather(
         body_count,
-        endpoints,
-        bounds,
+        ends,
         constraint_colors,
         color_count,
-        color_offsets,
-        colored_constraints,
+        constraints,
         body_stamps,
         scratch_offsets,
         color_body_offsets,
         color_bodies,
     );
+    let bodies = Grouped {
+        table: color_bodies,
+        offsets: color_body_offsets,
+    };
     locating::locate(
         body_count,
-        endpoints,
-        bounds,
+        ends,
         constraint_colors,
         color_count,
-        color_offsets,
-        colored_constraints,
-        color_body_offsets,
-        color_bodies,
+        constraints,
+        bodies,
         scratch_offsets,
         constraint_body_positions,
     );
@@ -167,8 +172,10 @@ pub fn build_plan(
     tables::copy(ends, ends.len(), endpoints);
     let color_count = coloring::color_constraints(
         flags,
-        ends,
-        bounds,
+        Ends {
+            endpoints: ends,
+            bounds,
+        },
         scratch_offsets,
         &mut constraint_colors[..constraint_count],
         &mut color_offsets[..constraint_count + 1],

@@ -7,6 +7,8 @@ ghost use Rattle.lists.specs.Basics.{join_map};
 ghost use Rattle.parts.specs.Parts.{part_at, parts_at, Bounded};
 ghost use Rattle.gathering.specs.Gathers.{stamped, Stampable, Counted, Notable, Noted, AllPresent, Fresh, Listed, Gatherable, Gathered};
 
+use parts::{Ends, Grouped};
+
 // The bodies of a group with a constraint for every 64 bodies or more are collected from the stamps; those of a smaller one are noted as
 // they come, and sorted.
 const BODIES_PER_CONSTRAINT: usize = 64;
@@ -28,35 +30,25 @@ fn stamp_part(bodies: &[u16], stamp: u16, body_stamps: &mut [u16]) -> usize
     ensures { Counted stamp bodies.now 0 body_stamps.old body_stamps.new result }
 {
     let mut count = 0;
-    let mut i = 0;
-    // The first i bodies have the stamp; `count` of them had another.
-    while i < bodies.len() {
-        count += stamp_body(bodies[i], stamp, body_stamps);
-        i += 1;
+    // The bodies passed have the stamp; `count` of them had another.
+    for &body in bodies {
+        count += stamp_body(body, stamp, body_stamps);
     }
     count
 }
 
 // The bodies of a group's constraints; answers how many they are.
 #[inline(always)]
-fn stamp_members(
-    endpoints: &[u16],
-    bounds: &[u16],
-    members: &[u16],
-    stamp: u16,
-    body_stamps: &mut [u16],
-) -> usize
-    requires all_present { AllPresent endpoints.now bounds.now members.now }
-    requires stampable { Stampable (join_map (part_at bounds.now endpoints.now) members.now) body_stamps.old }
-    ensures { Counted stamp (join_map (part_at bounds.now endpoints.now) members.now) 0 body_stamps.old body_stamps.new result }
+fn stamp_members(ends: Ends<'_>, members: &[u16], stamp: u16, body_stamps: &mut [u16]) -> usize
+    requires all_present { AllPresent ends.endpoints.now ends.bounds.now members.now }
+    requires stampable { Stampable (join_map (part_at ends.bounds.now ends.endpoints.now) members.now) body_stamps.old }
+    ensures { Counted stamp (join_map (part_at ends.entry.bounds.now ends.entry.endpoints.now) members.now) 0 body_stamps.old body_stamps.new result }
 {
     let mut count = 0;
-    let mut i = 0;
-    // The bodies of the first i members have the stamp; `count` of them had another.
-    while i < members.len() {
-        let bodies = parts::part(endpoints, bounds, members[i] as usize);
+    // The bodies of the members passed have the stamp; `count` of them had another.
+    for &member in members {
+        let bodies = ends.part(member as usize);
         count += stamp_part(bodies, stamp, body_stamps);
-        i += 1;
     }
     count
 }
@@ -79,19 +71,18 @@ fn collect(body_stamps: &[u16], stamp: u16, part: &mut [u16])
 // The bodies of a group with many constraints, from place `start` on; answers where they end.
 #[inline(always)]
 fn list_many(
-    endpoints: &[u16],
-    bounds: &[u16],
+    ends: Ends<'_>,
     members: &[u16],
     stamp: u16,
     body_stamps: &mut [u16],
     color_bodies: &mut [u16],
     start: usize,
 ) -> usize
-    requires all_present { AllPresent endpoints.now bounds.now members.now }
-    requires fresh { Fresh (join_map (part_at bounds.now endpoints.now) members.now) stamp body_stamps.old color_bodies.old start }
-    ensures { Listed (join_map (part_at bounds.now endpoints.now) members.now) stamp body_stamps.new color_bodies.old color_bodies.new start result }
+    requires all_present { AllPresent ends.endpoints.now ends.bounds.now members.now }
+    requires fresh { Fresh (join_map (part_at ends.bounds.now ends.endpoints.now) members.now) stamp body_stamps.old color_bodies.old start }
+    ensures { Listed (join_map (part_at ends.entry.bounds.now ends.entry.endpoints.now) members.now) stamp body_stamps.new color_bodies.old color_bodies.new start result }
 {
-    let count = stamp_members(endpoints, bounds, members, stamp, body_stamps);
+    let count = stamp_members(ends, members, stamp, body_stamps);
     let end = start + count;
     collect(body_stamps, stamp, &mut color_bodies[start..end]);
     end
@@ -127,11 +118,9 @@ fn note_part(
     ensures { Noted stamp bodies.now start body_stamps.old color_bodies.old body_stamps.new color_bodies.new result }
 {
     let mut end = start;
-    let mut i = 0;
-    // The first i bodies are noted, up to place `end`.
-    while i < bodies.len() {
-        end = note(bodies[i], stamp, body_stamps, color_bodies, end);
-        i += 1;
+    // The bodies passed are noted, up to place `end`.
+    for &body in bodies {
+        end = note(body, stamp, body_stamps, color_bodies, end);
     }
     end
 }
@@ -139,25 +128,22 @@ fn note_part(
 // The bodies of a group's constraints, as they come.
 #[inline(always)]
 fn note_members(
-    endpoints: &[u16],
-    bounds: &[u16],
+    ends: Ends<'_>,
     members: &[u16],
     stamp: u16,
     body_stamps: &mut [u16],
     color_bodies: &mut [u16],
     start: usize,
 ) -> usize
-    requires all_present { AllPresent endpoints.now bounds.now members.now }
-    requires notable { Notable (join_map (part_at bounds.now endpoints.now) members.now) body_stamps.old color_bodies.old start }
-    ensures { Noted stamp (join_map (part_at bounds.now endpoints.now) members.now) start body_stamps.old color_bodies.old body_stamps.new color_bodies.new result }
+    requires all_present { AllPresent ends.endpoints.now ends.bounds.now members.now }
+    requires notable { Notable (join_map (part_at ends.bounds.now ends.endpoints.now) members.now) body_stamps.old color_bodies.old start }
+    ensures { Noted stamp (join_map (part_at ends.entry.bounds.now ends.entry.endpoints.now) members.now) start body_stamps.old color_bodies.old body_stamps.new color_bodies.new result }
 {
     let mut end = start;
-    let mut i = 0;
-    // The bodies of the first i members are noted, up to place `end`.
-    while i < members.len() {
-        let bodies = parts::part(endpoints, bounds, members[i] as usize);
+    // The bodies of the members passed are noted, up to place `end`.
+    for &member in members {
+        let bodies = ends.part(member as usize);
         end = note_part(bodies, stamp, body_stamps, color_bodies, end);
-        i += 1;
     }
     end
 }
@@ -165,8 +151,7 @@ fn note_members(
 // The bodies of a group with few constraints, from place `start` on; answers where they end.
 #[inline(always)]
 fn list_few(
-    endpoints: &[u16],
-    bounds: &[u16],
+    ends: Ends<'_>,
     members: &[u16],
     stamp: u16,
     body_stamps: &mut [u16],
@@ -174,20 +159,12 @@ fn list_few(
     color_bodies: &mut [u16],
     start: usize,
 ) -> usize
-    requires all_present { AllPresent endpoints.now bounds.now members.now }
-    requires fresh { Fresh (join_map (part_at bounds.now endpoints.now) members.now) stamp body_stamps.old color_bodies.old start }
+    requires all_present { AllPresent ends.endpoints.now ends.bounds.now members.now }
+    requires fresh { Fresh (join_map (part_at ends.bounds.now ends.endpoints.now) members.now) stamp body_stamps.old color_bodies.old start }
     requires body_stamps_in_bounds { length body_stamps.old ≤ length scratch_offsets.old }
-    ensures { Listed (join_map (part_at bounds.now endpoints.now) members.now) stamp body_stamps.new color_bodies.old color_bodies.new start result }
+    ensures { Listed (join_map (part_at ends.entry.bounds.now ends.entry.endpoints.now) members.now) stamp body_stamps.new color_bodies.old color_bodies.new start result }
 {
-    let end = note_members(
-        endpoints,
-        bounds,
-        members,
-        stamp,
-        body_stamps,
-        color_bodies,
-        start,
-    );
+    let end = note_members(ends, members, stamp, body_stamps, color_bodies, start);
     ordering::sort(&mut color_bodies[start..end], scratch_offsets);
     end
 }
@@ -195,8 +172,7 @@ fn list_few(
 // The bodies of any group, from place `start` on; answers where they end.
 #[inline(always)]
 fn list_bodies(
-    endpoints: &[u16],
-    bounds: &[u16],
+    ends: Ends<'_>,
     members: &[u16],
     stamp: u16,
     body_stamps: &mut [u16],
@@ -204,25 +180,16 @@ fn list_bodies(
     color_bodies: &mut [u16],
     start: usize,
 ) -> usize
-    requires all_present { AllPresent endpoints.now bounds.now members.now }
-    requires fresh { Fresh (join_map (part_at bounds.now endpoints.now) members.now) stamp body_stamps.old color_bodies.old start }
+    requires all_present { AllPresent ends.endpoints.now ends.bounds.now members.now }
+    requires fresh { Fresh (join_map (part_at ends.bounds.now ends.endpoints.now) members.now) stamp body_stamps.old color_bodies.old start }
     requires body_stamps_in_bounds { length body_stamps.old ≤ length scratch_offsets.old }
-    ensures { Listed (join_map (part_at bounds.now endpoints.now) members.now) stamp body_stamps.new color_bodies.old color_bodies.new start result }
+    ensures { Listed (join_map (part_at ends.entry.bounds.now ends.entry.endpoints.now) members.now) stamp body_stamps.new color_bodies.old color_bodies.new start result }
 {
     if members.len() >= body_stamps.len() / BODIES_PER_CONSTRAINT {
-        return list_many(
-            endpoints,
-            bounds,
-            members,
-            stamp,
-            body_stamps,
-            color_bodies,
-            start,
-        );
+        return list_many(ends, members, stamp, body_stamps, color_bodies, start);
     }
     list_few(
-        endpoints,
-        bounds,
+        ends,
         members,
         stamp,
         body_stamps,
@@ -236,31 +203,27 @@ fn list_bodies(
 #[inline(always)]
 pub fn gather(
     body_count: usize,
-    endpoints: &[u16],
-    bounds: &[u16],
+    ends: Ends<'_>,
     constraint_colors: &[u16],
     color_count: usize,
-    color_offsets: &[u16],
-    colored_constraints: &[u16],
+    colored_constraints: Grouped<'_>,
     body_stamps: &mut [u16],
     scratch_offsets: &mut [u16],
     color_body_offsets: &mut [u16],
     color_bodies: &mut [u16],
 )
-    requires bounded { Bounded (length constraint_colors.now) bounds.now endpoints.now }
-    requires gatherable { Gatherable body_count (parts_at (length constraint_colors.now) bounds.now endpoints.now) constraint_colors.now color_count color_offsets.now colored_constraints.now body_stamps.old scratch_offsets.old color_body_offsets.old color_bodies.old }
-    ensures { Gathered body_count (parts_at (length constraint_colors.now) bounds.now endpoints.now) constraint_colors.now color_count color_body_offsets.new color_bodies.old color_bodies.new }
+    requires bounded { Bounded (length constraint_colors.now) ends.bounds.now ends.endpoints.now }
+    requires gatherable { Gatherable body_count (parts_at (length constraint_colors.now) ends.bounds.now ends.endpoints.now) constraint_colors.now color_count colored_constraints.offsets.now colored_constraints.table.now body_stamps.old scratch_offsets.old color_body_offsets.old color_bodies.old }
+    ensures { Gathered body_count (parts_at (length constraint_colors.now) ends.entry.bounds.now ends.entry.endpoints.now) constraint_colors.now color_count color_body_offsets.new color_bodies.old color_bodies.new }
 {
     color_body_offsets[0] = 0;
     let mut end = 0;
-    let mut color = 0;
     // The bodies of the groups below `color` are listed up to place `end`, and no stamp is above `color`.
-    while color < color_count {
-        let members = parts::between(colored_constraints, color_offsets, color, color + 1);
+    for color in 0..color_count {
+        let members = colored_constraints.group(color);
         let stamp = (color + 1) as u16;
         end = list_bodies(
-            endpoints,
-            bounds,
+            ends,
             members,
             stamp,
             body_stamps,
@@ -268,7 +231,6 @@ pub fn gather(
             color_bodies,
             end,
         );
-        color += 1;
-        color_body_offsets[color] = end as u16;
+        color_body_offsets[color + 1] = end as u16;
     }
 }

@@ -2,7 +2,7 @@
 // read both here, so that they need not know how many endpoints a constraint has.
 #![tactic(auto)]
 
-ghost use Rattle.std.specs.Prelude.{◌*◌, ◌≤◌, ◌<◌, ◌≡◌, length};
+ghost use Rattle.std.specs.Prelude.{◌+◌, ◌*◌, ◌≤◌, ◌<◌, ◌≡◌, length};
 ghost use Rattle.lists.specs.Basics.{sum_of};
 ghost use Rattle.parts.specs.Parts.{cut, Cut, Present, part_at};
 ghost use Rattle.parts.specs.Steps.{start_at, Ordered, widest, BoundsOf};
@@ -17,26 +17,63 @@ pub fn between<'a>(table: &'a [u16], bounds: &[u16], from: usize, to: usize) -> 
     &table[start..end]
 }
 
-// The endpoints of a constraint: a pair if there are no bounds, else what stands between its two bounds.
-pub fn part<'a>(endpoints: &'a [u16], bounds: &[u16], constraint: usize) -> &'a [u16]
-    requires { Present endpoints.now bounds.now constraint }
-    ensures { result.now ≡ part_at bounds.now endpoints.now constraint }
-{
-    if bounds.len() == 0 {
-        return &endpoints[2 * constraint..2 * constraint + 2];
-    }
-    between(endpoints, bounds, 2 * constraint, 2 * constraint + 1)
+// The endpoints of all constraints one after another, and the bounds between which each has its own; without bounds they are pairs.
+#[derive(Clone, Copy)]
+pub struct Ends<'a> {
+    pub endpoints: &'a [u16],
+    pub bounds: &'a [u16],
 }
 
-// Where the endpoints of a constraint start in the endpoint list; its positions start there too.
-pub fn start(bounds: &[u16], constraint: usize) -> usize
-    requires { (constraint ≤ 32767) × ((length bounds.now ≡ 0 → ⊥) → 2 * constraint < length bounds.now) }
-    ensures { result ≡ start_at bounds.now constraint }
+impl<'a> Ends<'a> {
+    // The endpoints of a constraint.
+    #[inline(always)]
+    pub fn part(self, constraint: usize) -> &'a [u16]
+        requires { Present self.endpoints.now self.bounds.now constraint }
+        ensures { result.now ≡ part_at self.entry.bounds.now self.entry.endpoints.now constraint }
+    {
+        part(self.endpoints, self.bounds, constraint)
+    }
+
+    // Where the endpoints of a constraint start; its positions start there too.
+    #[inline(always)]
+    pub fn start(self, constraint: usize) -> usize
+        requires { (constraint ≤ 32767) × ((length self.bounds.now ≡ 0 → ⊥) → 2 * constraint < length self.bounds.now) }
+        ensures { result ≡ start_at self.entry.bounds.now constraint }
+    {
+        if self.bounds.len() == 0 {
+            return 2 * constraint;
+        }
+        self.bounds[2 * constraint] as usize
+    }
+}
+
+// The part of a constraint in a table that is read by these bounds: a pair if there are none, else what stands between its two.
+pub fn part<'a>(table: &'a [u16], bounds: &[u16], constraint: usize) -> &'a [u16]
+    requires { Present table.now bounds.now constraint }
+    ensures { result.now ≡ part_at bounds.now table.now constraint }
 {
     if bounds.len() == 0 {
-        return 2 * constraint;
+        return &table[2 * constraint..2 * constraint + 2];
     }
-    bounds[2 * constraint] as usize
+    between(table, bounds, 2 * constraint, 2 * constraint + 1)
+}
+
+// Tables that list group after group: what stands in the groups, and where each group starts, with the end.
+#[derive(Clone, Copy)]
+pub struct Grouped<'a> {
+    pub table: &'a [u16],
+    pub offsets: &'a [u16],
+}
+
+impl<'a> Grouped<'a> {
+    // What stands in a group.
+    #[inline(always)]
+    pub fn group(self, number: usize) -> &'a [u16]
+        requires { Cut self.table.now self.offsets.now number (number + 1) }
+        ensures { result.now ≡ cut self.entry.table.now self.entry.offsets.now number (number + 1) }
+    {
+        between(self.table, self.offsets, number, number + 1)
+    }
 }
 
 // The size of the largest part that lies between two bounds next to each other.
@@ -45,12 +82,9 @@ pub fn largest_part(bounds: &[u16]) -> usize
     ensures { result ≡ widest bounds.now }
 {
     let mut largest = 0;
-    let mut end: usize = 1;
-    // `largest` is the size of the largest part that ends before `end`.
-    while end < bounds.len() {
-        let size = bounds[end] - bounds[end - 1];
-        largest = tables::larger(largest, size);
-        end += 1;
+    // `largest` is the size of the largest part passed.
+    for pair in bounds.windows(2) {
+        largest = largest.max(pair[1] - pair[0]);
     }
     largest as usize
 }
@@ -62,9 +96,9 @@ pub fn bound_counts(counts: &[u8], bounds: &mut [u16])
 {
     let mut end: u16 = 0;
     // The constraints passed have their bounds, and `end` is how many endpoints they have.
-    for constraint in 0..counts.len() {
+    for (constraint, &count) in counts.iter().enumerate() {
         bounds[2 * constraint] = end;
-        end += counts[constraint] as u16;
+        end += count as u16;
         bounds[2 * constraint + 1] = end;
     }
 }

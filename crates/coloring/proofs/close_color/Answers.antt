@@ -29,25 +29,25 @@ low : (n : ℕ) (ms : List ℕ) (i : ℕ) → i < length ms → all (λ r. ltb r
 low n ms i l h = ltb-true (get_or ms i 0) n (all_in (λ r. ltb r n) (get_or ms i 0) ms (get_or-mem ms i l) h)
 
 -- its part is its bodies
-bodies_are : (c : After-part) → c.part.result.now ≡ get_or (parts_at (length c.args.constraint_colors.now) c.args.bounds.now c.args.endpoints.now) (get_or c.args.members.now c.loop-place.place 0) []
+bodies_are : (c : After-part) → c.part.result.now ≡ get_or (parts_at (length c.args.constraint_colors.now) c.args.ends.bounds.now c.args.ends.endpoints.now) (get_or c.args.members.now c.loop-member.member-index 0) []
 bodies_are c =
     let n = length c.args.constraint_colors.now in
-    c.part.ensures ∙ sym (parts-at n c.args.bounds.now c.args.endpoints.now (get_or c.args.members.now c.loop-place.place 0) (low n c.args.members.now c.loop-place.place (omega arith) c.requires.closable.inside))
+    c.part.ensures ∙ sym (parts-at n c.args.ends.bounds.now c.args.ends.endpoints.now (get_or c.args.members.now c.loop-member.member-index 0) (low n c.args.members.now c.loop-member.member-index (omega arith) c.requires.closable.inside))
 
 pub make_idle-requires : goal.make_idle-requires
 make_idle-requires c =
     let n = length c.args.busy_bodies.now in
-    let cs = parts_at (length c.args.constraint_colors.now) c.args.bounds.now c.args.endpoints.now in
-    let size : length c.loop-place.busy_bodies ≡ n = c.loop-place.auto.busy_bodies in
-    let e : all (λ b. ltb b (length c.loop-place.busy_bodies)) c.part.result.now ≡ true =
-    rw (bodies_are (goal.at.make_idle-requires c).After-part, size) (all-get_or (λ bs. all (λ b. ltb b n) bs) [] cs (get_or c.args.members.now c.loop-place.place 0) refl c.requires.closable.bodies) in
+    let cs = parts_at (length c.args.constraint_colors.now) c.args.ends.bounds.now c.args.ends.endpoints.now in
+    let size : length c.loop-member.busy_bodies ≡ n = c.loop-member.auto.busy_bodies in
+    let e : all (λ b. ltb b (length c.loop-member.busy_bodies)) c.part.result.now ≡ true =
+    rw (bodies_are (goal.at.make_idle-requires c).After-part, size) (all-get_or (λ bs. all (λ b. ltb b n) bs) [] cs (get_or c.args.members.now c.loop-member.member-index 0) refl c.requires.closable.bodies) in
     e
 
-pub loop-place-preserved : goal.loop-place-preserved
-loop-place-preserved c =
-    let l = c.loop-place in
+pub loop-member-preserved : goal.loop-member-preserved
+loop-member-preserved c =
+    let l = c.loop-member in
     let n = length c.args.constraint_colors.now in
     let ms = c.args.members.now in
     let size : length l.constraint_colors ≡ n = l.auto.constraint_colors in
-    more (parts_at n c.args.bounds.now c.args.endpoints.now) c.args.color ms c.args.constraint_colors.now c.args.busy_bodies.now l.constraint_colors l.busy_bodies l.place (omega arith)
-    (omega (arith, low n ms l.place (omega arith) c.requires.closable.inside, size)) l.auto.busy_bodies l.invariant c.part.result.now c.make_idle.new.busy_bodies (bodies_are (goal.at.loop-place-preserved c).After-part) c.make_idle.ensures
+    more (parts_at n c.args.ends.bounds.now c.args.ends.endpoints.now) c.args.color ms c.args.constraint_colors.now c.args.busy_bodies.now l.constraint_colors l.busy_bodies l.member-index (omega arith)
+    (omega (arith, low n ms l.member-index (omega arith) c.requires.closable.inside, size)) l.auto.busy_bodies l.invariant c.part.result.now c.make_idle.new.busy_bodies (bodies_are (goal.at.loop-member-preserved c).After-part) c.make_idle.ensures

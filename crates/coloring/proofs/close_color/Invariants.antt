@@ -4,5 +4,5 @@ use Rattle.parts.specs.Parts.{parts_at}
 use Rattle.coloring.specs.Steps.{Closed}
 use Rattle.coloring.proofs.close_color.Given as goal
 
-abbrev pub invariant-loop-place : goal.invariant-loop-place
-invariant-loop-place l = Closed (parts_at (length l.initial.constraint_colors) l.bounds l.endpoints) l.color (take l.place l.members) l.initial.constraint_colors l.initial.busy_bodies l.constraint_colors l.busy_bodies
+abbrev pub invariant-loop-member : goal.invariant-loop-member
+invariant-loop-member l = Closed (parts_at (length l.initial.constraint_colors) l.ends.bounds.now l.ends.endpoints.now) l.color (take l.member-index l.members) l.initial.constraint_colors l.initial.busy_bodies l.constraint_colors l.busy_bodies

@@ -9,7 +9,7 @@ few : {flags : List ℕ} {cs : List (List ℕ)} {n k count : ℕ} {starts₀ rem
 few v h = (omega (arith, v.all, color_small v h), omega (arith, v.all, v.opened.few), omega (arith, v.all, v.starts_length))
 
 pub colors-init : goal.colors-init
-colors-init c = walks_none c.requires.ready (length c.args.busy_bodies.now) _ _ c.list_all.auto.remaining c.list_all.ensures c.fill.auto.table c.fill.ensures
+colors-init c = walks_none c.requires.ready (length c.args.busy_bodies.now) _ _ c.list_all.auto.remaining c.list_all.ensures c.fill.auto.self (c.fill.ensures.after (λ y e. e))
 
 pub close_color-requires-clause-closable : goal.close_color-requires-clause-closable
 close_color-requires-clause-closable c =

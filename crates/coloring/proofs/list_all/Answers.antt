@@ -4,4 +4,4 @@ use Rattle.lists.proofs.Ranges.{range_snoc}
 use Rattle.coloring.proofs.list_all.Goals as goal
 
 pub loop-constraint-preserved : goal.loop-constraint-preserved
-loop-constraint-preserved c = let v = c.loop-constraint in rw add-one (take-suc-set v.remaining v.constraint v.constraint (omega arith) ∙ rw v.invariant (sym (range_snoc v.constraint)))
+loop-constraint-preserved c = let v = c.loop-constraint in rw add-one (take-suc-set v.place-items v.constraint v.constraint (omega arith) ∙ rw v.invariant (sym (range_snoc v.constraint)))

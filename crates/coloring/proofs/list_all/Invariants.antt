@@ -4,4 +4,4 @@ use Rattle.lists.specs.Basics.{range}
 use Rattle.coloring.proofs.list_all.Given as goal
 
 abbrev pub invariant-loop-constraint : goal.invariant-loop-constraint
-invariant-loop-constraint l = take l.constraint l.remaining ≡ range l.constraint
+invariant-loop-constraint l = take l.constraint l.place-items ≡ range l.constraint

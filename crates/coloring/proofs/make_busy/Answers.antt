@@ -34,12 +34,12 @@ module _ (flags bodies busy₀ busy : List ℕ) (fits i : ℕ) (l : i < length b
       ∙ rw (v body o) (twice (eqb fits 1) (flagged flags body) (mem body (take i bodies)) (get_or busy₀ body 0))))
       (λ e. rw (any_next (eqb b) bodies i l, e, or-false) (get_or-set_other busy body b (bit_or (get_or busy body 0) (bit_and (one (flagged flags body)) fits)) 0 (eqb-false b body e) ∙ v b h))
 
-pub loop-place-preserved : goal.loop-place-preserved
-loop-place-preserved c =
-    let l = c.loop-place in
+pub loop-body-preserved : goal.loop-body-preserved
+loop-body-preserved c =
+    let l = c.loop-body in
     let flags = c.args.dynamic_bodies.now in
     let bodies = c.args.bodies.now in
-    let body = get_or bodies l.place 0 in
-    let low : body < length flags = ltb-true body (length flags) (all_in (λ b. ltb b (length flags)) body bodies (get_or-mem bodies l.place (omega arith)) c.requires.busy_bodies_len.1) in
+    let body = get_or bodies l.body-index 0 in
+    let low : body < length flags = ltb-true body (length flags) (all_in (λ b. ltb b (length flags)) body bodies (get_or-mem bodies l.body-index (omega arith)) c.requires.busy_bodies_len.1) in
     let size : length l.busy_bodies ≡ length c.args.busy_bodies.now = l.auto.busy_bodies in
-    rw (byte_one (flagged flags body)) (more flags bodies c.args.busy_bodies.now l.busy_bodies c.args.fits l.place (omega arith) c.requires.fits_bound.0 c.requires.fits_bound.1 size l.invariant (omega (arith, low, size, c.requires.busy_bodies_len.0)))
+    rw (byte_one (flagged flags body)) (more flags bodies c.args.busy_bodies.now l.busy_bodies c.args.fits l.body-index (omega arith) c.requires.fits_bound.0 c.requires.fits_bound.1 size l.invariant (omega (arith, low, size, c.requires.busy_bodies_len.0)))

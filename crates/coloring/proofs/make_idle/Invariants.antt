@@ -3,5 +3,5 @@ use Rattle.std.proofs.Common.{take}
 use Rattle.coloring.specs.Steps.{MadeIdle}
 use Rattle.coloring.proofs.make_idle.Given as goal
 
-abbrev pub invariant-loop-place : goal.invariant-loop-place
-invariant-loop-place l = MadeIdle (take l.place l.bodies) l.initial.busy_bodies l.busy_bodies
+abbrev pub invariant-loop-body : goal.invariant-loop-body
+invariant-loop-body l = MadeIdle (take l.body-index l.bodies) l.initial.busy_bodies l.busy_bodies

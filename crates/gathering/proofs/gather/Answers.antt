@@ -7,27 +7,27 @@ use Rattle.gathering.proofs.gather.Goals as goal
 pub loop-color-init : goal.loop-color-init
 loop-color-init c = gathering_none c.requires.gatherable
 
-pub between-members-requires : goal.between-members-requires
-between-members-requires c = members-cut c.requires.gatherable c.loop-color.color c.loop-color-test.true
+pub group-members-requires : goal.group-members-requires
+group-members-requires c = members-cut c.requires.gatherable c.loop-color.color (omega arith)
 
 pub list_bodies-end-requires-clause-all_present : goal.list_bodies-end-requires-clause-all_present
 list_bodies-end-requires-clause-all_present c =
-    let bounds = c.args.bounds.now in
-    let endpoints = c.args.endpoints.now in
-    rw c.between-members.ensures
-    (λ r h. c.requires.bounded r (part_below c.requires.gatherable (part_at bounds endpoints) (parts-length _ bounds endpoints) (parts-at _ bounds endpoints) c.loop-color.color c.loop-color-test.true r h))
+    let bounds = c.args.ends.bounds.now in
+    let endpoints = c.args.ends.endpoints.now in
+    rw c.group-members.ensures
+    (λ r h. c.requires.bounded r (part_below c.requires.gatherable (part_at bounds endpoints) (parts-length _ bounds endpoints) (parts-at _ bounds endpoints) c.loop-color.color (omega arith) r h))
 
 pub list_bodies-end-requires-clause-fresh : goal.list_bodies-end-requires-clause-fresh
 list_bodies-end-requires-clause-fresh c =
-    let bounds = c.args.bounds.now in
-    let endpoints = c.args.endpoints.now in
-    rw c.between-members.ensures
-    (group_fresh c.requires.gatherable (part_at bounds endpoints) (parts-length _ bounds endpoints) (parts-at _ bounds endpoints) c.loop-color.color c.loop-color-test.true c.loop-color.invariant)
+    let bounds = c.args.ends.bounds.now in
+    let endpoints = c.args.ends.endpoints.now in
+    rw c.group-members.ensures
+    (group_fresh c.requires.gatherable (part_at bounds endpoints) (parts-length _ bounds endpoints) (parts-at _ bounds endpoints) c.loop-color.color (omega arith) c.loop-color.invariant)
 
 pub overflow_cast-color_body_offsets : goal.overflow_cast-color_body_offsets
 overflow_cast-color_body_offsets c =
-    let bounds = c.args.bounds.now in
-    let endpoints = c.args.endpoints.now in
+    let bounds = c.args.ends.bounds.now in
+    let endpoints = c.args.ends.endpoints.now in
     omega (
       arith,
       end_small
@@ -36,25 +36,25 @@ overflow_cast-color_body_offsets c =
           (parts-length _ bounds endpoints)
           (parts-at _ bounds endpoints)
           c.loop-color.color
-          c.loop-color-test.true
+          (omega arith)
           c.loop-color.invariant
-          (rw c.between-members.ensures at c.list_bodies-end.ensures)
+          (rw c.group-members.ensures at c.list_bodies-end.ensures)
           c.list_bodies-end.auto.body_stamps,
     )
 
 pub loop-color-preserved : goal.loop-color-preserved
 loop-color-preserved c =
-    let bounds = c.args.bounds.now in
-    let endpoints = c.args.endpoints.now in
+    let bounds = c.args.ends.bounds.now in
+    let endpoints = c.args.ends.endpoints.now in
     gathering_more
     c.requires.gatherable
     (part_at bounds endpoints)
     (parts-length _ bounds endpoints)
     (parts-at _ bounds endpoints)
     c.loop-color.color
-    c.loop-color-test.true
+    (omega arith)
     c.loop-color.invariant
-    (rw c.between-members.ensures at c.list_bodies-end.ensures)
+    (rw c.group-members.ensures at c.list_bodies-end.ensures)
     c.list_bodies-end.auto.body_stamps
     c.list_bodies-end.auto.scratch_offsets
     c.list_bodies-end.auto.color_bodies

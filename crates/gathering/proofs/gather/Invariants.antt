@@ -1,12 +1,9 @@
 -- `gather`: the groups before `color` are listed, with their starts, and no stamp is above `color`. The constraints are parts of the
 -- endpoint list.
-use Rattle.std.proofs.Common.{◌-◌, length}
+use Rattle.std.proofs.Common.{length}
 use Rattle.parts.specs.Parts.{parts_at}
 use Rattle.gathering.proofs.Groups.{Gathering}
 use Rattle.gathering.proofs.gather.Given as goal
 
 abbrev pub invariant-loop-color : goal.invariant-loop-color
-invariant-loop-color l = Gathering l.body_count (parts_at (length l.constraint_colors) l.bounds l.endpoints) l.constraint_colors l.color_count l.initial.scratch_offsets l.initial.color_body_offsets l.initial.color_bodies l.body_stamps l.scratch_offsets l.color_body_offsets l.color_bodies l.end l.color
-
-abbrev pub decreases-loop-color : goal.decreases-loop-color
-decreases-loop-color l = l.color_count - l.color
+invariant-loop-color l = Gathering l.body_count (parts_at (length l.constraint_colors) l.ends.bounds.now l.ends.endpoints.now) l.constraint_colors l.color_count l.initial.scratch_offsets l.initial.color_body_offsets l.initial.color_bodies l.body_stamps l.scratch_offsets l.color_body_offsets l.color_bodies l.end l.color

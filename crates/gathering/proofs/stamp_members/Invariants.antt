@@ -1,12 +1,9 @@
--- `stamp_members`: the endpoints of the first i members are stamped and counted; those of the next are a part of the table.
-use Rattle.std.proofs.Common.{◌-◌, ◌≤◌, length, take}
+-- `stamp_members`: the endpoints of the members passed are stamped and counted; those of the next are a part of the table.
+use Rattle.std.proofs.Common.{take}
 use Rattle.lists.specs.Basics.{join_map}
 use Rattle.parts.specs.Parts.{part_at}
 use Rattle.gathering.specs.Gathers.{Counted}
 use Rattle.gathering.proofs.stamp_members.Given as goal
 
-abbrev pub invariant-loop-i : goal.invariant-loop-i
-invariant-loop-i l = (l.i ≤ length l.members) × Counted l.stamp (join_map (part_at l.bounds l.endpoints) (take l.i l.members)) 0 l.initial.body_stamps l.body_stamps l.count
-
-abbrev pub decreases-loop-i : goal.decreases-loop-i
-decreases-loop-i l = length l.members - l.i
+abbrev pub invariant-loop-member : goal.invariant-loop-member
+invariant-loop-member l = Counted l.stamp (join_map (part_at l.ends.bounds.now l.ends.endpoints.now) (take l.member-index l.members)) 0 l.initial.body_stamps l.body_stamps l.count

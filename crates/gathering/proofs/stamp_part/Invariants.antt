@@ -1,10 +1,7 @@
--- `stamp_part`: the first i bodies are stamped and counted.
-use Rattle.std.proofs.Common.{◌-◌, ◌≤◌, length, take}
+-- `stamp_part`: the bodies passed are stamped and counted.
+use Rattle.std.proofs.Common.{take}
 use Rattle.gathering.specs.Gathers.{Counted}
 use Rattle.gathering.proofs.stamp_part.Given as goal
 
-abbrev pub invariant-loop-i : goal.invariant-loop-i
-invariant-loop-i l = (l.i ≤ length l.bodies) × Counted l.stamp (take l.i l.bodies) 0 l.initial.body_stamps l.body_stamps l.count
-
-abbrev pub decreases-loop-i : goal.decreases-loop-i
-decreases-loop-i l = length l.bodies - l.i
+abbrev pub invariant-loop-body : goal.invariant-loop-body
+invariant-loop-body l = Counted l.stamp (take l.body-index l.bodies) 0 l.initial.body_stamps l.body_stamps l.count

@@ -1,5 +1,6 @@
--- The largest of the parts passed; no bound is above the next, so no difference is below 0.
-use Rattle.std.proofs.Common.{ℕ, suc, ◌-◌, ◌≤◌, ◌≡◌, List, length, get_or}
+-- The largest of the parts passed; no bound is above the next, so no difference is below 0. What the iterator has left are the last bounds.
+use Rattle.std.proofs.Common.{ℕ, suc, ◌-◌, ◌≤◌, ◌≡◌, List, length, get_or, drop}
+use Rattle.std.specs.Slice.Iter.{windows_rest, windows_size}
 use Rattle.lists.specs.Basics.{max_of, range}
 use Rattle.parts.proofs.largest_part.Given as goal
 
@@ -7,8 +8,13 @@ use Rattle.parts.proofs.largest_part.Given as goal
 abbrev pub width : List ℕ → ℕ → ℕ
 width bounds k = get_or bounds (suc k) 0 - get_or bounds k 0
 
-abbrev pub invariant-loop-end : goal.invariant-loop-end
-invariant-loop-end l = (1 ≤ l.end) × (l.end - 1 ≤ length l.bounds - 1) × (l.largest ≡ max_of (width l.bounds) (range (l.end - 1)))
+-- of the bounds, `rest` are left, and the parts before them are passed
+pub record Passed (bounds rest : List ℕ) (size largest : ℕ) : Type 0 where
+  pub two : size ≡ 2
+  pub short : length rest ≤ length bounds
+  pub last : length bounds - length rest ≤ length bounds - 1
+  pub left : rest ≡ drop (length bounds - length rest) bounds
+  pub largest_is : largest ≡ max_of (width bounds) (range (length bounds - length rest))
 
-abbrev pub decreases-loop-end : goal.decreases-loop-end
-decreases-loop-end l = length l.bounds - l.end
+abbrev pub invariant-loop-pair : goal.invariant-loop-pair
+invariant-loop-pair l = Passed l.bounds (windows_rest l.pair-iterator) (windows_size l.pair-iterator) l.largest
