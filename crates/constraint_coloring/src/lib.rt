@@ -1,21 +1,23 @@
 // Conflict-free groups of constraints (constraint_coloring.rs): the plan that an update builds, and the lookups in it.
 #![tactic(auto)]
 
-ghost use Rattle.std.specs.Prelude.{◌≡◌, ◌≤◌, [], length};
-ghost use Rattle.lists.specs.Basics.{one, over};
-ghost use Rattle.groups.specs.Groups.{group_count, plan_from};
+ghost use Rattle.std.specs.Prelude.{◌≡◌, ◌≤◌, ◌+◌, ◌*◌, [], length};
+ghost use Rattle.lists.specs.Basics.{over};
+ghost use Rattle.groups.specs.Groups.{group_count, plan_from, pair_at};
 ghost use Rattle.parts.specs.Parts.{parts_at, Bounded};
 ghost use Rattle.parts.specs.Steps.{Gapless};
 ghost use Rattle.gathering.specs.Gathers.{Gatherable};
 ghost use Rattle.plan_questions.specs.Plans.{tables_of, group_part};
+ghost use Rattle.plan_questions.specs.Lent.{tables_in, SameTables};
 ghost use Rattle.constraint_coloring.specs.Calls.{update_number, update_changed, plan_after, fresh_plan, Updated, Located};
 ghost use Rattle.constraint_coloring.specs.Stages.{Scheduled, Buildable, Rebuilt};
 
-use frame::Frame;
+use frame::{Frame, Refusal};
 use parts::{Ends, Grouped};
+use plan_questions::{PlanTables, ask};
 
 // What a plan carries by value; the rest stands in the tables that its caller lends.
-#[derive(Clone, Copy)]
+#[derive(Clone, Copy, Debug, PartialEq, Eq)]
 pub struct ConstraintColoring {
     pub body_count: usize,
     pub constraint_count: usize,
@@ -23,62 +25,60 @@ pub struct ConstraintColoring {
     pub max_color_constraint_count: usize,
 }
 
-// The answer of an update: "changed" with the plan, "unchanged", or the number of the first question that got a "no".
-#[derive(Clone, Copy)]
-pub enum Update {
-    Changed(ConstraintColoring),
+// The answer of an update: "changed" with the plan, "unchanged", or the first question that got a "no".
+#[derive(Clone, Copy, Debug, PartialEq, Eq)]
+pub enum Update<P> {
+    Changed(P),
     Unchanged,
-    Refused(u8),
+    Refused(Refusal),
 }
 
-// What an update answered: the refusal or 0, 1 if it changed the plan, and the plan after it.
-pub fn refusal_of(answer: Update) -> u8
-    ensures { result ≡ update_number answer }
-{
-    match answer {
-        Update::Changed(_) => 0,
-        Update::Unchanged => 0,
-        Update::Refused(n) => n,
+impl<P: Copy> Update<P> {
+    // The number of the refusal, or 0.
+    pub fn refusal(self) -> u8
+        ensures { result ≡ update_number self }
+    {
+        match self {
+            Update::Refused(refusal) => refusal.number(),
+            _ => 0,
+        }
+    }
+
+    // Whether the plan changed.
+    pub fn is_changed(self) -> bool
+        ensures { result ≡ update_changed self }
+    {
+        match self {
+            Update::Changed(_) => true,
+            _ => false,
+        }
+    }
+
+    // The plan after the update of the plan `before`.
+    pub fn plan_after(self, before: P) -> P
+        ensures { result ≡ plan_after before self }
+    {
+        match self {
+            Update::Changed(changed) => changed,
+            _ => before,
+        }
     }
 }
 
-pub fn is_changed(answer: Update) -> u8
-    ensures { result ≡ one (update_changed answer) }
-{
-    match answer {
-        Update::Changed(_) => 1,
-        Update::Unchanged => 0,
-        Update::Refused(_) => 0,
-    }
-}
-
-pub fn plan_after(plan: ConstraintColoring, answer: Update) -> ConstraintColoring
-    ensures { result ≡ plan_after plan answer }
-{
-    match answer {
-        Update::Changed(changed) => changed,
-        Update::Unchanged => plan,
-        Update::Refused(_) => plan,
-    }
-}
-
-// The answer of a lookup of positions: a's, then b's; or the number of the first question that got a "no".
-#[derive(Clone, Copy)]
-pub enum Positions {
-    At(u16, u16),
-    Refused(u8),
-}
-
-// Bytes, as flags or counts, over the first places of a table.
-pub fn copy_flags(from: &[u8], to: &mut [u8])
+// A list over the first places of a table.
+pub fn copy_over<T: Copy>(from: &[T], to: &mut [T])
     requires { length from.now ≤ length to.old }
     ensures { to.new ≡ over from.now to.old }
 {
-    let mut body = 0;
-    while body < from.len() {
-        to[body] = from[body];
-        body += 1;
-    }
+    to[..from.len()].copy_from_slice(from);
+}
+
+// The two places of a pair.
+fn pair_of(table: &[u16], pair: usize) -> &[u16]
+    requires { 2 * pair + 2 ≤ length table.now }
+    ensures { result.now ≡ pair_at table.now pair }
+{
+    &table[2 * pair..2 * pair + 2]
 }
 
 // The bodies of all groups and the positions of all constraints, whatever the number of their bodies.
@@ -168,8 +168,8 @@ pub fn build_plan(
         colored_constraints.new color_body_offsets.new color_bodies.new constraint_body_positions.new) result }
 {
     let body_count = flags.len();
-    copy_flags(flags, dynamic_bodies);
-    tables::copy(ends, ends.len(), endpoints);
+    copy_over(flags, dynamic_bodies);
+    copy_over(ends, endpoints);
     let color_count = coloring::color_constraints(
         flags,
         Ends {
@@ -198,9 +198,9 @@ pub fn build_plan(
     );
     let largest = parts::largest_part(&color_offsets[..color_count + 1]);
     ConstraintColoring {
-        body_count: body_count,
-        constraint_count: constraint_count,
-        color_count: color_count,
+        body_count,
+        constraint_count,
+        color_count,
         max_color_constraint_count: largest,
     }
 }
@@ -219,63 +219,16 @@ impl ConstraintColoring {
     }
 
     // Questions 3 to 7; then equal input is "unchanged" and writes nothing, and other input is remembered and its plan built.
-    pub fn update(
-        self,
-        flags: &[u8],
-        pairs: &[u16],
-        dynamic_bodies: &mut [u8],
-        endpoints: &mut [u16],
-        body_offsets: &mut [u16],
-        body_constraints: &mut [u16],
-        scratch_offsets: &mut [u16],
-        constraint_colors: &mut [u16],
-        color_stamps: &mut [u16],
-        body_stamps: &mut [u16],
-        color_offsets: &mut [u16],
-        colored_constraints: &mut [u16],
-        color_body_offsets: &mut [u16],
-        color_bodies: &mut [u16],
-        constraint_body_positions: &mut [u16],
-    ) -> Update
-        ensures { Updated self flags.now pairs.now
-            (tables_of dynamic_bodies.old endpoints.old body_offsets.old
-            body_constraints.old scratch_offsets.old constraint_colors.old
-            color_stamps.old body_stamps.old color_offsets.old
-            colored_constraints.old color_body_offsets.old color_bodies.old constraint_body_positions.old)
-            (tables_of dynamic_bodies.new endpoints.new body_offsets.new
-            body_constraints.new scratch_offsets.new constraint_colors.new
-            color_stamps.new body_stamps.new color_offsets.new
-            colored_constraints.new color_body_offsets.new color_bodies.new constraint_body_positions.new) result }
+    pub fn update(self, flags: &[u8], pairs: &[u16], tables: &mut PlanTables<'_>) -> Update<Self>
+        ensures updated { Updated self flags.now pairs.now (tables_in tables.old) (tables_in tables.new) result }
+        ensures same_tables { SameTables tables.old tables.new }
     {
-        let room = plan_questions::roomy(
-            flags.len(),
-            pairs.len() / 2,
-            dynamic_bodies.len(),
-            endpoints.len(),
-            body_offsets.len(),
-            body_constraints.len(),
-            scratch_offsets.len(),
-            constraint_colors.len(),
-            color_stamps.len(),
-            body_stamps.len(),
-            color_offsets.len(),
-            colored_constraints.len(),
-            color_body_offsets.len(),
-            color_bodies.len(),
-            constraint_body_positions.len(),
-        );
-        let refusal = plan_questions::update_refusal(flags, pairs, room);
-        if refusal != 0 {
-            return Update::Refused(refusal);
+        let room = tables.has_room_for_pairs(flags.len(), pairs.len() / 2);
+        match plan_questions::ask_update(flags, pairs, room) {
+            Err(refusal) => return Update::Refused(refusal),
+            Ok(()) => {}
         }
-        if plan_questions::remembers(
-            self.body_count,
-            self.constraint_count,
-            flags,
-            pairs,
-            dynamic_bodies,
-            endpoints,
-        ) {
+        if tables.hold(self.body_count, self.constraint_count, flags, pairs) {
             return Update::Unchanged;
         }
         Update::Changed(build_plan(
@@ -283,16 +236,16 @@ impl ConstraintColoring {
             pairs,
             &[],
             pairs.len() / 2,
-            dynamic_bodies,
-            endpoints,
-            scratch_offsets,
-            constraint_colors,
-            body_stamps,
-            color_offsets,
-            colored_constraints,
-            color_body_offsets,
-            color_bodies,
-            constraint_body_positions,
+            tables.dynamic_bodies,
+            tables.endpoints,
+            tables.scratch_offsets,
+            tables.constraint_colors,
+            tables.body_stamps,
+            tables.color_offsets,
+            tables.colored_constraints,
+            tables.color_body_offsets,
+            tables.color_bodies,
+            tables.constraint_body_positions,
         ))
     }
 
@@ -320,26 +273,21 @@ impl ConstraintColoring {
         plan_questions::group_part(self.color_count, color_body_offsets, color_bodies, group)
     }
 
-    // The positions of a constraint among its group's bodies: questions 3, 6 and 12.
-    pub fn body_positions_for_constraint(
+    // The positions of a constraint among its group's bodies, which are two places of the table: questions 3, 6 and 12.
+    #[tactic(auto, unfolding(plan_questions::specs::Plans::positions_refusal))]
+    pub fn body_positions_for_constraint<'a>(
         self,
-        constraint_body_positions: &[u16],
+        constraint_body_positions: &'a [u16],
         constraint: usize,
-    ) -> Positions
+    ) -> Result<&'a [u16], Refusal>
         ensures { Located self.constraint_count constraint_body_positions.now constraint result }
     {
-        if Frame::MAX_PAIRS < self.constraint_count {
-            return Positions::Refused(3);
-        }
-        if constraint_body_positions.len() < 2 * self.constraint_count {
-            return Positions::Refused(6);
-        }
-        if self.constraint_count <= constraint {
-            return Positions::Refused(12);
-        }
-        Positions::At(
-            constraint_body_positions[2 * constraint],
-            constraint_body_positions[2 * constraint + 1],
-        )
+        ask(self.constraint_count <= Frame::MAX_PAIRS, Refusal::TooMany)?;
+        ask(
+            2 * self.constraint_count <= constraint_body_positions.len(),
+            Refusal::Room,
+        )?;
+        ask(constraint < self.constraint_count, Refusal::NoConstraint)?;
+        Ok(pair_of(constraint_body_positions, constraint))
     }
 }

@@ -1,192 +1,172 @@
-// What an update and the lookups of a plan ask, internal but for `roomy`: room, questions 3 to 7, whether the input is the
-// remembered one, and the part of a group.
+// What an update and the lookups of a plan ask, internal but for the tables and their room: the thirteen lent tables and room in them, the
+// questions of an update, whether the input is the remembered one, and the part of a group.
 #![tactic(auto)]
 
-ghost use Rattle.std.specs.Prelude.{◌≡◌, ◌&&◌, ◌+◌, ◌*◌, ◌/◌, ◌≤◌, leb, eqb, length, take};
+ghost use Rattle.std.specs.Prelude.{◌≡◌, ◌&&◌, ◌*◌, ◌/◌, true, false, eqb, length, take, MatchResult};
 ghost use Rattle.lists.specs.Basics.{same};
-ghost use Rattle.plan_questions.specs.Plans.{update_refusal, part, group_part};
+ghost use Rattle.frame.specs.Refusals.{refused_by};
+ghost use Rattle.plan_questions.specs.Plans.{roomy, roomy_with, update_refusal, part, group_part};
+ghost use Rattle.plan_questions.specs.Lent.{tables_in, lengths_of, room_in};
 
-use frame::Frame;
+use frame::{Frame, Refusal};
 
-// Question 6: is there room for `b` bodies, `c` constraints and `e` endpoints in tables of these lengths?
-pub fn roomy_with(
-    b: usize,
-    c: usize,
-    e: usize,
-    dynamic_bodies: usize,
-    endpoints: usize,
-    body_offsets: usize,
-    body_constraints: usize,
-    scratch_offsets: usize,
-    constraint_colors: usize,
-    color_stamps: usize,
-    body_stamps: usize,
-    color_offsets: usize,
-    colored_constraints: usize,
-    color_body_offsets: usize,
-    color_bodies: usize,
-    constraint_body_positions: usize,
-) -> bool
-    ensures { result ≡ (leb b dynamic_bodies && leb e endpoints && leb (b + 1) body_offsets
-        && leb e body_constraints && leb b scratch_offsets && leb c scratch_offsets
-        && leb c constraint_colors && leb c color_stamps && leb b body_stamps
-        && leb (c + 1) color_offsets && leb c colored_constraints && leb (c + 1) color_body_offsets
-        && leb e color_bodies && leb e constraint_body_positions) }
-{
-    (b <= dynamic_bodies)
-        & (e <= endpoints)
-        & (b < body_offsets)
-        & (e <= body_constraints)
-        & (b <= scratch_offsets)
-        & (c <= scratch_offsets)
-        & (c <= constraint_colors)
-        & (c <= color_stamps)
-        & (b <= body_stamps)
-        & (c < color_offsets)
-        & (c <= colored_constraints)
-        & (c < color_body_offsets)
-        & (e <= color_bodies)
-        & (e <= constraint_body_positions)
+// The thirteen tables of a plan, as its caller lends them.
+#[derive(Drop)]
+pub struct PlanTables<'a> {
+    pub dynamic_bodies: &'a mut [u8],
+    pub endpoints: &'a mut [u16],
+    pub body_offsets: &'a mut [u16],
+    pub body_constraints: &'a mut [u16],
+    pub scratch_offsets: &'a mut [u16],
+    pub constraint_colors: &'a mut [u16],
+    pub color_stamps: &'a mut [u16],
+    pub body_stamps: &'a mut [u16],
+    pub color_offsets: &'a mut [u16],
+    pub colored_constraints: &'a mut [u16],
+    pub color_body_offsets: &'a mut [u16],
+    pub color_bodies: &'a mut [u16],
+    pub constraint_body_positions: &'a mut [u16],
 }
 
-// The same where each constraint has two endpoints; the first test keeps their number from running over.
-pub fn roomy(
-    b: usize,
-    c: usize,
-    dynamic_bodies: usize,
-    endpoints: usize,
-    body_offsets: usize,
-    body_constraints: usize,
-    scratch_offsets: usize,
-    constraint_colors: usize,
-    color_stamps: usize,
-    body_stamps: usize,
-    color_offsets: usize,
-    colored_constraints: usize,
-    color_body_offsets: usize,
-    color_bodies: usize,
-    constraint_body_positions: usize,
-) -> bool
-    ensures { result ≡ (leb b dynamic_bodies && leb (2 * c) endpoints && leb (b + 1) body_offsets
-        && leb (2 * c) body_constraints && leb b scratch_offsets && leb c scratch_offsets
-        && leb c constraint_colors && leb c color_stamps && leb b body_stamps
-        && leb (c + 1) color_offsets && leb c colored_constraints && leb (c + 1) color_body_offsets
-        && leb (2 * c) color_bodies && leb (2 * c) constraint_body_positions) }
-{
-    if endpoints / 2 < c {
-        return false;
+// How long they are.
+#[derive(Clone, Copy, Debug, PartialEq, Eq)]
+pub struct PlanLengths {
+    pub dynamic_bodies: usize,
+    pub endpoints: usize,
+    pub body_offsets: usize,
+    pub body_constraints: usize,
+    pub scratch_offsets: usize,
+    pub constraint_colors: usize,
+    pub color_stamps: usize,
+    pub body_stamps: usize,
+    pub color_offsets: usize,
+    pub colored_constraints: usize,
+    pub color_body_offsets: usize,
+    pub color_bodies: usize,
+    pub constraint_body_positions: usize,
+}
+
+impl PlanLengths {
+    // Question 6: is there room for `b` bodies, `c` constraints and `e` endpoints?
+    pub fn has_room_for(self, b: usize, c: usize, e: usize) -> bool
+        ensures { result ≡ room_in b c e self }
+    {
+        (b <= self.dynamic_bodies)
+            & (e <= self.endpoints)
+            & (b < self.body_offsets)
+            & (e <= self.body_constraints)
+            & (b <= self.scratch_offsets)
+            & (c <= self.scratch_offsets)
+            & (c <= self.constraint_colors)
+            & (c <= self.color_stamps)
+            & (b <= self.body_stamps)
+            & (c < self.color_offsets)
+            & (c <= self.colored_constraints)
+            & (c < self.color_body_offsets)
+            & (e <= self.color_bodies)
+            & (e <= self.constraint_body_positions)
     }
-    roomy_with(
-        b,
-        c,
-        2 * c,
-        dynamic_bodies,
-        endpoints,
-        body_offsets,
-        body_constraints,
-        scratch_offsets,
-        constraint_colors,
-        color_stamps,
-        body_stamps,
-        color_offsets,
-        colored_constraints,
-        color_body_offsets,
-        color_bodies,
-        constraint_body_positions,
+
+    // The same where each constraint has two endpoints; the first test keeps their number from running over.
+    pub fn has_room_for_pairs(self, b: usize, c: usize) -> bool
+        ensures { result ≡ room_in b c (2 * c) self }
+    {
+        (c <= self.endpoints / 2) && self.has_room_for(b, c, 2 * c)
+    }
+}
+
+impl<'a> PlanTables<'a> {
+    // How long the tables are.
+    pub fn lengths(&self) -> PlanLengths
+        ensures { result ≡ lengths_of (tables_in self.now) }
+    {
+        PlanLengths {
+            dynamic_bodies: self.dynamic_bodies.len(),
+            endpoints: self.endpoints.len(),
+            body_offsets: self.body_offsets.len(),
+            body_constraints: self.body_constraints.len(),
+            scratch_offsets: self.scratch_offsets.len(),
+            constraint_colors: self.constraint_colors.len(),
+            color_stamps: self.color_stamps.len(),
+            body_stamps: self.body_stamps.len(),
+            color_offsets: self.color_offsets.len(),
+            colored_constraints: self.colored_constraints.len(),
+            color_body_offsets: self.color_body_offsets.len(),
+            color_bodies: self.color_bodies.len(),
+            constraint_body_positions: self.constraint_body_positions.len(),
+        }
+    }
+
+    // Question 6: is there room for so many bodies, constraints and endpoints?
+    #[tactic(auto, unfolding(crate::specs::Plans::roomy_with))]
+    pub fn has_room_for(&self, bodies: usize, constraints: usize, endpoints: usize) -> bool
+        ensures { result ≡ roomy_with bodies constraints endpoints (tables_in self.now) }
+    {
+        self.lengths().has_room_for(bodies, constraints, endpoints)
+    }
+
+    // The same where each constraint has two endpoints.
+    #[tactic(auto, unfolding(crate::specs::Plans::roomy_with))]
+    pub fn has_room_for_pairs(&self, bodies: usize, pairs: usize) -> bool
+        ensures { result ≡ roomy bodies pairs (tables_in self.now) }
+    {
+        self.lengths().has_room_for_pairs(bodies, pairs)
+    }
+
+    // Whether a plan of these counts, with its tables of flags and pairs, holds exactly this input.
+    pub fn hold(
+        &self,
+        body_count: usize,
+        constraint_count: usize,
+        flags: &[u8],
+        pairs: &[u16],
+    ) -> bool
+        ensures { result ≡ (eqb (length flags.now) body_count && eqb (length pairs.now / 2) constraint_count
+            && same flags.now (take (length flags.now) self.now.dynamic_bodies.now)
+            && same pairs.now (take (length pairs.now) self.now.endpoints.now)) }
+    {
+        (flags.len() == body_count)
+            && (pairs.len() / 2 == constraint_count)
+            && self.dynamic_bodies.starts_with(flags)
+            && self.endpoints.starts_with(pairs)
+    }
+}
+
+// A question: the refusal if its answer is "no".
+pub fn ask(yes: bool, refusal: Refusal) -> Result<(), Refusal>
+    ensures { MatchResult result (λ _. yes ≡ true) (λ r. (yes ≡ false) × (r ≡ refusal)) }
+{
+    if !yes {
+        return Err(refusal);
+    }
+    Ok(())
+}
+
+// Questions 3 to 7, where `room` answers 6.
+#[tactic(auto, using(crate::proofs::Questions::sound_pairs), unfolding(crate::specs::Plans::update_refusal))]
+pub fn ask_update(flags: &[u8], pairs: &[u16], room: bool) -> Result<(), Refusal>
+    ensures { refused_by result ≡ update_refusal flags.now pairs.now room }
+{
+    let few = (flags.len() <= Frame::MAX_BODIES) & (pairs.len() / 2 <= Frame::MAX_PAIRS);
+    ask(few, Refusal::TooMany)?;
+    ask(pairs.len() % 2 == 0, Refusal::Lengths)?;
+    ask(frame::at_most(flags, 1), Refusal::Values)?;
+    ask(room, Refusal::Room)?;
+    ask(
+        frame::all_sound(flags.len(), pairs, &[]),
+        Refusal::Endpoints,
     )
-}
-
-// Questions 3 to 7, where `room` answers 6; 0 where all get a "yes".
-pub fn update_refusal(flags: &[u8], pairs: &[u16], room: bool) -> u8
-    ensures { result ≡ update_refusal flags.now pairs.now room }
-{
-    if !((flags.len() <= Frame::MAX_BODIES) & (pairs.len() / 2 <= Frame::MAX_PAIRS)) {
-        return 3;
-    }
-    if pairs.len() % 2 != 0 {
-        return 4;
-    }
-    if !frame::at_most(flags, 1) {
-        return 5;
-    }
-    if !room {
-        return 6;
-    }
-    if !frame::all_sound(flags.len(), pairs, &[]) {
-        return 7;
-    }
-    0
-}
-
-// Whether two lists of flags are the same, place by place.
-pub fn same_flags(a: &[u8], b: &[u8]) -> bool
-    requires { length b.now ≡ length a.now }
-    ensures { result ≡ same a.now b.now }
-{
-    let mut body = 0;
-    // The flags passed are the same.
-    while body < a.len() {
-        if a[body] != b[body] {
-            return false;
-        }
-        body += 1;
-    }
-    true
-}
-
-// The same of endpoints.
-pub fn same_pairs(a: &[u16], b: &[u16]) -> bool
-    requires { length b.now ≡ length a.now }
-    ensures { result ≡ same a.now b.now }
-{
-    let mut entry = 0;
-    // The entries passed are the same.
-    while entry < a.len() {
-        if a[entry] != b[entry] {
-            return false;
-        }
-        entry += 1;
-    }
-    true
-}
-
-// Internal: whether a plan of these counts, with its tables of flags and pairs, holds exactly this input.
-pub fn remembers(
-    body_count: usize,
-    constraint_count: usize,
-    flags: &[u8],
-    pairs: &[u16],
-    dynamic_bodies: &[u8],
-    endpoints: &[u16],
-) -> bool
-    requires { (length flags.now ≤ length dynamic_bodies.now) × (length pairs.now ≤ length endpoints.now) }
-    ensures { result ≡ (eqb (length flags.now) body_count && eqb (length pairs.now / 2) constraint_count
-        && same flags.now (take (length flags.now) dynamic_bodies.now)
-        && same pairs.now (take (length pairs.now) endpoints.now)) }
-{
-    if flags.len() != body_count {
-        return false;
-    }
-    if pairs.len() / 2 != constraint_count {
-        return false;
-    }
-    if !same_flags(flags, &dynamic_bodies[..flags.len()]) {
-        return false;
-    }
-    same_pairs(pairs, &endpoints[..pairs.len()])
 }
 
 // The part of a table from `start` to `end`; empty if these don't lie in order inside it.
 fn part_of<'a>(table: &'a [u16], start: usize, end: usize) -> &'a [u16]
     ensures { result.now ≡ part start end table.now }
 {
-    if (start <= end) & (end <= table.len()) {
-        return &table[start..end];
-    }
-    &table[0..0]
+    table.get(start..end).unwrap_or(&[])
 }
 
 // The part of a group; empty if there is no such group or its offsets are missing.
+#[tactic(auto, unfolding(crate::specs::Plans::group_part))]
 pub fn group_part<'a>(
     color_count: usize,
     offsets: &[u16],
@@ -195,11 +175,12 @@ pub fn group_part<'a>(
 ) -> &'a [u16]
     ensures { result.now ≡ group_part color_count offsets.now table.now group }
 {
-    if color_count <= group {
-        return &table[0..0];
+    match offsets.get(group..) {
+        Some([start, end, ..]) if group < color_count => part_of(
+            table,
+            *start as usize,
+            *end as usize,
+        ),
+        _ => &[],
     }
-    if offsets.len() <= group + 1 {
-        return &table[0..0];
-    }
-    part_of(table, offsets[group] as usize, offsets[group + 1] as usize)
 }

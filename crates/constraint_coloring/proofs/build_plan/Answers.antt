@@ -8,7 +8,7 @@ use Rattle.parts.proofs.Groups.{offsets_rise}
 use Rattle.coloring.specs.Coloring.{Colored}
 use Rattle.plan_questions.specs.Plans.{tables_of}
 use Rattle.constraint_coloring.specs.Stages.{Buildable}
-use Rattle.constraint_coloring.proofs.Tables.{copy_over, front_over, part-over}
+use Rattle.constraint_coloring.proofs.Tables.{front_over, part-over}
 use Rattle.constraint_coloring.proofs.Updates.{written_new, free_new}
 use Rattle.constraint_coloring.proofs.Rebuilds.{largest_is, starts_front, promised, ready, groups_few, gatherable, plan_is, colors_planned, starts_planned, constraints_planned, body-starts_planned, bodies_planned, positions_planned}
 use Rattle.constraint_coloring.proofs.build_plan.Goals as goal
@@ -140,8 +140,8 @@ returns c =
     record {
       plan = plan_is (o p) k c.largest_part-largest.result q.count_is (c.largest_part-largest.ensures ∙ ap widest (starts_are p) ∙ largest_is (promised (o p)) k q.count_is);
       tables = record {
-        dynamic_bodies = written_new _ _ _ c.copy_flags.ensures;
-        endpoints = written_new _ _ _ (copy_over c.args.ends.now c.args.endpoints.now _ c.copy.ensures);
+        dynamic_bodies = written_new _ _ _ c.copy_over.ensures;
+        endpoints = written_new _ _ _ c.copy_over-2.ensures;
         body_offsets = free_new refl;
         body_constraints = free_new refl;
         scratch_offsets = free_new (c.list_groups.auto.scratch_offsets ∙ c.color_constraints-color_count.auto.remaining);
