@@ -6,7 +6,7 @@ use Rattle.frame.specs.Questions.{pair_count}
 use Rattle.frame_file.specs.Written.{half_bytes, word_bytes, file_length, header_bytes, pair_bytes, joint_bytes, file_of, Writable}
 use Rattle.frame_file.proofs.Decoded.{pair_bytes_long, joint_bytes_long}
 
-header_long : (b m j : ℕ) → length (header_bytes b m j) ≡ 11
+pub header_long : (b m j : ℕ) → length (header_bytes b m j) ≡ 11
 unfolding header_bytes word_bytes half_bytes
 header_long b m j = refl
 

@@ -1,66 +1,81 @@
-// Writing a frame in the file form, part by part where the file is to stand: the header, a pair of endpoints, and an enabled byte.
-// The caller has room. Internal: what `generate` writes with. The whole file is `file_of` in specs/Written; proofs/Whole says that
-// the parts, each behind the one before, are the file, and proofs/Decoded that reading it gives the frame back.
+// Writing a frame in the file form, part by part and one behind another: the header, and a pair of endpoints. The caller has room.
+// Internal: what `generate` writes with. The whole file is `file_of` in specs/Written; proofs/Whole says that the parts, each behind the
+// one before, are the file, and proofs/Decoded that reading it gives the frame back.
 #![tactic(auto)]
 
 ghost use Rattle.std.specs.Prelude.{◌≡◌, true, ◌∷◌, [], ◌+◌, ◌≤◌, ◌<◌, length};
-ghost use Rattle.lists.specs.Basics.{put};
 ghost use Rattle.frame.specs.Questions.{few_each};
 ghost use Rattle.frame_file.specs.Written.{half_bytes, word_bytes, file_length, header_bytes, pair_bytes};
+ghost use Rattle.writer.specs.Wrote.{Wrote};
 
 use frame::{HEADER, JOINT, PAIR};
+use writer::Writer;
 
-// A 16-bit number at a place, the upper byte first.
-fn put_half(out: &mut [u8], at: usize, n: usize)
-    requires { (at + 2 ≤ length out.old) × (n < 65536) }
-    ensures { out.new ≡ put at (half_bytes n) out.old }
-{
-    out[at] = (n / 256) as u8;
-    out[at + 1] = (n % 256) as u8;
+// How many bodies, manifolds and joints a frame has.
+#[derive(Clone, Copy, Debug, PartialEq, Eq)]
+pub struct Sizes {
+    pub bodies: usize,
+    pub manifolds: usize,
+    pub joints: usize,
 }
 
-// A 32-bit number at a place, the upper byte first.
-fn put_word(out: &mut [u8], at: usize, n: usize)
-    requires { (at + 4 ≤ length out.old) × (n < 4294967296) }
-    ensures { out.new ≡ put at (word_bytes n) out.old }
-{
-    put_half(out, at, n / 65536);
-    put_half(out, at + 2, n % 65536);
+impl Sizes {
+    // Is each within its limit?
+    pub fn are_few(self) -> bool
+        ensures { result ≡ few_each self.bodies self.manifolds self.joints }
+    {
+        frame::few_each(self.bodies, self.manifolds, self.joints)
+    }
+
+    // How long the file is.
+    pub fn file_length(self) -> usize
+        requires { few_each self.bodies self.manifolds self.joints ≡ true }
+        ensures { result ≡ file_length self.bodies self.manifolds self.joints }
+    {
+        HEADER + self.bodies + PAIR * self.manifolds + JOINT * self.joints
+    }
 }
 
-// The endpoints of a constraint at a place.
-pub fn put_pair(out: &mut [u8], at: usize, a: usize, b: usize)
-    requires { (at + 4 ≤ length out.old) × (a < 65536) × (b < 65536) }
-    ensures { out.new ≡ put at (pair_bytes (a ∷ b ∷ [])) out.old }
+// A number of 16 bits, the upper byte first.
+fn put_half(file: &mut Writer<'_>, n: usize)
+    requires room { file.old.at + 2 ≤ length file.old.out.now }
+    requires half { n < 65536 }
+    ensures { Wrote (half_bytes n) file.old file.new }
 {
-    put_half(out, at, a);
-    put_half(out, at + 2, b);
+    file.put_byte((n / 256) as u8);
+    file.put_byte((n % 256) as u8);
 }
 
-// The enabled byte of the joint at a place, behind its endpoints.
-pub fn put_enabled(out: &mut [u8], at: usize, enabled: u8)
-    requires { at + 5 ≤ length out.old }
-    ensures { out.new ≡ put (at + 4) (enabled ∷ []) out.old }
+// A number of 32 bits, the upper byte first.
+#[tactic(auto, unfolding(crate::specs::Written::half_bytes, crate::specs::Written::word_bytes))]
+fn put_whole(file: &mut Writer<'_>, n: usize)
+    requires room { file.old.at + 4 ≤ length file.old.out.now }
+    requires word { n < 4294967296 }
+    ensures { Wrote (word_bytes n) file.old file.new }
 {
-    out[at + PAIR] = enabled;
+    put_half(file, n / 65536);
+    put_half(file, n % 65536);
 }
 
-// How long the file is.
-pub fn file_length(bodies: usize, manifolds: usize, joints: usize) -> usize
-    requires { few_each bodies manifolds joints ≡ true }
-    ensures { result ≡ file_length bodies manifolds joints }
+// The endpoints of a constraint.
+#[tactic(auto, unfolding(crate::specs::Written::half_bytes, crate::specs::Written::word_bytes))]
+pub fn put_pair(file: &mut Writer<'_>, a: usize, b: usize)
+    requires { (file.old.at + 4 ≤ length file.old.out.now) × (a < 65536) × (b < 65536) }
+    ensures { Wrote (pair_bytes (a ∷ b ∷ [])) file.old file.new }
 {
-    HEADER + bodies + PAIR * manifolds + JOINT * joints
+    put_half(file, a);
+    put_half(file, b);
 }
 
-// The first 11 bytes: version, length of the rest, and how many bodies, manifolds and joints.
-pub fn put_header(out: &mut [u8], bodies: usize, manifolds: usize, joints: usize)
-    requires { (11 ≤ length out.old) × (few_each bodies manifolds joints ≡ true) }
-    ensures { out.new ≡ put 0 (header_bytes bodies manifolds joints) out.old }
+// The first 11 bytes: version, length of the rest, and the sizes.
+#[tactic(auto, unfolding(crate::specs::Written::half_bytes, crate::specs::Written::word_bytes))]
+pub fn put_header(file: &mut Writer<'_>, sizes: Sizes)
+    requires { (file.old.at + 11 ≤ length file.old.out.now) × (few_each sizes.bodies sizes.manifolds sizes.joints ≡ true) }
+    ensures { Wrote (header_bytes sizes.bodies sizes.manifolds sizes.joints) file.old file.new }
 {
-    out[0] = 1;
-    put_word(out, 1, file_length(bodies, manifolds, joints) - 5);
-    put_half(out, 5, bodies);
-    put_half(out, 7, manifolds);
-    put_half(out, 9, joints);
+    file.put_byte(1);
+    put_whole(file, sizes.file_length() - 5);
+    put_half(file, sizes.bodies);
+    put_half(file, sizes.manifolds);
+    put_half(file, sizes.joints);
 }

@@ -1,35 +1,33 @@
--- What the loops keep: after i turns the first i types, pairs or joints stand in the bytes, and the state is the one that they left.
-use Rattle.std.proofs.Common.{◌≡◌, ℕ, ◌+◌, ◌-◌, ◌*◌, ◌/◌, ◌%◌, ◌<◌, ◌≤◌, List, [], ◌∷◌, ◌++◌, length, set, sym, refl, ap, ◌∙◌, arith}
-use Rattle.lists.specs.Basics.{put}
-use Rattle.lists.proofs.Puts.{put-none, set-put, put_then}
+-- What the loops keep: after i turns the first i types, pairs or joints are written, and the state is the one that they left.
+use Rattle.std.proofs.Common.{◌≡◌, ℕ, ◌+◌, ◌-◌, ◌*◌, ◌/◌, ◌%◌, ◌≤◌, List, [], ◌∷◌, ◌++◌, length, sym, refl, ap, ◌∙◌, arith, length-append}
 use Rattle.lists.proofs.Ranges.{join_map-append}
 use Rattle.frame_file.specs.Written.{half_bytes, pair_bytes, joint_bytes}
 use Rattle.frame_file.proofs.Decoded.{pair_bytes_long, joint_bytes_long}
+use Rattle.writer.specs.declared.Writer.{Writer}
+use Rattle.writer.specs.Wrote.{Wrote}
+use Rattle.writer.proofs.Writes.{wrote_none, wrote_then}
 use Rattle.generator.specs.Draws.{next_state, state_after, draw, pair_drawn, types_drawn, pairs_drawn, enabled_drawn}
 use Rattle.generator.proofs.Draws.{state_turn, types_turn, types_long, pair_long, pairs_turn, pairs_long, enabled_long, joints_turn}
 
--- ---- after i turns, at d draws a turn: the bytes were `old` and are `out`, with `text i` from place `at` on
+-- ---- after i turns, at d draws a turn: `text i` is written
 
-pub record Drawn (d : ℕ) (text : ℕ → List ℕ) (at s i : ℕ) (old out : List ℕ) (state : ℕ) : Type 0 where
-  pub bytes : out ≡ put at (text i) old
+pub record Drawn (d : ℕ) (text : ℕ → List ℕ) (s i : ℕ) (old new : Writer) (state : ℕ) : Type 0 where
+  pub wrote : Wrote (text i) old new
   pub state_left : state ≡ state_after (d * i) s
 
-module _ (d size : ℕ) (text : ℕ → List ℕ) (at s : ℕ) (old : List ℕ) (none : text 0 ≡ []) (long : (n : ℕ) → length (text n) ≡ size * n) where
-  pub drawn_first : Drawn d text at s 0 old old s
-  unfolding state_after
-  drawn_first = record { bytes = sym (ap (λ (l : List ℕ). put at l old) none ∙ put-none at old); state_left = let e : 0 ≡ d * 0 = omega arith in ap (λ (n : ℕ). state_after n s) e }
+pub drawn_first : (d : ℕ) (text : ℕ → List ℕ) (s : ℕ) (old : Writer) → text 0 ≡ [] → Drawn d text s 0 old old s
+unfolding state_after
+drawn_first d text s old none = record {
+  wrote = rw none (wrote_none old);
+  state_left = let e : 0 ≡ d * 0 = omega arith in ap (λ (n : ℕ). state_after n s) e;
+}
 
-  module _ (i : ℕ) (out : List ℕ) (state : ℕ) (h : Drawn d text at s i old out state) where
-    -- one more: the piece stands behind
-    pub drawn_next : (piece new : List ℕ) (next : ℕ) → text (i + 1) ≡ text i ++ piece → new ≡ put (at + size * i) piece out → at + size * i + length piece ≤ length old → next ≡ state_after d state → Drawn d text at s (i + 1) old new next
-    drawn_next piece new next e f r g = record {
-      bytes = put_then at (text i) old out h.bytes piece new (at + size * i) (omega (arith, long i)) f r ∙ ap (λ (l : List ℕ). put at l old) (sym e);
-      state_left = state_turn d i s state next h.state_left g;
-    }
-
--- one byte more
-pub byte_next : (at i v : ℕ) (out : List ℕ) → at + i < length out → set out (at + i) v ≡ put (at + 1 * i) (v ∷ []) out
-byte_next at i v out h = let e : at + i ≡ at + 1 * i = omega arith in set-put (at + i) v out h ∙ ap (λ (k : ℕ). put k (v ∷ []) out) e
+-- one more: the piece stands behind
+pub drawn_next : {d : ℕ} {text : ℕ → List ℕ} {s i : ℕ} {old mid new : Writer} {state : ℕ} {piece : List ℕ} (next : ℕ) → Drawn d text s i old mid state → text (i + 1) ≡ text i ++ piece → Wrote piece mid new → old.at + length (text i) + length piece ≤ length old.out.now → next ≡ state_after d state → Drawn d text s (i + 1) old new next
+drawn_next {d} {text} {s} {i} {old} {mid} {new} {state} {piece} next h e f r g = record {
+  wrote = rw e (wrote_then h.wrote f r);
+  state_left = state_turn d i s state next h.state_left g;
+}
 
 pub one_step : (s n : ℕ) → n ≡ next_state s → n ≡ state_after 1 s
 unfolding state_after
@@ -104,11 +102,10 @@ pub joint_state : (s t n : ℕ) → t ≡ state_after 2 s → n ≡ next_state t
 unfolding state_after
 joint_state s t n et en = en ∙ ap next_state et
 
-module _ (at b s t n u : ℕ) (old mid new : List ℕ) (r : at + 5 ≤ length old) (et : t ≡ state_after 2 s) (en : n ≡ next_state t) (eu : u ≡ n / 65536)
-    (e : mid ≡ put at (pair_bytes (pair_drawn b 0 s)) old) (f : new ≡ put (at + 4) (u % 2 ∷ []) mid) where
-  pub joint_put : new ≡ put at (pair_bytes (pair_drawn b 0 s) ++ (draw 2 s % 2) ∷ []) old
-  unfolding draw state_after
-  joint_put =
-      let d : u % 2 ≡ draw 2 s % 2 = rw (eu, en, et) in
-      put_then at (pair_bytes (pair_drawn b 0 s)) old mid e (u % 2 ∷ []) new (at + 4) (omega (arith, pair_size b s)) f (omega arith)
-      ∙ ap (λ (x : ℕ). put at (pair_bytes (pair_drawn b 0 s) ++ x ∷ []) old) d
+pub enabled_is : (s t n u : ℕ) → t ≡ state_after 2 s → n ≡ next_state t → u ≡ n / 65536 → u ≡ draw 2 s
+unfolding draw state_after
+enabled_is s t n u et en eu = rw (eu, en, et)
+
+-- a joint has 5 bytes
+pub joint_size : (b s : ℕ) → length (pair_bytes (pair_drawn b 0 s) ++ (draw 2 s % 2) ∷ []) ≡ 5
+joint_size b s = omega (arith, length-append (pair_bytes (pair_drawn b 0 s)) ((draw 2 s % 2) ∷ []), pair_size b s)

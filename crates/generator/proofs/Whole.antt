@@ -4,7 +4,10 @@ use Rattle.lists.specs.Basics.{over, put, range, mem}
 use Rattle.lists.proofs.Laws.{map_ext_in}
 use Rattle.lists.proofs.Ranges.{join_map_ext}
 use Rattle.frame.specs.Questions.{few_each, pair_count}
-use Rattle.frame_file.specs.Written.{file_length, header_bytes, pair_bytes, joint_bytes, Writable}
+use Rattle.frame_file.specs.Written.{file_length, half_bytes, word_bytes, header_bytes, pair_bytes, joint_bytes, Writable}
+use Rattle.frame_file.proofs.Decoded.{pair_bytes_long}
+use Rattle.writer.specs.declared.Writer.{Writer}
+use Rattle.writer.specs.Wrote.{Wrote}
 use Rattle.frame_file.proofs.Whole.{file-put}
 use Rattle.generator.specs.Draws.{state_after, draw, pair_drawn, types_drawn, pairs_drawn, enabled_drawn, generated_bytes}
 use Rattle.generator.proofs.Draws.{steps_then, draw_then, pair_shift, types_long, pairs_long, enabled_long}
@@ -56,17 +59,29 @@ module _ (seed b m j : ℕ) where
     even_joints = omega (arith, pairs_long b (b + 2 * m) 3 j seed, count_j_lem);
   }
 
-  -- ---- written one behind another
-  module _ (few : few_each b m j ≡ true) (o₀ o₁ o₂ o₃ o₄ : List ℕ) (t u : ℕ) (h : file_length b m j ≤ length o₀) (e₁ : o₁ ≡ put 0 (header_bytes b m j) o₀) (e₂ : o₂ ≡ put 11 types o₁) (et : t ≡ state_after b seed)
-      (e₃ : o₃ ≡ put (11 + b) (pair_bytes (pairs_drawn b 0 2 m t)) o₂) (eu : u ≡ state_after (2 * m) t) (e₄ : o₄ ≡ put (11 + b + 4 * m) (joint_bytes (pairs_drawn b 0 3 j u) (enabled_drawn 0 j u)) o₃) where
-    pub whole_put : o₄ ≡ over (generated_bytes seed b m j) o₀
+  -- ---- written one behind another, from place 0 on
+  module _ (few : few_each b m j ≡ true) (w₀ w₁ w₂ w₃ w₄ : Writer) (t u : ℕ) (start : w₀.at ≡ 0) (h : file_length b m j ≤ length w₀.out.now) (e₁ : Wrote (header_bytes b m j) w₀ w₁) (e₂ : Wrote types w₁ w₂) (et : t ≡ state_after b seed)
+      (e₃ : Wrote (pair_bytes (pairs_drawn b 0 2 m t)) w₂ w₃) (eu : u ≡ state_after (2 * m) t) (e₄ : Wrote (joint_bytes (pairs_drawn b 0 3 j u) (enabled_drawn 0 j u)) w₃ w₄) where
+    at₁ : w₁.at ≡ 11
+    unfolding header_bytes word_bytes half_bytes
+    at₁ = omega (arith, start, e₁.next)
+
+    at₂ : w₂.at ≡ 11 + b
+    at₂ = omega (arith, at₁, e₂.next, count_b_lem)
+
+    at₃ : w₃.at ≡ 11 + b + 4 * m
+    at₃ = omega (arith, at₂, e₃.next, pair_bytes_long (pairs_drawn b 0 2 m t), pairs_long b 0 2 m t)
+
+    pub whole_put : w₄.out.now ≡ over (generated_bytes seed b m j) w₀.out.now
     unfolding generated_bytes
     whole_put =
         let v : u ≡ state_after (b + 2 * m) seed = eu ∙ ap (state_after (2 * m)) et ∙ sym (steps_then b (2 * m) seed) in
-        let ms : o₃ ≡ put (11 + b) (pair_bytes manifolds) o₂ = e₃ ∙ ap (λ (s : ℕ). put (11 + b) (pair_bytes (pairs_drawn b 0 2 m s)) o₂) et ∙ ap (λ (l : List ℕ). put (11 + b) (pair_bytes l) o₂) (sym (pairs_shift b b 2 m seed)) in
-        let js : o₄ ≡ put (11 + b + 4 * m) (joint_bytes joints enabled) o₃ =
-        e₄ ∙ ap (λ (s : ℕ). put (11 + b + 4 * m) (joint_bytes (pairs_drawn b 0 3 j s) (enabled_drawn 0 j s)) o₃) v
-        ∙ ap (λ (l : List ℕ). put (11 + b + 4 * m) (joint_bytes l (enabled_drawn 0 j (state_after (b + 2 * m) seed))) o₃) (sym (pairs_shift b (b + 2 * m) 3 j seed))
-        ∙ ap (λ (l : List ℕ). put (11 + b + 4 * m) (joint_bytes joints l) o₃) (sym (enabled_shift (b + 2 * m) j seed)) in
-        file-put types manifolds joints enabled (writable few) o₀ o₁ o₂ o₃ o₄
-        (rw (count_b_lem, count_m_lem, count_j_lem) h) (rw (count_b_lem, count_m_lem, count_j_lem) e₁) e₂ (rw count_b_lem ms) (rw (count_b_lem, count_m_lem) js)
+        let hs : w₁.out.now ≡ put 0 (header_bytes b m j) w₀.out.now = rw start at e₁.bytes in
+        let ts : w₂.out.now ≡ put 11 types w₁.out.now = rw at₁ at e₂.bytes in
+        let ps : pairs_drawn b 0 2 m t ≡ manifolds = ap (pairs_drawn b 0 2 m) et ∙ sym (pairs_shift b b 2 m seed) in
+        let ms : w₃.out.now ≡ put (11 + b) (pair_bytes manifolds) w₂.out.now = rw (at₂, ps) at e₃.bytes in
+        let qs : pairs_drawn b 0 3 j u ≡ joints = ap (pairs_drawn b 0 3 j) v ∙ sym (pairs_shift b (b + 2 * m) 3 j seed) in
+        let es : enabled_drawn 0 j u ≡ enabled = ap (enabled_drawn 0 j) v ∙ sym (enabled_shift (b + 2 * m) j seed) in
+        let js : w₄.out.now ≡ put (11 + b + 4 * m) (joint_bytes joints enabled) w₃.out.now = rw (at₃, qs, es) at e₄.bytes in
+        file-put types manifolds joints enabled (writable few) w₀.out.now w₁.out.now w₂.out.now w₃.out.now w₄.out.now
+        (rw (count_b_lem, count_m_lem, count_j_lem) h) (rw (count_b_lem, count_m_lem, count_j_lem) hs) ts (rw count_b_lem ms) (rw (count_b_lem, count_m_lem) js)

@@ -1,10 +1,10 @@
 -- What `generate` asks, answers and leaves in the bytes that it was lent.
-use Rattle.std.specs.Prelude.{◌≡◌, ℕ, ◌+◌, Bool, true, false, cond, not, ◌||◌, List, [], ◌∷◌, leb, eqb, length}
+use Rattle.std.specs.Prelude.{◌≡◌, ℕ, ◌+◌, Bool, true, false, cond, not, ◌||◌, List, [], ◌∷◌, leb, eqb, length, Result, Ok, Err}
 use Rattle.lists.specs.Basics.{over}
 use Rattle.frame.specs.Questions.{question, asked, few_each}
+use Rattle.frame.specs.declared.refusal.Refusal.{Refusal}
+use Rattle.frame.specs.Refusals.{refused_by}
 use Rattle.frame_file.specs.Written.{file_length}
-use Rattle.generator.specs.declared.Generated.{Generated}
-use Rattle.generator.specs.declared.Generated.TheVariants.{Frame, Refused}
 use Rattle.generator.specs.Draws.{generated_bytes}
 
 -- 13: no pair is wanted, or there are two bodies for it
@@ -15,19 +15,14 @@ pairs_possible b m j = leb 2 b || eqb (m + j) 0
 unfoldable pub generate_refusal : ℕ → ℕ → ℕ → ℕ → ℕ
 generate_refusal b m j room = asked (question 3 (few_each b m j) ∷ question 13 (pairs_possible b m j) ∷ question 6 (leb (file_length b m j) room) ∷ [])
 
--- an answer's number, 0 where a frame was made; and whether it is a refusal: that has a number, never 0
-abbrev pub generated_number : Generated → ℕ
-generated_number (Frame n) = 0
-generated_number (Refused k) = k
+-- the frame's length, 0 where refused; and whether an answer is a refusal
+abbrev pub generated_length : Result ℕ Refusal → ℕ
+generated_length (Ok n) = n
+generated_length (Err k) = 0
 
-abbrev pub generated_refused : Generated → Bool
-generated_refused (Frame n) = false
-generated_refused (Refused k) = true
-
--- the frame's length; 0 where refused
-abbrev pub generated_length : Generated → ℕ
-generated_length (Frame n) = n
-generated_length (Refused k) = 0
+abbrev pub generated_refused : Result ℕ Refusal → Bool
+generated_refused (Ok n) = false
+generated_refused (Err k) = true
 
 -- a call by its numbers: the lent bytes were `old` and are `new`; the frame stands from place 0 on, and a refusal keeps all
 pub record Made (seed b m j : ℕ) (old new : List ℕ) (number long : ℕ) : Type 0 where
@@ -36,6 +31,6 @@ pub record Made (seed b m j : ℕ) (old new : List ℕ) (number long : ℕ) : Ty
   pub bytes : new ≡ cond (eqb (generate_refusal b m j (length old)) 0) (over (generated_bytes seed b m j) old) old
 
 -- the contract: such a call, and its answer, which is a refusal exactly if there is one
-pub record Makes (seed b m j : ℕ) (old new : List ℕ) (r : Generated) : Type 0 where
-  pub made : Made seed b m j old new (generated_number r) (generated_length r)
+pub record Makes (seed b m j : ℕ) (old new : List ℕ) (r : Result ℕ Refusal) : Type 0 where
+  pub made : Made seed b m j old new (refused_by r) (generated_length r)
   pub refused : generated_refused r ≡ not (eqb (generate_refusal b m j (length old)) 0)

@@ -1,6 +1,9 @@
 -- `put_half`: two bytes, one behind the other.
-use Rattle.frame_file.proofs.Writes.{half-put}
+use Rattle.writer.proofs.Writes.{wrote_then}
+use Rattle.std.proofs.Common.{arith}
+use Rattle.frame_file.specs.Written.{half_bytes}
 use Rattle.frame_file.proofs.put_half.Goals as goal
 
 pub returns : goal.returns
-returns c = half-put c.args.at c.args.n c.args.out.now c.requires.0
+unfolding half_bytes
+returns c = wrote_then c.put_byte.ensures c.put_byte-2.ensures (omega arith)

@@ -1,27 +1,28 @@
 -- `put_header`: its parts, one behind the other.
-use Rattle.std.proofs.Common.{length-set, arith}
+use Rattle.std.proofs.Common.{◌+◌, ◌*◌, ◌-◌, ◌≡◌, arith}
 use Rattle.frame.proofs.Questions.{few-each}
-use Rattle.frame_file.proofs.Writes.{header-put}
+use Rattle.frame_file.specs.Written.{half_bytes, word_bytes, header_bytes}
+use Rattle.writer.proofs.Writes.{wrote_then}
 use Rattle.frame_file.proofs.put_header.Goals as goal
 
-pub put_word-requires : goal.put_word-requires
-put_word-requires c =
-    (omega (arith, length-set c.args.out.now 0 1), omega (arith, few-each c.args.bodies c.args.manifolds c.args.joints c.requires.1))
+pub put_whole-requires-clause-word : goal.put_whole-requires-clause-word
+put_whole-requires-clause-word c = omega (arith, few-each c.args.sizes.bodies c.args.sizes.manifolds c.args.sizes.joints c.requires.1, c.file_length.ensures)
 
-pub put_half-requires : goal.put_half-requires
-put_half-requires c =
-    (omega (arith, length-set c.args.out.now 0 1), omega (arith, few-each c.args.bodies c.args.manifolds c.args.joints c.requires.1))
+pub put_half-requires-clause-half : goal.put_half-requires-clause-half
+put_half-requires-clause-half c = omega (arith, few-each c.args.sizes.bodies c.args.sizes.manifolds c.args.sizes.joints c.requires.1)
 
-pub put_half-requires-2 : goal.put_half-requires-2
-put_half-requires-2 c =
-    (omega (arith, length-set c.args.out.now 0 1), omega (arith, few-each c.args.bodies c.args.manifolds c.args.joints c.requires.1))
+pub put_half-requires-2-clause-half : goal.put_half-requires-2-clause-half
+put_half-requires-2-clause-half c = omega (arith, few-each c.args.sizes.bodies c.args.sizes.manifolds c.args.sizes.joints c.requires.1)
 
-pub put_half-requires-3 : goal.put_half-requires-3
-put_half-requires-3 c =
-    (omega (arith, length-set c.args.out.now 0 1), omega (arith, few-each c.args.bodies c.args.manifolds c.args.joints c.requires.1))
+pub put_half-requires-3-clause-half : goal.put_half-requires-3-clause-half
+put_half-requires-3-clause-half c = omega (arith, few-each c.args.sizes.bodies c.args.sizes.manifolds c.args.sizes.joints c.requires.1)
 
 pub returns : goal.returns
+unfolding half_bytes word_bytes header_bytes
 returns c =
-    let a = c.args in
-    header-put a.bodies a.manifolds a.joints _ a.out.now _ _ _ c.put_half-3.new.out c.requires.0 c.put_word.ensures c.put_half.ensures c.put_half-2.ensures c.put_half-3.ensures
-    (omega (arith, c.file_length.ensures))
+    let s = c.args.sizes in
+    let rest : c.file_length.result - 5 ≡ 6 + s.bodies + 4 * s.manifolds + 5 * s.joints = omega (arith, c.file_length.ensures) in
+    let one = wrote_then c.put_byte.ensures c.put_whole.ensures (omega arith) in
+    let two = wrote_then one c.put_half.ensures (omega arith) in
+    let three = wrote_then two c.put_half-2.ensures (omega arith) in
+    rw (← rest) (wrote_then three c.put_half-3.ensures (omega arith))

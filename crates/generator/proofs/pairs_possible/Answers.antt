@@ -5,7 +5,7 @@ use Rattle.generator.specs.Calls.{pairs_possible}
 use Rattle.generator.proofs.pairs_possible.Goals as goal
 
 pub overflow_add-result : goal.overflow_add-result
-overflow_add-result c = omega (arith, few-each c.args.bodies c.args.manifolds c.args.joints c.requires)
+overflow_add-result c = omega (arith, few-each c.args.sizes.bodies c.args.sizes.manifolds c.args.sizes.joints c.requires)
 
 pub returns : goal.returns
 unfolding pairs_possible
