@@ -1,12 +1,10 @@
 // A binding with takes: types, a list, then pairs of positions, one byte each.
-ghost use Rattle.std.specs.Prelude.{◌≤◌};
-
-use crate::questions::{bytes_at, copy_numbers};
+use crate::Answer;
 use colored_bodies::{BodyBinding, Take};
 use frame::Frame;
-use records::{after, least, number_at, put, put_half};
+use records::{Reader, Writer};
 
-fn put_take(take: Take, out: &mut [u8], at: usize) -> usize {
+fn put_take(take: Take, out: &mut Answer) {
     match take {
         Take::Taken {
             first,
@@ -14,91 +12,51 @@ fn put_take(take: Take, out: &mut [u8], at: usize) -> usize {
             second,
             second_dynamic,
         } => {
-            let number = put(out, at, 0);
-            let one = put_half(out, number, first);
-            let marked = put(out, one, first_dynamic as u8);
-            let two = put_half(out, marked, second);
-            put(out, two, second_dynamic as u8)
+            out.byte(0);
+            out.half(first);
+            out.byte(u8::from(first_dynamic));
+            out.half(second);
+            out.byte(u8::from(second_dynamic));
         }
-        Take::Refused(n) => put(out, at, n),
+        Take::Refused(n) => out.byte(n),
     }
-}
-
-// The bodies and marks of the first places of a binding.
-fn put_places(
-    bodies: &[u16; Frame::MAX_BODIES],
-    marks: &[u8; Frame::MAX_BODIES],
-    shown: usize,
-    out: &mut [u8],
-    at: usize,
-) -> usize
-    requires { shown ≤ 4096 }
-{
-    let mut next = at;
-    let mut i = 0;
-    // The first i places are written, and `next` is the place after them.
-    while i < shown {
-        next = put_half(out, next, bodies[i]);
-        next = put(out, next, marks[i]);
-        i += 1;
-    }
-    next
 }
 
 // The count, and the bodies and marks of its places and of the one past them.
-fn put_binding(binding: &BodyBinding, out: &mut [u8], at: usize) -> usize {
-    let last = least(binding.count, Frame::MAX_BODIES - 1);
-    let counted = put_half(out, at, last as u16);
-    put_places(&binding.bodies, &binding.marks, last + 1, out, counted)
-}
-
-fn take_all(
-    bound: BodyBinding,
-    takes: usize,
-    question: &[u8],
-    from: usize,
-    out: &mut [u8],
-    at: usize,
-) -> usize {
-    let mut binding = bound;
-    let mut place = from;
-    let mut next = at;
-    let mut left = takes;
-    // `binding` is what the takes so far leave; `left` of them follow, the first at `place`.
-    while 0 < left {
-        let a = number_at(question, place);
-        let b = number_at(question, after(question, place, 1));
-        let step = binding.pair_at(a, b);
-        let take = step.take;
-        next = put_take(take, out, next);
-        binding = step.binding;
-        next = put_binding(&binding, out, next);
-        place = after(question, place, 2);
-        left -= 1;
+fn put_binding(binding: &BodyBinding, out: &mut Answer) {
+    let last = binding.count.min(Frame::MAX_BODIES - 1);
+    out.half(last as u16);
+    for i in 0..last + 1 {
+        out.half(binding.bodies[i]);
+        out.byte(binding.marks[i]);
     }
-    next
 }
 
-fn bind_and_take(question: &[u8], list: &mut [u16], out: &mut [u8]) -> usize {
-    let types = bytes_at(question, 3, number_at(question, 0));
-    let listed = after(question, 3, types.len());
-    copy_numbers(question, listed, list);
+// The takes of a binding, each with what it leaves.
+fn take_all(mut binding: BodyBinding, takes: u8, question: &mut Reader, out: &mut Answer) {
+    for _ in 0..takes {
+        let a = question.byte();
+        let b = question.byte();
+        let step = binding.pair_at(usize::from(a), usize::from(b));
+        put_take(step.take, out);
+        put_binding(&step.binding, out);
+        binding = step.binding;
+    }
+}
+
+pub fn answer(question: &[u8]) -> Answer {
+    let mut question = Reader::new(question);
+    let types = question.byte();
+    let listed = question.byte();
+    let takes = question.byte();
+    let types = question.bytes(usize::from(types));
+    let mut list = [0; 40];
+    let list = &mut list[..usize::from(listed).min(40)];
+    question.numbers(list);
     let bound = BodyBinding::bind(types, list);
-    let binding = bound.binding;
-    let refused = put(out, 0, bound.refusal);
-    let shown = put_binding(&binding, out, refused);
-    take_all(
-        binding,
-        number_at(question, 2),
-        question,
-        after(question, listed, list.len()),
-        out,
-        shown,
-    )
-}
-
-pub fn answer_takes(question: &[u8], out: &mut [u8]) -> usize {
-    let mut list = [0u16; 40];
-    let n = least(number_at(question, 1), 40);
-    bind_and_take(question, &mut list[0..n], out)
+    let mut out = Writer::new();
+    out.byte(bound.refusal);
+    put_binding(&bound.binding, &mut out);
+    take_all(bound.binding, takes, &mut question, &mut out);
+    out
 }

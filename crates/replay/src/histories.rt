@@ -1,7 +1,7 @@
 // A history: updates of one plan on one set of tables. An update is B, the number of pair entries, flags and entries, one byte each.
 use crate::questions::{bytes_at, copy_numbers};
 use constraint_coloring::{ConstraintColoring, Positions, Update};
-use records::{after, least, number_at, put, put_bytes, put_half, put_halves};
+use records::places::{after, least, number_at, put, put_bytes, put_half, put_halves};
 
 // Where the next update stands and the next answer goes; the plan, and its tables, which have room for 7 bodies and 7 constraints.
 #[derive(Clone, Copy)]

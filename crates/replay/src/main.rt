@@ -1,49 +1,82 @@
 // Replays the oracle's answers (oracle/record writes the list to crates/replay/stdin): asks each stored question again and compares,
 // byte by byte, what the proved code answers. Prints how many questions of each kind there were, how many answers differ, and a sum
 // over all bytes of the list.
-//
-// The list is records of kind 1, a history of updates, and 2, a binding with takes.
 #![tactic(auto)]
 
 mod bindings;
 mod histories;
 mod questions;
 
-ghost use Rattle.std.specs.Prelude.{◌-◌, ◌≤◌};
+use records::Writer;
+use std::io;
+use std::io::ErrorKind;
 
-use crate::bindings::answer_takes;
-use crate::histories::answer_history;
-use records::{Tally, counted, no_records, print, read_record, same};
+// An answer has at most so many bytes.
+pub type Answer = Writer<2048>;
 
-fn answer(kind: u8, question: &[u8], out: &mut [u8]) -> usize {
-    if kind == 1 {
-        return answer_history(question, out);
+// What a question asks: a history of updates, or a binding with takes.
+#[derive(Clone, Copy, Debug, PartialEq, Eq)]
+enum Kind {
+    History = 1,
+    Binding = 2,
+}
+
+impl TryFrom<u8> for Kind {
+    type Error = io::Error;
+
+    fn try_from(number: u8) -> io::Result<Kind> {
+        match number {
+            1 => Ok(Kind::History),
+            2 => Ok(Kind::Binding),
+            _ => Err(io::Error::new(ErrorKind::InvalidData, "no such kind")),
+        }
     }
-    answer_takes(question, out)
 }
 
-// The next record of the list. Past a question's end its buffer holds zeros.
-fn replay_next(tally: Tally) -> Tally
-    ensures { result.left ≤ tally.left - 1 }
-{
-    let mut question = [0u8; 1024];
-    let mut stored = [0u8; 2048];
-    let mut out = [0u8; 2048];
-    let record = read_record(tally, &mut question, &mut stored);
-    let n = answer(record.kind, &question, &mut out);
-    let agrees = same(&out, n, &stored, record.answer);
-    counted(tally, record, record.kind == 1, record.kind == 2, agrees)
+// How many questions of each kind there were.
+#[derive(Clone, Copy, Debug, Default)]
+struct Counts {
+    histories: u32,
+    bindings: u32,
 }
 
-fn replay_all() -> Tally {
-    let mut tally = no_records();
-    // `tally` counts the records read so far; at most `left` follow, and none after the end of the list.
-    while 0 < tally.left {
-        tally = replay_next(tally);
+impl Counts {
+    fn add(&mut self, kind: Kind) {
+        let count = match kind {
+            Kind::History => &mut self.histories,
+            Kind::Binding => &mut self.bindings,
+        };
+        *count = count.saturating_add(1);
     }
-    tally
 }
 
-fn main() {
-    print(replay_all(), b"histories ", b"bindings ");
+fn answer_history(question: &[u8]) -> Answer {
+    let mut out = [0; 2048];
+    let written = histories::answer_history(question, &mut out);
+    let mut answer = Writer::new();
+    answer.bytes(&out[..written.min(2048)]);
+    answer
+}
+
+fn answer(kind: Kind, question: &[u8]) -> Answer {
+    match kind {
+        Kind::History => answer_history(question),
+        Kind::Binding => bindings::answer(question),
+    }
+}
+
+fn main(rt: HostRuntime) -> io::Result<()> {
+    let mut counts = Counts::default();
+    let tally = records::replay(
+        rt.reader(),
+        &mut [0; 1024],
+        &mut [0; 2048],
+        |kind, question| {
+            counts.add(kind);
+            answer(kind, question)
+        },
+    )?;
+    println!(rt; "histories {}", counts.histories)?;
+    println!(rt; "bindings {}", counts.bindings)?;
+    println!(rt; "{tally}")
 }

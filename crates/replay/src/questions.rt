@@ -1,5 +1,5 @@
 // Reading lists out of a question: numbers of one byte each.
-use records::{after, byte_at, least};
+use records::places::{after, byte_at, least};
 
 pub fn bytes_at(s: &[u8], at: usize, n: usize) -> &[u8] {
     let start = least(at, s.len());

@@ -1,0 +1,55 @@
+// Writing an answer.
+ghost use Rattle.std.specs.Prelude.{◌≡◌, ◌∷◌, [], ◌++◌, ◌<◌, ◌≤◌, ◌/◌, ◌%◌, ◌+◌, length};
+ghost use Rattle.arrayvec.specs.ArrayVec.{array_vec_len};
+
+use arrayvec::ArrayVec;
+use std::convert::AsSlice;
+
+// What is written of an answer, at most N bytes. What has no room is left out.
+#[derive(Drop)]
+pub struct Writer<const N: usize> {
+    bytes: ArrayVec<u8, N>,
+}
+
+impl<const N: usize> Writer<N> {
+    pub fn new() -> Self
+        ensures { result.bytes.items ≡ [] }
+    {
+        Writer {
+            bytes: ArrayVec::new(),
+        }
+    }
+
+    pub fn bytes(&mut self, from: &[u8])
+        ensures { array_vec_len self.old.bytes + length from.now ≤ N → self.new.bytes.items ≡ self.old.bytes.items ++ from.now }
+    {
+        let _ = self.bytes.try_extend_from_slice(from);
+    }
+
+    pub fn byte(&mut self, x: u8)
+        ensures { array_vec_len self.old.bytes < N → self.new.bytes.items ≡ self.old.bytes.items ++ x ∷ [] }
+    {
+        let _ = self.bytes.try_push(x);
+    }
+
+    // A number of 16 bits.
+    pub fn half(&mut self, x: u16)
+        ensures { array_vec_len self.old.bytes + 2 ≤ N → self.new.bytes.items ≡ self.old.bytes.items ++ x / 256 ∷ x % 256 ∷ [] }
+    {
+        self.bytes(&[(x / 256) as u8, (x % 256) as u8]);
+    }
+
+    pub fn halves(&mut self, from: &[u16]) {
+        for x in from {
+            self.half(*x);
+        }
+    }
+}
+
+impl<const N: usize> AsSlice<u8> for Writer<N> {
+    ghost items = { λ w. w.bytes.items };
+
+    fn as_slice(&self) -> &[u8] {
+        self.bytes.as_slice()
+    }
+}
