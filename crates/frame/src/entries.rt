@@ -4,68 +4,50 @@ ghost use Rattle.std.specs.Prelude.{◌≡◌, ◌+◌, ◌*◌, ◌≤◌, leng
 ghost use Rattle.frame.specs.Questions.{bits};
 ghost use Rattle.frame.specs.Files.{entry_refusal, entries_refusal, places_from, halves_from, live_from, count_j, joints_at};
 ghost use Rattle.frame.specs.Joints.{Walks, Walkable, Entered, Placeable};
+ghost use Rattle.frame.specs.Refusals.{refused_by};
 
 use crate::multi::counted;
-use crate::{HEADER, PAIR, half_at, wide};
+use crate::{HEADER, PAIR, Refusal, half_at, wide};
 
-// What a walk over joints answers: its refusal or 0, and how many endpoints they have together.
-#[derive(Clone, Copy)]
-pub struct Walked {
-    pub refusal: u8,
-    pub ends: usize,
-}
-
-// The entry at a place of the file: cut off before its count is met (4), a wrong count (5), cut off behind it (4), or 0.
-fn entry_refusal(bytes: &[u8], at: usize) -> u8
+// The entry at a place of the file: cut off before its count is met (4), a wrong count (5), or cut off behind it (4).
+fn ask_entry(bytes: &[u8], at: usize) -> Result<(), Refusal>
     requires { at ≤ length bytes.now }
-    ensures { result ≡ entry_refusal bytes.now at }
+    ensures { refused_by result ≡ entry_refusal bytes.now at }
 {
     let left = bytes.len() - at;
     if left < 2 {
-        return 4;
+        return Err(Refusal::Lengths);
     }
     let count = wide(bytes[at + 1]);
     if !counted(count) {
-        return 5;
+        return Err(Refusal::Values);
     }
     if left - 2 < 2 * count {
-        return 4;
+        return Err(Refusal::Lengths);
     }
-    0
+    Ok(())
 }
 
-// The walk over the `joints` entries that start at `from`; behind the last one nothing may be left over.
-pub fn walk(bytes: &[u8], from: usize, joints: usize) -> Walked
+// The walk over the `joints` entries that start at `from`; behind the last one nothing may be left over. How many endpoints they have together.
+pub fn walk(bytes: &[u8], from: usize, joints: usize) -> Result<usize, Refusal>
     ensures { Walks bytes.now from joints result }
 {
     if bytes.len() < from {
-        return Walked {
-            refusal: 4,
-            ends: 0,
-        };
+        return Err(Refusal::Lengths);
     }
     let mut at = from;
-    let mut left = joints;
     let mut ends: usize = 0;
-    // The entries before place `at` pass and have `ends` endpoints; `left` of them are still to be met.
-    while 0 < left {
-        let refusal = entry_refusal(bytes, at);
-        if refusal != 0 {
-            return Walked {
-                refusal: refusal,
-                ends: 0,
-            };
-        }
+    // The entries before place `at` pass and have `ends` endpoints.
+    for _j in 0..joints {
+        ask_entry(bytes, at)?;
         let count = wide(bytes[at + 1]);
         at += 2 + 2 * count;
         ends += count;
-        left -= 1;
     }
-    let refusal = if at != bytes.len() { 4 } else { 0 };
-    Walked {
-        refusal: refusal,
-        ends: ends,
+    if at != bytes.len() {
+        return Err(Refusal::Lengths);
     }
+    Ok(ends)
 }
 
 // Question 5 of the enabled bytes of the `joints` entries that start at `from`.

@@ -15,9 +15,9 @@ ghost use Rattle.frame.specs.Questions.{asked, few_each, bits};
 ghost use Rattle.frame.specs.Files.{byte, half, word, second, pairs_from, enabled_from, count_m, count_j, joints_at, live_in, ends_at, head_questions};
 ghost use Rattle.frame.specs.Joints.{JointsRead, Passed};
 ghost use Rattle.frame.specs.Decodes.{Decodable, Decoded};
-ghost use Rattle.frame.specs.Answers.{read_number, read_sizes, Read};
+ghost use Rattle.frame.specs.Answers.{read_sizes, version_of, Read};
+ghost use Rattle.frame.specs.Refusals.{refused_by};
 
-use crate::entries::Walked;
 pub use crate::refusal::Refusal;
 
 // The file form: how many bytes stand before the types, and how many a manifold and a joint have.
@@ -27,21 +27,21 @@ pub const PAIR: usize = 4;
 
 pub const JOINT: usize = 5;
 
+// The versions of the file form: they differ in their joints.
+#[derive(Clone, Copy, Debug, PartialEq, Eq)]
+pub enum Version {
+    First = 1,
+    Second = 2,
+}
+
 // A file's version, how many bodies, manifolds and joints its frame has, and how many endpoints the joints have together.
-#[derive(Clone, Copy)]
+#[derive(Clone, Copy, Debug, PartialEq, Eq)]
 pub struct Frame {
-    pub version: u8,
+    pub version: Version,
     pub bodies: usize,
     pub manifolds: usize,
     pub joints: usize,
     pub joint_ends: usize,
-}
-
-// The answer of reading a file: its sizes, or the number of the first question that got a "no".
-#[derive(Clone, Copy)]
-pub enum Reading {
-    Accepted(Frame),
-    Refused(u8),
 }
 
 // A frame as a call is lent it: a type for each body, the endpoint pairs of manifolds, and the joints' endpoints, counts and enabled bytes;
@@ -55,23 +55,14 @@ pub struct Lists<'a> {
     pub enabled: &'a [u8],
 }
 
-// What reading the file answered: the refusal or 0, and the sizes.
-pub fn refusal_of(reading: Reading) -> u8
-    ensures { result ≡ read_number reading }
-{
-    match reading {
-        Reading::Accepted(_) => 0,
-        Reading::Refused(n) => n,
-    }
-}
-
-pub fn sizes_of(reading: Reading) -> Frame
+// The sizes that reading a file answered; all 0 where it was refused.
+pub fn sizes_of(reading: Result<Frame, Refusal>) -> Frame
     ensures { result ≡ read_sizes reading }
 {
     match reading {
-        Reading::Accepted(sizes) => sizes,
-        Reading::Refused(_) => Frame {
-            version: 0,
+        Ok(sizes) => sizes,
+        Err(_) => Frame {
+            version: Version::First,
             bodies: 0,
             manifolds: 0,
             joints: 0,
@@ -120,6 +111,16 @@ pub fn is_second(bytes: &[u8]) -> bool
     byte_or_zero(bytes, 0) == 2
 }
 
+// The version of a file that has one of the two.
+fn version_of(bytes: &[u8]) -> Version
+    ensures { result ≡ version_of bytes.now }
+{
+    if is_second(bytes) {
+        return Version::Second;
+    }
+    Version::First
+}
+
 // Question 2.
 fn length_right(bytes: &[u8]) -> bool
     ensures { result ≡ (leb 11 (length bytes.now) && eqb (word bytes.now 1) (length bytes.now - 5)) }
@@ -139,24 +140,25 @@ pub fn few_each(bodies: usize, manifolds: usize, joints: usize) -> bool
         & (joints <= Frame::MAX_JOINTS)
 }
 
-// Questions 1 to 3; 0 where all get a "yes".
-fn head_refusal(bytes: &[u8]) -> u8
-    ensures { result ≡ asked (head_questions bytes.now) }
+// Questions 1 to 3.
+fn ask_head(bytes: &[u8]) -> Result<(), Refusal>
+    ensures { refused_by result ≡ asked (head_questions bytes.now) }
 {
     if !version_known(bytes) {
-        return 1;
+        return Err(Refusal::Version);
     }
     if !length_right(bytes) {
-        return 2;
+        return Err(Refusal::FileLength);
     }
     if !few_each(half_at(bytes, 5), half_at(bytes, 7), half_at(bytes, 9)) {
-        return 3;
+        return Err(Refusal::TooMany);
     }
-    0
+    Ok(())
 }
 
-// Questions 5 (of counts) and 4 of the joints that start at `from`: the walk of version 2, the length of version 1.
-fn walk_joints(bytes: &[u8], from: usize, joints: usize) -> Walked
+// Questions 5 (of counts) and 4 of the joints that start at `from`: the walk of version 2, the length of version 1. How many endpoints they
+// have together.
+fn walk_joints(bytes: &[u8], from: usize, joints: usize) -> Result<usize, Refusal>
     requires { (asked (head_questions bytes.now) ≡ 0) × (from ≡ joints_at bytes.now) × (joints ≡ count_j bytes.now) }
     ensures { JointsRead bytes.now result }
 {
@@ -164,29 +166,16 @@ fn walk_joints(bytes: &[u8], from: usize, joints: usize) -> Walked
         return entries::walk(bytes, from, joints);
     }
     if bytes.len() != from + JOINT * joints {
-        return Walked {
-            refusal: 4,
-            ends: 0,
-        };
+        return Err(Refusal::Lengths);
     }
-    Walked {
-        refusal: 0,
-        ends: 2 * joints,
-    }
+    Ok(2 * joints)
 }
 
 // Question 5: is every byte at most `limit`? (`Frame::MAX_TYPE` for types, 1 for enabled bytes and flags)
 pub fn at_most(s: &[u8], limit: u8) -> bool
     ensures { result ≡ all (λ x. leb x limit) s.now }
 {
-    let mut known = true;
-    let mut i = 0;
-    // `known` tells whether every byte passed is at most the limit.
-    while i < s.len() {
-        known = known & (s[i] <= limit);
-        i += 1;
-    }
-    known
+    s.iter().all(|&x| x <= limit)
 }
 
 // Question 5 of the enabled bytes of the `joints` joints that start at `from`, version 1.
@@ -238,33 +227,27 @@ impl Frame {
     pub const MAX_ENDS: usize = 4;
 
     // Questions 1 to 5 of a file.
-    pub fn read(bytes: &[u8]) -> Reading
+    pub fn read(bytes: &[u8]) -> Result<Frame, Refusal>
         ensures { Read bytes.now result }
     {
-        let refusal = head_refusal(bytes);
-        if refusal != 0 {
-            return Reading::Refused(refusal);
-        }
+        ask_head(bytes)?;
         let bodies = half_at(bytes, 5);
         let manifolds = half_at(bytes, 7);
         let joints = half_at(bytes, 9);
         let from = HEADER + bodies + PAIR * manifolds;
-        let walked = walk_joints(bytes, from, joints);
-        if walked.refusal != 0 {
-            return Reading::Refused(walked.refusal);
-        }
+        let joint_ends = walk_joints(bytes, from, joints)?;
         if !at_most(&bytes[HEADER..HEADER + bodies], Frame::MAX_TYPE) {
-            return Reading::Refused(5);
+            return Err(Refusal::Values);
         }
         if !live_known(bytes, from, joints) {
-            return Reading::Refused(5);
+            return Err(Refusal::Values);
         }
-        Reading::Accepted(Frame {
-            version: bytes[0],
-            bodies: bodies,
-            manifolds: manifolds,
-            joints: joints,
-            joint_ends: walked.ends,
+        Ok(Frame {
+            version: version_of(bytes),
+            bodies,
+            manifolds,
+            joints,
+            joint_ends,
         })
     }
 }

@@ -1,7 +1,7 @@
--- `frame::entries::entry_refusal`: the three questions of an entry, in their order.
+-- `frame::entries::ask_entry`: the three questions of an entry, in their order.
 use Rattle.std.proofs.Common.{sym, ◌∙◌, arith}
 use Rattle.frame.proofs.Walks.{entry_short, entry_wrong, entry-cut, entry-passes}
-use Rattle.frame.proofs.entries.entry_refusal.Goals as goal
+use Rattle.frame.proofs.entries.ask_entry.Goals as goal
 
 pub returns-then-left-lt2 : goal.returns-then-left-lt2
 returns-then-left-lt2 c = entry_short c.args.bytes.now c.args.at (omega arith)
