@@ -83,7 +83,7 @@ fn half_at(bytes: &[u8], i: usize) -> usize
     requires { i + 2 ≤ length bytes.now }
     ensures { (result ≡ half bytes.now i) × (result < 65536) }
 {
-    wide(bytes[i]) * 256 + wide(bytes[i + 1])
+    usize::from(u16::from_be_bytes([bytes[i], bytes[i + 1]]))
 }
 
 // The 32-bit number at a place, big-endian.
@@ -175,7 +175,12 @@ fn walk_joints(bytes: &[u8], from: usize, joints: usize) -> Result<usize, Refusa
 pub fn at_most(s: &[u8], limit: u8) -> bool
     ensures { result ≡ all (λ x. leb x limit) s.now }
 {
-    s.iter().all(|&x| x <= limit)
+    let mut known = true;
+    // `known` tells whether every byte passed is at most the limit.
+    for &x in s {
+        known &= x <= limit;
+    }
+    known
 }
 
 // Question 5 of the enabled bytes of the `joints` joints that start at `from`, version 1.
@@ -183,15 +188,11 @@ fn enabled_known(bytes: &[u8], from: usize, joints: usize) -> bool
     requires { (from + 5 * joints ≤ length bytes.now) × (joints ≤ 4096) }
     ensures { result ≡ bits (enabled_from bytes.now from joints) }
 {
-    let mut at = from;
-    let mut left = joints;
-    // The joints before place `at` have known bytes; `left` of them are still to be asked.
-    while 0 < left {
-        if 1 < bytes[at + PAIR] {
+    for j in 0..joints {
+        let enabled = bytes[from + JOINT * j + PAIR];
+        if 1 < enabled {
             return false;
         }
-        at += JOINT;
-        left -= 1;
     }
     true
 }
@@ -257,11 +258,8 @@ fn decode_types(bytes: &[u8], types: &mut [u8])
     requires { 11 + length types.old ≤ length bytes.now }
     ensures { types.new ≡ take (length types.old) (drop 11 bytes.now) }
 {
-    let mut i = 0;
-    while i < types.len() {
-        types[i] = bytes[HEADER + i];
-        i += 1;
-    }
+    let count = types.len();
+    types.copy_from_slice(&bytes[HEADER..HEADER + count]);
 }
 
 // Whether a body of this type makes conflicts: it is dynamic, or logged.
@@ -283,11 +281,8 @@ fn flag_bodies(types: &[u8], flags: &mut [u8])
     requires { length flags.old ≡ length types.now }
     ensures { flags.new ≡ map flag_of types.now }
 {
-    let mut i = 0;
-    // The first i flags are those of their types.
-    while i < flags.len() {
-        flags[i] = flag_of(types[i]);
-        i += 1;
+    for (i, flag) in flags.iter_mut().enumerate() {
+        *flag = flag_of(types[i]);
     }
 }
 
@@ -297,13 +292,11 @@ fn decode_pairs(bytes: &[u8], from: usize, step: usize, pairs: &mut [u16])
     ensures { pairs.new ≡ pairs_from bytes.now from step (length pairs.old / 2) }
 {
     let mut at = from;
-    let mut k = 0;
-    // The first k entries are those of the pairs before place `at`.
-    while k < pairs.len() {
-        pairs[k] = half_at(bytes, at) as u16;
-        pairs[k + 1] = half_at(bytes, at + 2) as u16;
+    // The pairs before place `at` are in the first 2 * k entries.
+    for k in 0..pairs.len() / 2 {
+        pairs[2 * k] = half_at(bytes, at) as u16;
+        pairs[2 * k + 1] = half_at(bytes, at + 2) as u16;
         at += step;
-        k += 2;
     }
 }
 
@@ -312,13 +305,8 @@ fn decode_enabled(bytes: &[u8], from: usize, enabled: &mut [u8])
     requires { from + 5 * length enabled.old ≤ length bytes.now }
     ensures { enabled.new ≡ enabled_from bytes.now from (length enabled.old) }
 {
-    let mut at = from;
-    let mut j = 0;
-    // The first j entries are the bytes of the joints before place `at`.
-    while j < enabled.len() {
-        enabled[j] = bytes[at + PAIR];
-        at += JOINT;
-        j += 1;
+    for (j, byte) in enabled.iter_mut().enumerate() {
+        *byte = bytes[from + JOINT * j + PAIR];
     }
 }
 
@@ -326,12 +314,7 @@ fn decode_enabled(bytes: &[u8], from: usize, enabled: &mut [u8])
 fn fill_twos(counts: &mut [u8])
     ensures { counts.new ≡ replicate (length counts.old) 2 }
 {
-    let mut i = 0;
-    // The first i counts are 2.
-    while i < counts.len() {
-        counts[i] = 2;
-        i += 1;
-    }
+    counts.fill(2);
 }
 
 // The whole file, into tables of its frame's sizes. On version 1 `counts` is empty; on version 2 it has a count for each
@@ -372,10 +355,7 @@ pub fn decode(
 pub fn byte_or_zero(bytes: &[u8], i: usize) -> usize
     ensures { (result ≡ byte bytes.now i) × (result < 256) }
 {
-    if i < bytes.len() {
-        return bytes[i] as usize;
-    }
-    0
+    usize::from(bytes.get(i).copied().unwrap_or(0))
 }
 
 // The 16-bit number at any place, big-endian. The print reads with it, whose file need not be an accepted one.
@@ -411,10 +391,7 @@ pub fn ends_at(bytes: &[u8], constraint: usize) -> usize
 pub fn live_at(enabled: &[u8], i: usize) -> bool
     ensures { result ≡ eqb (get_or enabled.now i 1) 1 }
 {
-    if i < enabled.len() {
-        return enabled[i] == 1;
-    }
-    true
+    enabled.get(i).copied().unwrap_or(1) == 1
 }
 
 // Question 7 of one constraint.

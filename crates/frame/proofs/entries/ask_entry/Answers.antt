@@ -7,10 +7,10 @@ pub returns-then-left-lt2 : goal.returns-then-left-lt2
 returns-then-left-lt2 c = entry_short c.args.bytes.now c.args.at (omega arith)
 
 pub returns-then-not-counted : goal.returns-then-not-counted
-returns-then-not-counted c = entry_wrong c.args.bytes.now c.args.at (omega arith) c.wide-count.result c.wide-count.ensures.0 (sym c.counted.ensures ∙ c.if-not-counted.true)
+returns-then-not-counted c = entry_wrong c.args.bytes.now c.args.at (omega arith) c.from-count.result c.from-count.ensures (sym c.counted.ensures ∙ c.if-not-counted.true)
 
 pub returns-then-left-count : goal.returns-then-left-count
-returns-then-left-count c = entry-cut c.args.bytes.now c.args.at (omega arith) c.wide-count.result c.wide-count.ensures.0 (sym c.counted.ensures ∙ c.if-not-counted.false) (omega arith)
+returns-then-left-count c = entry-cut c.args.bytes.now c.args.at (omega arith) c.from-count.result c.from-count.ensures (sym c.counted.ensures ∙ c.if-not-counted.false) (omega arith)
 
 pub returns : goal.returns
-returns c = entry-passes c.args.bytes.now c.args.at (omega arith) c.wide-count.result c.wide-count.ensures.0 (sym c.counted.ensures ∙ c.if-not-counted.false) (omega arith)
+returns c = entry-passes c.args.bytes.now c.args.at (omega arith) c.from-count.result c.from-count.ensures (sym c.counted.ensures ∙ c.if-not-counted.false) (omega arith)

@@ -27,13 +27,13 @@ loop-j-preserved c =
     let left = c.args.joints - l._j in
     let passes = sym c.in_ok-ask_entry.ensures in
     let w = whole bs l.at passes in
-    let next : l.at + (2 + 2 * c.wide-count.result) ≡ entry_end bs l.at = omega (arith, c.wide-count.ensures.0) in
+    let next : l.at + (2 + 2 * c.from-count.result) ≡ entry_end bs l.at = omega (arith, c.from-count.ensures) in
     let less : left - 1 ≡ c.args.joints - (l._j + 1) = omega arith in
     record {
-      inside = omega (arith, w.ended, c.wide-count.ensures.0);
+      inside = omega (arith, w.ended, c.from-count.ensures);
       few = omega (arith, l.invariant.few);
       refusal = rw (← less) (walk_turn bs l.at left _ (omega arith) passes next ∙ l.invariant.refusal);
-      ends = rw (← less) (omega (arith, l.invariant.ends, ends-next_long bs l.at left _ (omega arith) next, c.wide-count.ensures.0));
+      ends = rw (← less) (omega (arith, l.invariant.ends, ends-next_long bs l.at left _ (omega arith) next, c.from-count.ensures));
     }
 
 pub returns-then-at-bytes : goal.returns-then-at-bytes
