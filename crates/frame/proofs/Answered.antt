@@ -1,34 +1,52 @@
 -- The ways in which reading a file ends, each from what the code found.
-use Rattle.std.proofs.Common.{ℕ, ◌≡◌, sym, ◌∙◌, true, false, List, arith, eqb, ne_eqb}
+use Rattle.std.proofs.Common.{ℕ, ◌≡◌, sym, ◌∙◌, true, false, List, arith, eqb, ne_eqb, Ok, Err}
 use Rattle.frame.specs.Questions.{asked}
 use Rattle.frame.specs.Files.{head_questions, file_questions}
 use Rattle.frame.specs.Joints.{joints_refusal}
 use Rattle.frame.specs.Answers.{sizes_of, Read}
+use Rattle.frame.specs.Refusals.{number_of}
 use Rattle.frame.specs.declared.Frame.{Frame}
-use Rattle.frame.specs.declared.Reading.TheVariants.{Accepted, Refused}
+use Rattle.frame.specs.declared.refusal.Refusal.{Refusal}
+use Rattle.frame.specs.declared.refusal.Refusal.TheVariants.{Version, FileLength, TooMany, Lengths, Values, Room, Endpoints, BodyList, Positions, LowerTaken, HigherTaken, NoConstraint, NoPair}
 use Rattle.frame.proofs.Files.{known, file-asked}
 
+-- no refusal has the number 0
+pub numbered : (r : Refusal) → number_of r ≡ 0 → ⊥
+numbered Version h = omega arith
+numbered FileLength h = omega arith
+numbered TooMany h = omega arith
+numbered Lengths h = omega arith
+numbered Values h = omega arith
+numbered Room h = omega arith
+numbered Endpoints h = omega arith
+numbered BodyList h = omega arith
+numbered Positions h = omega arith
+numbered LowerTaken h = omega arith
+numbered HigherTaken h = omega arith
+numbered NoConstraint h = omega arith
+numbered NoPair h = omega arith
+
 module _ (bs : List ℕ) where
-  refused : (k : ℕ) → k ≡ asked (file_questions bs) → (k ≡ 0 → ⊥) → Read bs (Refused k)
-  refused k e n =
-      let z : eqb (asked (file_questions bs)) 0 ≡ false = ne_eqb (asked (file_questions bs)) 0 (λ h. n (e ∙ h)) in
+  refused : (r : Refusal) → number_of r ≡ asked (file_questions bs) → Read bs (Err r)
+  refused r e =
+      let z : eqb (asked (file_questions bs)) 0 ≡ false = ne_eqb (asked (file_questions bs)) 0 (λ h. numbered r (e ∙ h)) in
       record { refusal = e; refused = rw z; sizes = rw z }
 
   -- questions 1 to 3
-  pub read_head : (k : ℕ) → k ≡ asked (head_questions bs) → (k ≡ 0 → ⊥) → Read bs (Refused k)
-  read_head k e n = refused k (e ∙ sym (file-asked bs ∙ rw (ne_eqb (asked (head_questions bs)) 0 (λ h. n (e ∙ h))))) n
+  pub read_head : (r : Refusal) → number_of r ≡ asked (head_questions bs) → Read bs (Err r)
+  read_head r e = refused r (e ∙ sym (file-asked bs ∙ rw (ne_eqb (asked (head_questions bs)) 0 (λ h. numbered r (e ∙ h)))))
 
   module _ (h : asked (head_questions bs) ≡ 0) where
     -- the joints, by their walk or length
-    pub read-joints : (k : ℕ) → k ≡ joints_refusal bs → (k ≡ 0 → ⊥) → Read bs (Refused k)
-    read-joints k e n = refused k (e ∙ sym (file-asked bs ∙ rw (h, ne_eqb (joints_refusal bs) 0 (λ i. n (e ∙ i))))) n
+    pub read-joints : (r : Refusal) → number_of r ≡ joints_refusal bs → Read bs (Err r)
+    read-joints r e = refused r (e ∙ sym (file-asked bs ∙ rw (h, ne_eqb (joints_refusal bs) 0 (λ i. numbered r (e ∙ i)))))
 
     module _ (z : joints_refusal bs ≡ 0) where
       -- types and enabled bytes
-      pub read_bytes : known bs ≡ false → Read bs (Refused 5)
-      read_bytes e = refused 5 (sym (file-asked bs ∙ rw (h, z, e))) (λ i. omega arith)
+      pub read_bytes : known bs ≡ false → Read bs (Err Values)
+      read_bytes e = refused Values (sym (file-asked bs ∙ rw (h, z, e)))
 
-      pub read-sizes : known bs ≡ true → (f : Frame) → f ≡ sizes_of bs → Read bs (Accepted f)
+      pub read-sizes : known bs ≡ true → (f : Frame) → f ≡ sizes_of bs → Read bs (Ok f)
       read-sizes e f i =
           let q : asked (file_questions bs) ≡ 0 = file-asked bs ∙ rw (h, z, e) in
           record { refusal = sym q; refused = rw q; sizes = rw q i }

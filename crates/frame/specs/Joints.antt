@@ -1,23 +1,24 @@
 -- What the questions of a file's joints answer: the walk over the entries of version 2, and the joints of either version.
-use Rattle.std.specs.Prelude.{ℕ, ◌+◌, ◌*◌, ◌≡◌, true, cond, List, eqb, length}
-use Rattle.frame.specs.declared.entries.Walked.{Walked}
+use Rattle.std.specs.Prelude.{ℕ, ◌+◌, ◌*◌, ◌≡◌, true, cond, List, eqb, length, Result, IfOk}
+use Rattle.frame.specs.declared.refusal.Refusal.{Refusal}
+use Rattle.frame.specs.Refusals.{refused_by}
 use Rattle.frame.specs.Questions.{asked}
 use Rattle.frame.specs.Frames.{end_count}
 use Rattle.frame.specs.Files.{word, count_b, count_m, count_j, joints_at, second, entries_refusal, counts_from, ends_from, live_from, walk_refusal, joint_ends_in, head_questions, file_questions}
 
 -- the walk over n entries from place s on: its refusal or 0, and how many endpoints they have
-pub record Walks (bs : List ℕ) (s n : ℕ) (w : Walked) : Type 0 where
-  pub refusal : w.refusal ≡ entries_refusal bs s n
-  pub ends : w.refusal ≡ 0 → w.ends ≡ length (ends_from bs s n)
+pub record Walks (bs : List ℕ) (s n : ℕ) (w : Result ℕ Refusal) : Type 0 where
+  pub refusal : refused_by w ≡ entries_refusal bs s n
+  pub ends : IfOk w (λ ends. ends ≡ length (ends_from bs s n))
 
 -- the refusal of the joints ahead of question 5 of types and enabled bytes: the walk's, or that of version 1's length
 abbrev pub joints_refusal : List ℕ → ℕ
 joints_refusal bs = cond (second bs) (walk_refusal bs) (cond (eqb (word bs 1) (6 + count_b bs + 4 * count_m bs + 5 * count_j bs)) 0 4)
 
 -- a walk over a file's joints: that refusal, and how many endpoints they have
-pub record JointsRead (bs : List ℕ) (w : Walked) : Type 0 where
-  pub refusal : w.refusal ≡ joints_refusal bs
-  pub ends : w.refusal ≡ 0 → w.ends ≡ length (joint_ends_in bs)
+pub record JointsRead (bs : List ℕ) (w : Result ℕ Refusal) : Type 0 where
+  pub refusal : refused_by w ≡ joints_refusal bs
+  pub ends : IfOk w (λ ends. ends ≡ length (joint_ends_in bs))
 
 -- a file that passed questions 1 to 3 and its joints' refusal, with the place and the number of its joints
 pub record Passed (bs : List ℕ) (from n : ℕ) : Type 0 where

@@ -4,68 +4,50 @@ ghost use Rattle.std.specs.Prelude.{◌≡◌, ◌+◌, ◌*◌, ◌≤◌, leng
 ghost use Rattle.frame.specs.Questions.{bits};
 ghost use Rattle.frame.specs.Files.{entry_refusal, entries_refusal, places_from, halves_from, live_from, count_j, joints_at};
 ghost use Rattle.frame.specs.Joints.{Walks, Walkable, Entered, Placeable};
+ghost use Rattle.frame.specs.Refusals.{refused_by};
 
 use crate::multi::counted;
-use crate::{HEADER, PAIR, half_at, wide};
+use crate::{HEADER, PAIR, Refusal, half_at};
 
-// What a walk over joints answers: its refusal or 0, and how many endpoints they have together.
-#[derive(Clone, Copy)]
-pub struct Walked {
-    pub refusal: u8,
-    pub ends: usize,
-}
-
-// The entry at a place of the file: cut off before its count is met (4), a wrong count (5), cut off behind it (4), or 0.
-fn entry_refusal(bytes: &[u8], at: usize) -> u8
+// The entry at a place of the file: cut off before its count is met (4), a wrong count (5), or cut off behind it (4).
+fn ask_entry(bytes: &[u8], at: usize) -> Result<(), Refusal>
     requires { at ≤ length bytes.now }
-    ensures { result ≡ entry_refusal bytes.now at }
+    ensures { refused_by result ≡ entry_refusal bytes.now at }
 {
     let left = bytes.len() - at;
     if left < 2 {
-        return 4;
+        return Err(Refusal::Lengths);
     }
-    let count = wide(bytes[at + 1]);
+    let count = usize::from(bytes[at + 1]);
     if !counted(count) {
-        return 5;
+        return Err(Refusal::Values);
     }
     if left - 2 < 2 * count {
-        return 4;
+        return Err(Refusal::Lengths);
     }
-    0
+    Ok(())
 }
 
-// The walk over the `joints` entries that start at `from`; behind the last one nothing may be left over.
-pub fn walk(bytes: &[u8], from: usize, joints: usize) -> Walked
+// The walk over the `joints` entries that start at `from`; behind the last one nothing may be left over. How many endpoints they have together.
+pub fn walk(bytes: &[u8], from: usize, joints: usize) -> Result<usize, Refusal>
     ensures { Walks bytes.now from joints result }
 {
     if bytes.len() < from {
-        return Walked {
-            refusal: 4,
-            ends: 0,
-        };
+        return Err(Refusal::Lengths);
     }
     let mut at = from;
-    let mut left = joints;
     let mut ends: usize = 0;
-    // The entries before place `at` pass and have `ends` endpoints; `left` of them are still to be met.
-    while 0 < left {
-        let refusal = entry_refusal(bytes, at);
-        if refusal != 0 {
-            return Walked {
-                refusal: refusal,
-                ends: 0,
-            };
-        }
-        let count = wide(bytes[at + 1]);
+    // The entries before place `at` pass and have `ends` endpoints.
+    for _j in 0..joints {
+        ask_entry(bytes, at)?;
+        let count = usize::from(bytes[at + 1]);
         at += 2 + 2 * count;
         ends += count;
-        left -= 1;
     }
-    let refusal = if at != bytes.len() { 4 } else { 0 };
-    Walked {
-        refusal: refusal,
-        ends: ends,
+    if at != bytes.len() {
+        return Err(Refusal::Lengths);
     }
+    Ok(ends)
 }
 
 // Question 5 of the enabled bytes of the `joints` entries that start at `from`.
@@ -74,14 +56,12 @@ pub fn enabled_known(bytes: &[u8], from: usize, joints: usize) -> bool
     ensures { result ≡ bits (live_from bytes.now from joints) }
 {
     let mut at = from;
-    let mut left = joints;
-    // The entries before place `at` have known bytes; `left` of them are still to be asked.
-    while 0 < left {
+    // The entries before place `at` have known bytes.
+    for _j in 0..joints {
         if 1 < bytes[at] {
             return false;
         }
-        at += 2 + 2 * wide(bytes[at + 1]);
-        left -= 1;
+        at += 2 + 2 * usize::from(bytes[at + 1]);
     }
     true
 }
@@ -91,13 +71,8 @@ fn decode_halves(bytes: &[u8], from: usize, halves: &mut [u16])
     requires { from + 2 * length halves.old ≤ length bytes.now }
     ensures { halves.new ≡ halves_from bytes.now from (length halves.old) }
 {
-    let mut at = from;
-    let mut k = 0;
-    // The first k entries are the numbers before place `at`.
-    while k < halves.len() {
-        halves[k] = half_at(bytes, at) as u16;
-        at += 2;
-        k += 1;
+    for (k, half) in halves.iter_mut().enumerate() {
+        *half = half_at(bytes, from + 2 * k) as u16;
     }
 }
 
@@ -108,16 +83,14 @@ pub fn decode(bytes: &[u8], from: usize, ends: &mut [u16], counts: &mut [u8], en
 {
     let mut at = from;
     let mut k = 0;
-    let mut j = 0;
     // The first j entries stand before place `at`, and their endpoints before entry k.
-    while j < enabled.len() {
-        let count = wide(bytes[at + 1]);
-        enabled[j] = bytes[at];
+    for (j, byte) in enabled.iter_mut().enumerate() {
+        let count = usize::from(bytes[at + 1]);
+        *byte = bytes[at];
         counts[j] = bytes[at + 1];
         decode_halves(bytes, at + 2, &mut ends[k..k + count]);
         at += 2 + 2 * count;
         k += count;
-        j += 1;
     }
 }
 
@@ -127,11 +100,9 @@ pub fn entry_places(bytes: &[u8], places: &mut [u16])
     ensures { places.new ≡ places_from bytes.now (joints_at bytes.now) (count_j bytes.now) }
 {
     let mut at = HEADER + half_at(bytes, 5) + PAIR * half_at(bytes, 7);
-    let mut j = 0;
-    // The first j places are those of the entries before place `at`.
-    while j < places.len() {
-        places[j] = at as u16;
-        at += 2 + 2 * wide(bytes[at + 1]);
-        j += 1;
+    // The places filled are those of the entries before place `at`.
+    for place in places.iter_mut() {
+        *place = at as u16;
+        at += 2 + 2 * usize::from(bytes[at + 1]);
     }
 }

@@ -16,10 +16,11 @@ ghost use Rattle.frame.specs.Questions.{asked, few_each, bits};
 ghost use Rattle.frame.specs.Files.{byte, half, word, second, pairs_from, enabled_from, count_m, count_j, joints_at, live_in, ends_at, head_questions};
 ghost use Rattle.frame.specs.Joints.{JointsRead, Passed};
 ghost use Rattle.frame.specs.Decodes.{Decodable, Decoded};
-ghost use Rattle.frame.specs.Answers.{read_number, read_sizes, Read};
+ghost use Rattle.frame.specs.Answers.{read_sizes, version_of, Read};
+ghost use Rattle.frame.specs.Refusals.{refused_by};
 
 use crate::constraints::Pairs;
-use crate::entries::Walked;
+
 pub use crate::refusal::Refusal;
 
 // The file form: how many bytes stand before the types, and how many a manifold and a joint have.
@@ -29,21 +30,21 @@ pub const PAIR: usize = 4;
 
 pub const JOINT: usize = 5;
 
+// The versions of the file form: they differ in their joints.
+#[derive(Clone, Copy, Debug, PartialEq, Eq)]
+pub enum Version {
+    First = 1,
+    Second = 2,
+}
+
 // A file's version, how many bodies, manifolds and joints its frame has, and how many endpoints the joints have together.
-#[derive(Clone, Copy)]
+#[derive(Clone, Copy, Debug, PartialEq, Eq)]
 pub struct Frame {
-    pub version: u8,
+    pub version: Version,
     pub bodies: usize,
     pub manifolds: usize,
     pub joints: usize,
     pub joint_ends: usize,
-}
-
-// The answer of reading a file: its sizes, or the number of the first question that got a "no".
-#[derive(Clone, Copy)]
-pub enum Reading {
-    Accepted(Frame),
-    Refused(u8),
 }
 
 // A frame as a call is lent it: a type for each body, the endpoint pairs of manifolds, and the joints' endpoints, counts and enabled bytes;
@@ -57,23 +58,14 @@ pub struct Lists<'a> {
     pub enabled: &'a [u8],
 }
 
-// What reading the file answered: the refusal or 0, and the sizes.
-pub fn refusal_of(reading: Reading) -> u8
-    ensures { result ≡ read_number reading }
-{
-    match reading {
-        Reading::Accepted(_) => 0,
-        Reading::Refused(n) => n,
-    }
-}
-
-pub fn sizes_of(reading: Reading) -> Frame
+// The sizes that reading a file answered; all 0 where it was refused.
+pub fn sizes_of(reading: Result<Frame, Refusal>) -> Frame
     ensures { result ≡ read_sizes reading }
 {
     match reading {
-        Reading::Accepted(sizes) => sizes,
-        Reading::Refused(_) => Frame {
-            version: 0,
+        Ok(sizes) => sizes,
+        Err(_) => Frame {
+            version: Version::First,
             bodies: 0,
             manifolds: 0,
             joints: 0,
@@ -94,7 +86,7 @@ fn half_at(bytes: &[u8], i: usize) -> usize
     requires { i + 2 ≤ length bytes.now }
     ensures { (result ≡ half bytes.now i) × (result < 65536) }
 {
-    wide(bytes[i]) * 256 + wide(bytes[i + 1])
+    usize::from(u16::from_be_bytes([bytes[i], bytes[i + 1]]))
 }
 
 // The 32-bit number at a place, big-endian.
@@ -122,6 +114,16 @@ pub fn is_second(bytes: &[u8]) -> bool
     byte_or_zero(bytes, 0) == 2
 }
 
+// The version of a file that has one of the two.
+fn version_of(bytes: &[u8]) -> Version
+    ensures { result ≡ version_of bytes.now }
+{
+    if is_second(bytes) {
+        return Version::Second;
+    }
+    Version::First
+}
+
 // Question 2.
 fn length_right(bytes: &[u8]) -> bool
     ensures { result ≡ (leb 11 (length bytes.now) && eqb (word bytes.now 1) (length bytes.now - 5)) }
@@ -141,24 +143,25 @@ pub fn few_each(bodies: usize, manifolds: usize, joints: usize) -> bool
         & (joints <= Frame::MAX_JOINTS)
 }
 
-// Questions 1 to 3; 0 where all get a "yes".
-fn head_refusal(bytes: &[u8]) -> u8
-    ensures { result ≡ asked (head_questions bytes.now) }
+// Questions 1 to 3.
+fn ask_head(bytes: &[u8]) -> Result<(), Refusal>
+    ensures { refused_by result ≡ asked (head_questions bytes.now) }
 {
     if !version_known(bytes) {
-        return 1;
+        return Err(Refusal::Version);
     }
     if !length_right(bytes) {
-        return 2;
+        return Err(Refusal::FileLength);
     }
     if !few_each(half_at(bytes, 5), half_at(bytes, 7), half_at(bytes, 9)) {
-        return 3;
+        return Err(Refusal::TooMany);
     }
-    0
+    Ok(())
 }
 
-// Questions 5 (of counts) and 4 of the joints that start at `from`: the walk of version 2, the length of version 1.
-fn walk_joints(bytes: &[u8], from: usize, joints: usize) -> Walked
+// Questions 5 (of counts) and 4 of the joints that start at `from`: the walk of version 2, the length of version 1. How many endpoints they
+// have together.
+fn walk_joints(bytes: &[u8], from: usize, joints: usize) -> Result<usize, Refusal>
     requires { (asked (head_questions bytes.now) ≡ 0) × (from ≡ joints_at bytes.now) × (joints ≡ count_j bytes.now) }
     ensures { JointsRead bytes.now result }
 {
@@ -166,15 +169,9 @@ fn walk_joints(bytes: &[u8], from: usize, joints: usize) -> Walked
         return entries::walk(bytes, from, joints);
     }
     if bytes.len() != from + JOINT * joints {
-        return Walked {
-            refusal: 4,
-            ends: 0,
-        };
+        return Err(Refusal::Lengths);
     }
-    Walked {
-        refusal: 0,
-        ends: 2 * joints,
-    }
+    Ok(2 * joints)
 }
 
 // Question 5: is every byte at most `limit`? (`Frame::MAX_TYPE` for types, 1 for enabled bytes and flags)
@@ -182,11 +179,9 @@ pub fn at_most(s: &[u8], limit: u8) -> bool
     ensures { result ≡ all (λ x. leb x limit) s.now }
 {
     let mut known = true;
-    let mut i = 0;
     // `known` tells whether every byte passed is at most the limit.
-    while i < s.len() {
-        known = known & (s[i] <= limit);
-        i += 1;
+    for &x in s {
+        known &= x <= limit;
     }
     known
 }
@@ -196,15 +191,11 @@ fn enabled_known(bytes: &[u8], from: usize, joints: usize) -> bool
     requires { (from + 5 * joints ≤ length bytes.now) × (joints ≤ 4096) }
     ensures { result ≡ bits (enabled_from bytes.now from joints) }
 {
-    let mut at = from;
-    let mut left = joints;
-    // The joints before place `at` have known bytes; `left` of them are still to be asked.
-    while 0 < left {
-        if 1 < bytes[at + PAIR] {
+    for j in 0..joints {
+        let enabled = bytes[from + JOINT * j + PAIR];
+        if 1 < enabled {
             return false;
         }
-        at += JOINT;
-        left -= 1;
     }
     true
 }
@@ -240,33 +231,27 @@ impl Frame {
     pub const MAX_ENDS: usize = 4;
 
     // Questions 1 to 5 of a file.
-    pub fn read(bytes: &[u8]) -> Reading
+    pub fn read(bytes: &[u8]) -> Result<Frame, Refusal>
         ensures { Read bytes.now result }
     {
-        let refusal = head_refusal(bytes);
-        if refusal != 0 {
-            return Reading::Refused(refusal);
-        }
+        ask_head(bytes)?;
         let bodies = half_at(bytes, 5);
         let manifolds = half_at(bytes, 7);
         let joints = half_at(bytes, 9);
         let from = HEADER + bodies + PAIR * manifolds;
-        let walked = walk_joints(bytes, from, joints);
-        if walked.refusal != 0 {
-            return Reading::Refused(walked.refusal);
-        }
+        let joint_ends = walk_joints(bytes, from, joints)?;
         if !at_most(&bytes[HEADER..HEADER + bodies], Frame::MAX_TYPE) {
-            return Reading::Refused(5);
+            return Err(Refusal::Values);
         }
         if !live_known(bytes, from, joints) {
-            return Reading::Refused(5);
+            return Err(Refusal::Values);
         }
-        Reading::Accepted(Frame {
-            version: bytes[0],
-            bodies: bodies,
-            manifolds: manifolds,
-            joints: joints,
-            joint_ends: walked.ends,
+        Ok(Frame {
+            version: version_of(bytes),
+            bodies,
+            manifolds,
+            joints,
+            joint_ends,
         })
     }
 }
@@ -276,11 +261,8 @@ fn decode_types(bytes: &[u8], types: &mut [u8])
     requires { 11 + length types.old ≤ length bytes.now }
     ensures { types.new ≡ take (length types.old) (drop 11 bytes.now) }
 {
-    let mut i = 0;
-    while i < types.len() {
-        types[i] = bytes[HEADER + i];
-        i += 1;
-    }
+    let count = types.len();
+    types.copy_from_slice(&bytes[HEADER..HEADER + count]);
 }
 
 // Whether a body of this type makes conflicts: it is dynamic, or logged.
@@ -302,11 +284,8 @@ fn flag_bodies(types: &[u8], flags: &mut [u8])
     requires { length flags.old ≡ length types.now }
     ensures { flags.new ≡ map flag_of types.now }
 {
-    let mut i = 0;
-    // The first i flags are those of their types.
-    while i < flags.len() {
-        flags[i] = flag_of(types[i]);
-        i += 1;
+    for (i, flag) in flags.iter_mut().enumerate() {
+        *flag = flag_of(types[i]);
     }
 }
 
@@ -316,13 +295,11 @@ fn decode_pairs(bytes: &[u8], from: usize, step: usize, pairs: &mut [u16])
     ensures { pairs.new ≡ pairs_from bytes.now from step (length pairs.old / 2) }
 {
     let mut at = from;
-    let mut k = 0;
-    // The first k entries are those of the pairs before place `at`.
-    while k < pairs.len() {
-        pairs[k] = half_at(bytes, at) as u16;
-        pairs[k + 1] = half_at(bytes, at + 2) as u16;
+    // The pairs before place `at` are in the first 2 * k entries.
+    for k in 0..pairs.len() / 2 {
+        pairs[2 * k] = half_at(bytes, at) as u16;
+        pairs[2 * k + 1] = half_at(bytes, at + 2) as u16;
         at += step;
-        k += 2;
     }
 }
 
@@ -331,13 +308,8 @@ fn decode_enabled(bytes: &[u8], from: usize, enabled: &mut [u8])
     requires { from + 5 * length enabled.old ≤ length bytes.now }
     ensures { enabled.new ≡ enabled_from bytes.now from (length enabled.old) }
 {
-    let mut at = from;
-    let mut j = 0;
-    // The first j entries are the bytes of the joints before place `at`.
-    while j < enabled.len() {
-        enabled[j] = bytes[at + PAIR];
-        at += JOINT;
-        j += 1;
+    for (j, byte) in enabled.iter_mut().enumerate() {
+        *byte = bytes[from + JOINT * j + PAIR];
     }
 }
 
@@ -345,12 +317,7 @@ fn decode_enabled(bytes: &[u8], from: usize, enabled: &mut [u8])
 fn fill_twos(counts: &mut [u8])
     ensures { counts.new ≡ replicate (length counts.old) 2 }
 {
-    let mut i = 0;
-    // The first i counts are 2.
-    while i < counts.len() {
-        counts[i] = 2;
-        i += 1;
-    }
+    counts.fill(2);
 }
 
 // The whole file, into tables of its frame's sizes. On version 1 `counts` is empty; on version 2 it has a count for each
@@ -391,10 +358,7 @@ pub fn decode(
 pub fn byte_or_zero(bytes: &[u8], i: usize) -> usize
     ensures { (result ≡ byte bytes.now i) × (result < 256) }
 {
-    if i < bytes.len() {
-        return bytes[i] as usize;
-    }
-    0
+    usize::from(bytes.get(i).copied().unwrap_or(0))
 }
 
 // The 16-bit number at any place, big-endian. The print reads with it, whose file need not be an accepted one.
@@ -430,10 +394,7 @@ pub fn ends_at(bytes: &[u8], constraint: usize) -> usize
 pub fn live_at(enabled: &[u8], i: usize) -> bool
     ensures { result ≡ eqb (get_or enabled.now i 1) 1 }
 {
-    if i < enabled.len() {
-        return enabled[i] == 1;
-    }
-    true
+    enabled.get(i).copied().unwrap_or(1) == 1
 }
 
 // Question 7 of one constraint.

@@ -19,11 +19,9 @@ pub fn counts_known(counts: &[u8]) -> bool
     ensures { result ≡ counts_known counts.now }
 {
     let mut known = true;
-    let mut i = 0;
     // `known` tells whether every count passed is two to four.
-    while i < counts.len() {
-        known = known & counted(wide(counts[i]));
-        i += 1;
+    for &count in counts {
+        known &= counted(usize::from(count));
     }
     known
 }
@@ -33,43 +31,18 @@ pub fn sum_counts(counts: &[u8]) -> usize
     requires { length counts.now ≤ 8192 }
     ensures { result ≡ end_count counts.now }
 {
-    let mut sum: usize = 0;
-    let mut i = 0;
-    // `sum` is that of the counts passed.
-    while i < counts.len() {
-        sum += wide(counts[i]);
-        i += 1;
-    }
-    sum
-}
-
-// Does x stand in the list?
-fn stands_in(x: u16, list: &[u16]) -> bool
-    ensures { result ≡ mem x list.now }
-{
-    let mut i = 0;
-    // The numbers passed are not x.
-    while i < list.len() {
-        if x == list[i] {
-            return true;
-        }
-        i += 1;
-    }
-    false
+    counts.iter().map(|&count| usize::from(count)).sum()
 }
 
 // Are the numbers of a list all different and below n?
 pub fn distinct_below(list: &[u16], n: usize) -> bool
     ensures { result ≡ (distinct list.now && all (λ x. ltb x n) list.now) }
 {
-    let mut i = 0;
     // The numbers passed are below n, and none of them stands again behind its place.
-    while i < list.len() {
-        let x = list[i];
-        if (n <= x as usize) | stands_in(x, &list[i + 1..]) {
+    for (i, &x) in list.iter().enumerate() {
+        if (n <= usize::from(x)) | list[i + 1..].contains(&x) {
             return false;
         }
-        i += 1;
     }
     true
 }

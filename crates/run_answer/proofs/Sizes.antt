@@ -1,17 +1,28 @@
--- The sizes of a file that was read.
-use Rattle.std.proofs.Common.{ℕ, ◌≤◌, ◌≡◌, List, arith, eqb, eqb-true}
-use Rattle.lists.proofs.Laws.{by_cases}
+-- The sizes of a file that was read, and the answer of one that was not.
+use Rattle.std.proofs.Common.{ℕ, ◌≤◌, ◌≡◌, List, Ok, Err, refl, Bool, true, false, cond, sym, arith}
 use Rattle.frame.specs.Questions.{asked}
-use Rattle.frame.specs.Files.{file_questions}
+use denote.Enum.Bare.{sameb}
+use Rattle.lists.proofs.Laws.{by_cases}
+use Rattle.frame.specs.contracts.Version.{the_type}
+use Rattle.frame.specs.declared.Version.TheVariants.{First, Second}
+use Rattle.frame.specs.Files.{second, file_questions}
 use Rattle.frame.specs.declared.Frame.{Frame}
-use Rattle.frame.specs.declared.Reading.{Reading}
-use Rattle.frame.specs.Answers.{read_sizes, Read}
+use Rattle.frame.specs.declared.refusal.Refusal.{Refusal}
+use Rattle.frame.specs.Answers.{sizes_of, Read}
 use Rattle.frame.proofs.Files.{file_sized}
 
--- no size is above 4,096, read or refused
-pub few_constraints : (bs : List ℕ) (reading : Reading) → Read bs reading → (f : Frame) → f ≡ read_sizes reading → (f.manifolds ≤ 4096) × (f.joints ≤ 4096)
-few_constraints bs reading h f e = rw (e, h.sizes) (by_cases (eqb (asked (file_questions bs)) 0)
-    (λ t.
-    let s = file_sized bs (eqb-true _ 0 t) in
-    rw t (s.manifolds, s.joints))
-    (λ t. rw t (omega arith, omega arith)))
+module _ (bs : List ℕ) (f : Frame) (h : Read bs (Ok f)) where
+  pub sizes_known : f ≡ sizes_of bs
+  sizes_known = rw (sym h.refusal) at h.sizes
+
+  -- no size is above 4,096
+  pub few_constraints : (f.manifolds ≤ 4096) × (f.joints ≤ 4096)
+  few_constraints = rw sizes_known (let s = file_sized bs (sym h.refusal) in (s.manifolds, s.joints))
+
+  -- its version says whether its constraints have counts
+  pub version_known : sameb the_type f.version Second ≡ second bs
+  version_known = rw sizes_known (go (second bs))
+    where
+      go : (b : Bool) → sameb the_type (cond b Second First) Second ≡ b
+      go true = refl
+      go false = refl

@@ -2,10 +2,11 @@
 // of the frame run.
 #![tactic(auto)]
 
-ghost use Rattle.std.specs.Prelude.{◌+◌, ◌*◌, ◌≤◌, ◌≡◌, ◌&&◌, cond, leb, eqb};
+ghost use Rattle.std.specs.Prelude.{◌+◌, ◌*◌, ◌≤◌, ◌≡◌, ◌&&◌, cond, leb};
+ghost use Rattle.frame.specs.Refusals.{number_of};
 ghost use Rattle.run_answer.specs.Answers.{run_number, run_report, Asks, AnswerOf, entries_for, counts_room};
 
-use frame::Frame;
+use frame::{Frame, Refusal, Version};
 use frame_tables::Filling;
 use turn_table::Tally;
 
@@ -121,17 +122,11 @@ fn roomy_for(
         & plan
 }
 
-// Questions 1 to 6: the refusal of reading the file, or 6.
-fn first_refusal(read: u8, room: bool) -> u8
-    ensures { result ≡ cond (eqb read 0) (cond room 0 6) read }
+// Question 6 of a file that was read: its number, or 0.
+fn room_refusal(room: bool) -> u8
+    ensures { result ≡ cond room 0 6 }
 {
-    if read != 0 {
-        return read;
-    }
-    if !room {
-        return 6;
-    }
-    0
+    if room { 0 } else { Refusal::Room.number() }
 }
 
 // What questions 1 to 6 answer: the refusal or 0, and of a file that was read whether its constraints have counts, and its sizes.
@@ -143,6 +138,20 @@ pub struct Asked {
     pub manifolds: usize,
     pub joints: usize,
     pub joint_ends: usize,
+}
+
+// The answer where the file was refused.
+fn unread(refusal: Refusal) -> Asked
+    ensures { result.refusal ≡ number_of refusal }
+{
+    Asked {
+        refusal: refusal.number(),
+        counted: false,
+        bodies: 0,
+        manifolds: 0,
+        joints: 0,
+        joint_ends: 0,
+    }
 }
 
 // Questions 1 to 6 of a file, on tables of these lengths.
@@ -188,12 +197,14 @@ pub fn ask(
         && leb (m + j + 1) color_offsets && leb (m + j) colored_constraints && leb (m + j + 1) color_body_offsets
         && leb (entries_for v m j) color_bodies && leb (entries_for v m j) constraint_body_positions)) result }
 {
-    let reading = Frame::read(frame);
-    let sizes_read = frame::sizes_of(reading);
+    let sizes_read = match Frame::read(frame) {
+        Ok(sizes_read) => sizes_read,
+        Err(refusal) => return unread(refusal),
+    };
     let bodies = sizes_read.bodies;
     let manifolds = sizes_read.manifolds;
     let joints = sizes_read.joints;
-    let counted = sizes_read.version == 2;
+    let counted = sizes_read.version == Version::Second;
     let entries = entries_for(counted, manifolds, joints);
     let plan = plan_questions::roomy_with(
         bodies,
@@ -237,7 +248,7 @@ pub fn ask(
         plan,
     );
     Asked {
-        refusal: first_refusal(frame::refusal_of(reading), room),
+        refusal: room_refusal(room),
         counted: counted,
         bodies: bodies,
         manifolds: manifolds,

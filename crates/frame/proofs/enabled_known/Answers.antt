@@ -1,12 +1,18 @@
-use Rattle.std.proofs.Common.{sym, ◌∙◌, arith}
+-- `frame::enabled_known`: the next byte decides, or is passed by.
+use Rattle.std.proofs.Common.{◌+◌, ◌-◌, ◌*◌, ◌≡◌, sym, ◌∙◌, arith}
 use Rattle.frame.proofs.Decoding.{enabled-end, known_stop, known_turn}
 use Rattle.frame.proofs.enabled_known.Goals as goal
 
-pub returns-then-bytes-at-gt1 : goal.returns-then-bytes-at-gt1
-returns-then-bytes-at-gt1 c = sym (known_stop c.args.bytes.now c.loop-left.at c.loop-left.left c.loop-left-test.true c.if-bytes-at-gt1.true) ∙ c.loop-left.invariant.1
+pub returns-then-enabled-gt1 : goal.returns-then-enabled-gt1
+returns-then-enabled-gt1 c = sym (known_stop c.args.bytes.now (c.args.from + 5 * c.loop-j.j) (c.args.joints - c.loop-j.j) (omega arith) c.if-enabled-gt1.true) ∙ c.loop-j.invariant
 
-pub loop-left-preserved : goal.loop-left-preserved
-loop-left-preserved c = (omega arith, known_turn c.args.bytes.now c.loop-left.at c.loop-left.left c.loop-left-test.true c.if-bytes-at-gt1.false ∙ c.loop-left.invariant.1)
+pub loop-j-preserved : goal.loop-j-preserved
+loop-j-preserved c =
+    let at = c.args.from + 5 * c.loop-j.j in
+    let left = c.args.joints - c.loop-j.j in
+    let next : at + 5 ≡ c.args.from + 5 * (c.loop-j.j + 1) = omega arith in
+    let less : left - 1 ≡ c.args.joints - (c.loop-j.j + 1) = omega arith in
+    rw (← next, ← less) (known_turn c.args.bytes.now at left (omega arith) c.if-enabled-gt1.false ∙ c.loop-j.invariant)
 
 pub returns : goal.returns
-returns c = rw (enabled-end c.args.bytes.now c.loop-left.at c.loop-left.left (omega (arith, c.loop-left-test.false))) at c.loop-left.invariant.1
+returns c = rw (enabled-end c.args.bytes.now (c.args.from + 5 * c.loop-j.j) (c.args.joints - c.loop-j.j) (omega arith)) at c.loop-j.invariant

@@ -5,4 +5,4 @@ use Rattle.frame.proofs.half_at.Goals as goal
 
 pub returns : goal.returns
 unfolding half
-returns c = (omega (arith, c.wide.ensures.0, c.wide-2.ensures.0), omega (arith, c.wide.ensures, c.wide-2.ensures))
+returns c = (omega arith, omega arith)

@@ -14,5 +14,5 @@ returns c =
     let v = sym c.is_second.ensures ∙ c.if-is_second.false in
     record {
       refusal = first_right c.args.bytes.now c.requires.0 v (omega (arith, c.if-bytes-from.false, c.requires.1, c.requires.2));
-      ends = λ z. omega (arith, ends-first_long c.args.bytes.now v, c.requires.2);
+      ends = omega (arith, ends-first_long c.args.bytes.now v, c.requires.2);
     }

@@ -13,10 +13,8 @@ loop-j-init c =
     let n = length c.args.enabled.now in
     let e : n - 0 ≡ n = whole n in
     record {
-      few = omega arith;
       ends_long = refl;
       counts_long = c.requires.counts;
-      enabled_long = refl;
       walked = rw e c.requires.walked;
       room = rw e (omega (arith, c.requires.ends, ends_long bs s n));
       ends = rw e;
@@ -25,63 +23,61 @@ loop-j-init c =
     }
 
 pub overflow_add-at : goal.overflow_add-at
-overflow_add-at c = let l = c.loop-j in let w = walk_whole c.args.bytes.now l.at _ (omega (arith, l.invariant.enabled_long, c.loop-j-test.true)) l.invariant.walked in omega (arith, w.begun)
+overflow_add-at c = let l = c.loop-j in let w = walk_whole c.args.bytes.now l.at _ (omega arith) l.invariant.walked in omega (arith, w.begun)
 
 pub bounds-bytes-at : goal.bounds-bytes-at
-bounds-bytes-at c = let l = c.loop-j in let w = walk_whole c.args.bytes.now l.at _ (omega (arith, l.invariant.enabled_long, c.loop-j-test.true)) l.invariant.walked in omega (arith, w.begun)
+bounds-bytes-at c = let l = c.loop-j in let w = walk_whole c.args.bytes.now l.at _ (omega arith) l.invariant.walked in omega (arith, w.begun)
 
 pub bounds-bytes-at-in-loop-j : goal.bounds-bytes-at-in-loop-j
-bounds-bytes-at-in-loop-j c = let l = c.loop-j in let w = walk_whole c.args.bytes.now l.at _ (omega (arith, l.invariant.enabled_long, c.loop-j-test.true)) l.invariant.walked in omega (arith, w.begun)
+bounds-bytes-at-in-loop-j c = let l = c.loop-j in let w = walk_whole c.args.bytes.now l.at _ (omega arith) l.invariant.walked in omega (arith, w.begun)
 
 pub overflow_add-counts : goal.overflow_add-counts
-overflow_add-counts c = let l = c.loop-j in let w = walk_whole c.args.bytes.now l.at _ (omega (arith, l.invariant.enabled_long, c.loop-j-test.true)) l.invariant.walked in omega (arith, w.begun)
+overflow_add-counts c = let l = c.loop-j in let w = walk_whole c.args.bytes.now l.at _ (omega arith) l.invariant.walked in omega (arith, w.begun)
 
 pub bounds-bytes-at-in-loop-j-2 : goal.bounds-bytes-at-in-loop-j-2
-bounds-bytes-at-in-loop-j-2 c = let l = c.loop-j in let w = walk_whole c.args.bytes.now l.at _ (omega (arith, l.invariant.enabled_long, c.loop-j-test.true)) l.invariant.walked in omega (arith, w.begun)
+bounds-bytes-at-in-loop-j-2 c = let l = c.loop-j in let w = walk_whole c.args.bytes.now l.at _ (omega arith) l.invariant.walked in omega (arith, w.begun)
 
 pub overflow_add-at-in-loop-j : goal.overflow_add-at-in-loop-j
-overflow_add-at-in-loop-j c = let l = c.loop-j in let w = walk_whole c.args.bytes.now l.at _ (omega (arith, l.invariant.enabled_long, c.loop-j-test.true)) l.invariant.walked in omega (arith, w.begun)
+overflow_add-at-in-loop-j c = let l = c.loop-j in let w = walk_whole c.args.bytes.now l.at _ (omega arith) l.invariant.walked in omega (arith, w.begun)
 
 pub slice_bounds-decode_halves-end : goal.slice_bounds-decode_halves-end
 slice_bounds-decode_halves-end c =
     let l = c.loop-j in
-    let some : 0 < length c.args.enabled.now - l.j = omega (arith, l.invariant.enabled_long, c.loop-j-test.true) in
-    omega (arith, l.invariant.room, l.invariant.ends_long, ends-next_long c.args.bytes.now l.at (length c.args.enabled.now - l.j) _ some refl, c.wide-count.ensures.0)
+    let some : 0 < length c.args.enabled.now - l.j = omega arith in
+    omega (arith, l.invariant.room, l.invariant.ends_long, ends-next_long c.args.bytes.now l.at (length c.args.enabled.now - l.j) _ some refl, c.from-count.ensures)
 
 pub decode_halves-requires : goal.decode_halves-requires
 decode_halves-requires c =
     let l = c.loop-j in
     let bs = c.args.bytes.now in
-    let h : l.j < length c.args.enabled.now = omega (arith, l.invariant.enabled_long, c.loop-j-test.true) in
+    let h : l.j < length c.args.enabled.now = omega arith in
     let w = walk_whole bs l.at _ (omega arith) l.invariant.walked in
-    let inside : l.k + c.wide-count.result ≤ length l.ends = omega (arith, l.invariant.room, l.invariant.ends_long, ends-next_long bs l.at (length c.args.enabled.now - l.j) _ (omega arith) refl, c.wide-count.ensures.0) in
-    omega (arith, part_long l.ends l.k c.wide-count.result inside, w.ended, c.wide-count.ensures.0)
+    let inside : l.k + c.from-count.result ≤ length l.ends = omega (arith, l.invariant.room, l.invariant.ends_long, ends-next_long bs l.at (length c.args.enabled.now - l.j) _ (omega arith) refl, c.from-count.ensures) in
+    omega (arith, part_long l.ends l.k c.from-count.result inside, w.ended, c.from-count.ensures)
 
 pub overflow_add-at-in-loop-j-3 : goal.overflow_add-at-in-loop-j-3
-overflow_add-at-in-loop-j-3 c = let l = c.loop-j in let w = walk_whole c.args.bytes.now l.at _ (omega (arith, l.invariant.enabled_long, c.loop-j-test.true)) l.invariant.walked in omega (arith, w.ended, c.wide-count.ensures.0)
+overflow_add-at-in-loop-j-3 c = let l = c.loop-j in let w = walk_whole c.args.bytes.now l.at _ (omega arith) l.invariant.walked in omega (arith, w.ended, c.from-count.ensures)
 
 pub loop-j-preserved : goal.loop-j-preserved
 loop-j-preserved c =
     let l = c.loop-j in
     let bs = c.args.bytes.now in
     let n = length c.args.enabled.now in
-    let count = c.wide-count.result in
-    let h : l.j < n = omega (arith, l.invariant.enabled_long, c.loop-j-test.true) in
+    let count = c.from-count.result in
+    let h : l.j < n = omega arith in
     let some : 0 < n - l.j = omega arith in
-    let next : l.at + (2 + 2 * count) ≡ entry_end bs l.at = omega (arith, c.wide-count.ensures.0) in
+    let next : l.at + (2 + 2 * count) ≡ entry_end bs l.at = omega (arith, c.from-count.ensures) in
     let less : n - l.j - 1 ≡ n - (l.j + 1) = omega arith in
     let long = ends-next_long bs l.at (n - l.j) _ some next in
-    let inside : l.k + count ≤ length l.ends = omega (arith, l.invariant.room, l.invariant.ends_long, long, c.wide-count.ensures.0) in
+    let inside : l.k + count ≤ length l.ends = omega (arith, l.invariant.room, l.invariant.ends_long, long, c.from-count.ensures) in
     record {
-      few = omega arith;
-      ends_long = table_long bs l.ends _ l.at l.k count c.wide-count.ensures.0 inside c.decode_halves.ensures ∙ l.invariant.ends_long;
+      ends_long = table_long bs l.ends _ l.at l.k count c.from-count.ensures inside c.decode_halves.ensures ∙ l.invariant.ends_long;
       counts_long = simp length-set l.invariant.counts_long;
-      enabled_long = simp length-set l.invariant.enabled_long;
       walked = rw less at (walk_next bs l.at (n - l.j) _ some l.invariant.walked next);
-      room = rw (← less) (omega (arith, l.invariant.room, long, c.wide-count.ensures.0));
-      ends = rw (← less) (table_turn bs l.ends _ l.at l.k count c.wide-count.ensures.0 inside c.decode_halves.ensures _ (n - l.j) _ some next l.invariant.ends);
+      room = rw (← less) (omega (arith, l.invariant.room, long, c.from-count.ensures));
+      ends = rw (← less) (table_turn bs l.ends _ l.at l.k count c.from-count.ensures inside c.decode_halves.ensures _ (n - l.j) _ some next l.invariant.ends);
       counts = entry_turn bs (count_at bs) l.counts _ l.at n l.j _ _ (omega (arith, l.invariant.counts_long)) h refl next l.invariant.counts;
-      enabled = entry_turn bs (byte bs) l.enabled _ l.at n l.j _ _ (omega (arith, l.invariant.enabled_long)) h refl next l.invariant.enabled;
+      enabled = entry_turn bs (byte bs) l.enabled _ l.at n l.j _ _ (omega arith) h refl next l.invariant.enabled;
     }
 
 pub returns : goal.returns
@@ -89,9 +85,9 @@ returns c =
     let l = c.loop-j in
     let bs = c.args.bytes.now in
     let n = length c.args.enabled.now in
-    let none : n - l.j ≡ 0 = omega (arith, l.invariant.enabled_long, c.loop-j-test.false) in
+    let none : n - l.j ≡ 0 = omega arith in
     record {
       ends = fill_end l.ends _ l.k (omega (arith, l.invariant.room, l.invariant.ends_long, ends-none_long bs l.at (n - l.j) none)) (ap (λ (xs : List ℕ). take l.k l.ends ++ xs) (sym (ends-none bs l.at (n - l.j) none)) ∙ l.invariant.ends);
-      counts = fill_end l.counts _ l.j (omega (arith, l.invariant.counts_long, l.invariant.enabled_long, c.loop-j-test.false)) (ap (λ (ps : List ℕ). take l.j l.counts ++ map (count_at bs) ps) (sym (places-none bs l.at (n - l.j) none)) ∙ l.invariant.counts);
-      enabled = fill_end l.enabled _ l.j (omega (arith, l.invariant.enabled_long, c.loop-j-test.false)) (ap (λ (ps : List ℕ). take l.j l.enabled ++ map (byte bs) ps) (sym (places-none bs l.at (n - l.j) none)) ∙ l.invariant.enabled);
+      counts = fill_end l.counts _ l.j (omega (arith, l.invariant.counts_long, arith)) (ap (λ (ps : List ℕ). take l.j l.counts ++ map (count_at bs) ps) (sym (places-none bs l.at (n - l.j) none)) ∙ l.invariant.counts);
+      enabled = fill_end l.enabled _ l.j (omega arith) (ap (λ (ps : List ℕ). take l.j l.enabled ++ map (byte bs) ps) (sym (places-none bs l.at (n - l.j) none)) ∙ l.invariant.enabled);
     }

@@ -1,14 +1,11 @@
 -- `frame::entries::enabled_known`: the walk passes from place `at` on, and the answer for the entries from there is the answer for all.
-use Rattle.std.proofs.Common.{◌≡◌}
+use Rattle.std.proofs.Common.{◌-◌, ◌≡◌}
 use Rattle.frame.specs.Questions.{bits}
 use Rattle.frame.specs.Files.{entries_refusal, live_from}
 use Rattle.frame.proofs.entries.enabled_known.Given as goal
 
-abbrev pub invariant-loop-left : goal.invariant-loop-left
-invariant-loop-left l = record {
-  walked : entries_refusal l.bytes l.at l.left ≡ 0;
-  known : bits (live_from l.bytes l.at l.left) ≡ bits (live_from l.bytes l.from l.joints);
+abbrev pub invariant-loop-j : goal.invariant-loop-j
+invariant-loop-j l = record {
+  walked : entries_refusal l.bytes l.at (l.joints - l._j) ≡ 0;
+  known : bits (live_from l.bytes l.at (l.joints - l._j)) ≡ bits (live_from l.bytes l.from l.joints);
 }
-
-abbrev pub decreases-loop-left : goal.decreases-loop-left
-decreases-loop-left l = l.left

@@ -1,47 +1,53 @@
 -- `frame::entries::walk`: each entry that passes is one turn of the walk, and one that is refused its end.
-use Rattle.std.proofs.Common.{◌≡◌, ◌+◌, ◌*◌, sym, ◌∙◌, arith}
+use Rattle.std.proofs.Common.{◌≡◌, ◌+◌, ◌*◌, ◌-◌, sym, ◌∙◌, arith}
+use Rattle.std.proofs.lemmas.Result.{err_from_is_err_and}
 use Rattle.frame.specs.Files.{entry_end}
 use Rattle.frame.proofs.Walks.{whole, walk_stop, walk_turn, walk_over, walk_done, walk_past, ends-next_long, ends-none_long}
+use Rattle.frame.proofs.Answered.{numbered}
 use Rattle.frame.proofs.entries.walk.Goals as goal
 
 pub returns-then-bytes-from : goal.returns-then-bytes-from
-returns-then-bytes-from c = record { refusal = walk_past c.args.bytes.now c.args.from c.args.joints c.if-bytes-from.true; ends = λ z. absurd (omega arith) }
+returns-then-bytes-from c = record { refusal = walk_past c.args.bytes.now c.args.from c.args.joints c.if-bytes-from.true; ends = tt }
 
-pub returns-then-refusal-ne0 : goal.returns-then-refusal-ne0
-returns-then-refusal-ne0 c = record {
-  refusal = walk_stop c.args.bytes.now c.loop-left.at c.loop-left.left _ c.loop-left-test.true c.entry_refusal-refusal.ensures c.if-refusal-ne0.true ∙ c.loop-left.invariant.refusal;
-  ends = λ z. absurd (c.if-refusal-ne0.true z);
-}
+pub returns-in_err-ask_entry : goal.returns-in_err-ask_entry
+returns-in_err-ask_entry c =
+    let p = err_from_is_err_and c.from_residual.result c.from_residual.ensures.1 in
+    rw (p.1, p.2) (record {
+      refusal = walk_stop c.args.bytes.now c.loop-j.at (c.args.joints - c.loop-j._j) _ (omega arith) c.in_err-ask_entry.ensures (numbered c.in_err-ask_entry.field-0.0) ∙ c.loop-j.invariant.refusal;
+      ends = tt;
+    })
 
 pub bounds-bytes-at : goal.bounds-bytes-at
-bounds-bytes-at c = let w = whole c.args.bytes.now c.loop-left.at (sym c.entry_refusal-refusal.ensures ∙ c.if-refusal-ne0.false) in omega (arith, w.begun)
+bounds-bytes-at c = let w = whole c.args.bytes.now c.loop-j.at (sym c.in_ok-ask_entry.ensures) in omega (arith, w.begun)
 
-pub loop-left-preserved : goal.loop-left-preserved
-loop-left-preserved c =
+pub loop-j-preserved : goal.loop-j-preserved
+loop-j-preserved c =
     let bs = c.args.bytes.now in
-    let l = c.loop-left in
-    let passes = sym c.entry_refusal-refusal.ensures ∙ c.if-refusal-ne0.false in
+    let l = c.loop-j in
+    let left = c.args.joints - l._j in
+    let passes = sym c.in_ok-ask_entry.ensures in
     let w = whole bs l.at passes in
-    let next : l.at + (2 + 2 * c.wide-count.result) ≡ entry_end bs l.at = omega (arith, c.wide-count.ensures.0) in
+    let next : l.at + (2 + 2 * c.from-count.result) ≡ entry_end bs l.at = omega (arith, c.from-count.ensures) in
+    let less : left - 1 ≡ c.args.joints - (l._j + 1) = omega arith in
     record {
-      inside = omega (arith, w.ended, c.wide-count.ensures.0);
+      inside = omega (arith, w.ended, c.from-count.ensures);
       few = omega (arith, l.invariant.few);
-      refusal = walk_turn bs l.at l.left _ c.loop-left-test.true passes next ∙ l.invariant.refusal;
-      ends = omega (arith, l.invariant.ends, ends-next_long bs l.at l.left _ c.loop-left-test.true next, c.wide-count.ensures.0);
+      refusal = rw (← less) (walk_turn bs l.at left _ (omega arith) passes next ∙ l.invariant.refusal);
+      ends = rw (← less) (omega (arith, l.invariant.ends, ends-next_long bs l.at left _ (omega arith) next, c.from-count.ensures));
     }
 
 pub returns-then-at-bytes : goal.returns-then-at-bytes
 returns-then-at-bytes c = record {
-  refusal = walk_over c.args.bytes.now c.loop-left.at c.loop-left.left (omega (arith, c.loop-left-test.false)) c.if-at-bytes.true ∙ c.loop-left.invariant.refusal;
-  ends = λ z. absurd (omega arith);
+  refusal = walk_over c.args.bytes.now c.loop-j.at (c.args.joints - c.loop-j._j) (omega arith) c.if-at-bytes.true ∙ c.loop-j.invariant.refusal;
+  ends = tt;
 }
 
-pub returns-else-at-bytes : goal.returns-else-at-bytes
-returns-else-at-bytes c =
+pub returns : goal.returns
+returns c =
     let bs = c.args.bytes.now in
-    let l = c.loop-left in
-    let none : l.left ≡ 0 = omega (arith, c.loop-left-test.false) in
+    let l = c.loop-j in
+    let left = c.args.joints - l._j in
     record {
-      refusal = walk_done bs l.at l.left none c.if-at-bytes.false ∙ l.invariant.refusal;
-      ends = λ z. omega (arith, l.invariant.ends, ends-none_long bs l.at l.left none);
+      refusal = walk_done bs l.at left (omega arith) c.if-at-bytes.false ∙ l.invariant.refusal;
+      ends = omega (arith, l.invariant.ends, ends-none_long bs l.at left (omega arith));
     }
