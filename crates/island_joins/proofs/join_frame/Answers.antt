@@ -7,7 +7,7 @@ use Rattle.island_joins.proofs.join_frame.Goals as goal
 pub returns : goal.returns
 returns c =
     let a = c.args in
-    let f = c.join_all in
+    let f = c.join_each in
     let g = c.join_joints in
-    tried_both a.body_types.now (constraints_of a.manifolds.now []) (joints_of a.joint_counts.now a.joint_ends.now a.enabled.now) a.parents.now a.body_islands.now f.new.parents f.new.sizes f.new.body_islands f.result f.ensures c.if-not-join_all.false
+    tried_both a.body_types.now (constraints_of a.manifolds.now []) (joints_of a.joint_counts.now a.joint_ends.now a.enabled.now) a.parents.now a.body_islands.now f.new.parents f.new.sizes f.new.body_islands f.result f.ensures c.if-not-join_each.false
     g.new.parents g.new.sizes g.new.body_islands g.result g.ensures
