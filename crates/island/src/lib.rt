@@ -103,16 +103,14 @@ fn build_sized(
         parents.new sizes.new body_islands.new manifold_islands.new joint_islands.new result }
 {
     reset(parents, sizes, body_islands);
-    if !island_joins::join_frame(
-        body_types,
+    let lists = frame::Lists {
+        types: body_types,
         manifolds,
         joint_ends,
         joint_counts,
         enabled,
-        parents,
-        sizes,
-        body_islands,
-    ) {
+    };
+    if !island_joins::join_frame(lists, parents, sizes, body_islands) {
         reset(parents, sizes, body_islands);
         tables::fill(manifold_islands, NONE);
         tables::fill(joint_islands, NONE);

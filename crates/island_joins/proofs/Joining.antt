@@ -1,8 +1,8 @@
 -- What constraints join, and which bodies they constrain. A live pair of dynamic bodies has one edge, any other pair none; a live constraint on more bodies has an edge from its
 -- first dynamic body to each later one. A live constraint constrains its bodies. What is joined by one list and then by another is joined by both together: so a loop over the
 -- constraints joins them all.
-use Rattle.std.proofs.Common.{ℕ, ◌+◌, ◌*◌, ◌≤◌, ◌<◌, arith, add-one, ◌≡◌, refl, sym, ap, ◌∙◌, Bool, true, false, ◌&&◌, cond, List, [], ◌∷◌, ◌++◌, map, append_assoc, append-nil, eqb, length, get_or, set, take, drop, drop_of_length-le, get_or-set_same, get_or-set_other, drop-cons, eqb-true, eq-eqb, ne_eqb}
-use Rattle.std.proofs.Math.Decide.{ℕ_discrete, dec_lt}
+use Rattle.std.proofs.Common.{ℕ, ◌+◌, ◌*◌, ◌≤◌, ◌<◌, arith, add-one, ◌≡◌, refl, sym, ap, ◌∙◌, Bool, true, false, ◌&&◌, cond, List, [], ◌∷◌, ◌++◌, map, append_assoc, append-nil, eqb, length, get_or, take, drop, drop_of_length-le, drop-cons, eqb-true, eq-eqb, ne_eqb}
+use Rattle.std.proofs.Math.Decide.{dec_lt}
 use Rattle.std.proofs.Math.Bool.{or-false}
 use Rattle.lists.specs.Basics.{filter, any, all, mem}
 use Rattle.lists.proofs.Laws.{and_left, and_right, and_both, not-true-false, any_append, all_append, cond-or}

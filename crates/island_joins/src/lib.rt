@@ -4,13 +4,15 @@
 ghost use Rattle.std.specs.Prelude.{ℕ, ◌≡◌, true, cond, ◌∷◌, [], ◌<◌, ◌≤◌, ltb, length, get_or};
 ghost use Rattle.lists.specs.Basics.{all, mem};
 ghost use Rattle.frame.specs.Constraints.{lent};
-ghost use Rattle.frame.specs.Frames.{constraint, constraints, end_count, joints_of, frame_with, none};
+ghost use Rattle.frame.specs.Frames.{constraint, constraints, end_count, none};
+ghost use Rattle.frame.specs.Lists.{frame_in};
 ghost use Rattle.connected_sets.specs.Islands.{edges_of, hang_all};
 ghost use Rattle.island_sets.specs.Sets.{root_of};
 ghost use Rattle.island_sets.specs.Steps.{Sets};
 ghost use Rattle.island_labels.specs.Labels.{bare};
 ghost use Rattle.island_joins.specs.Joins.{Fit, FirstDynamic, JoinedOrRefused};
 
+use frame::Lists;
 use frame::constraints::{Constraints, Counted, Lent, Pairs, sound_one};
 
 // The types of two dynamic bodies, 2 and 2, as the two bytes of one number.
@@ -136,65 +138,49 @@ fn join_each<'a, C: Constraints<'a>>(
 
 // The joints of a frame: pairs where there are no counts.
 fn join_joints(
-    body_types: &[u8],
-    ends: &[u16],
-    counts: &[u8],
-    enabled: &[u8],
+    lists: Lists<'_>,
     parents: &mut [u16],
     sizes: &mut [u16],
     body_islands: &mut [u16],
 ) -> bool
-    requires fit { Fit body_types.now parents.old sizes.old body_islands.old }
-    requires ends_len { end_count counts.now ≤ length ends.now }
-    ensures { JoinedOrRefused body_types.now (joints_of counts.now ends.now enabled.now)
+    requires fit { Fit lists.types.now parents.old sizes.old body_islands.old }
+    requires ends_len { end_count lists.joint_counts.now ≤ length lists.joint_ends.now }
+    ensures { JoinedOrRefused lists.entry.types.now (frame_in lists.entry).joints
         parents.old body_islands.old parents.new sizes.new body_islands.new result }
 {
-    if counts.len() == 0 {
+    if lists.joint_counts.len() == 0 {
         let pairs = Pairs {
-            pairs: ends,
-            enabled,
+            pairs: lists.joint_ends,
+            enabled: lists.enabled,
         };
-        return join_each(body_types, pairs, parents, sizes, body_islands);
+        return join_each(lists.types, pairs, parents, sizes, body_islands);
     }
     let counted = Counted {
-        ends,
-        counts,
-        enabled,
+        ends: lists.joint_ends,
+        counts: lists.joint_counts,
+        enabled: lists.enabled,
     };
-    join_each(body_types, counted, parents, sizes, body_islands)
+    join_each(lists.types, counted, parents, sizes, body_islands)
 }
 
 // Every constraint of a frame.
 pub fn join_frame(
-    body_types: &[u8],
-    manifolds: &[u16],
-    joint_ends: &[u16],
-    joint_counts: &[u8],
-    enabled: &[u8],
+    lists: Lists<'_>,
     parents: &mut [u16],
     sizes: &mut [u16],
     body_islands: &mut [u16],
 ) -> bool
-    requires fit { Fit body_types.now parents.old sizes.old body_islands.old }
-    requires ends_len { end_count joint_counts.now ≤ length joint_ends.now }
-    ensures { JoinedOrRefused body_types.now
-        (constraints (frame_with body_types.now manifolds.now joint_ends.now joint_counts.now enabled.now))
+    requires fit { Fit lists.types.now parents.old sizes.old body_islands.old }
+    requires ends_len { end_count lists.joint_counts.now ≤ length lists.joint_ends.now }
+    ensures { JoinedOrRefused lists.entry.types.now (constraints (frame_in lists.entry))
         parents.old body_islands.old parents.new sizes.new body_islands.new result }
 {
     let pairs = Pairs {
-        pairs: manifolds,
+        pairs: lists.manifolds,
         enabled: &[],
     };
-    if !join_each(body_types, pairs, parents, sizes, body_islands) {
+    if !join_each(lists.types, pairs, parents, sizes, body_islands) {
         return false;
     }
-    join_joints(
-        body_types,
-        joint_ends,
-        joint_counts,
-        enabled,
-        parents,
-        sizes,
-        body_islands,
-    )
+    join_joints(lists, parents, sizes, body_islands)
 }
