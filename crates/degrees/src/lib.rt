@@ -4,9 +4,11 @@
 ghost use Rattle.std.specs.Prelude.{◌≤◌, ◌≡◌, true, [], ◌∷◌, ltb, length, get_or};
 ghost use Rattle.lists.specs.Basics.{all, max_of, range};
 ghost use Rattle.frame.specs.Constraints.{lent};
-ghost use Rattle.frame.specs.Frames.{constraints, joints_of, frame_of, frame_with, touches, all_sound, degree_max};
+ghost use Rattle.frame.specs.Frames.{constraints, frame_of, touches, all_sound, degree_max};
+ghost use Rattle.frame.specs.Lists.{frame_in};
 ghost use Rattle.degrees.specs.Counts.{CountsOf, Addable, Added, Countable, Counted, counted};
 
+use frame::Lists;
 use frame::constraints::{Constraints, Lent, Pairs};
 
 // Whether one of these endpoints of a live constraint is a dynamic body: then it has an island.
@@ -59,30 +61,24 @@ fn count_each<'a, C: Constraints<'a>>(types: &[u8], mut constraints: C, counts: 
 }
 
 // The joints; without counts they are pairs.
-fn count_joints(
-    types: &[u8],
-    joints: &[u16],
-    joint_counts: &[u8],
-    enabled: &[u8],
-    counts: &mut [u16],
-)
-    requires { CountsOf joint_counts.now joints.now × Countable types.now (joints_of joint_counts.now joints.now enabled.now) counts.old }
-    ensures { Counted types.now (joints_of joint_counts.now joints.now enabled.now) counts.old counts.new }
+fn count_joints(lists: Lists<'_>, counts: &mut [u16])
+    requires { CountsOf lists.joint_counts.now lists.joint_ends.now × Countable lists.types.now (frame_in lists).joints counts.old }
+    ensures { Counted lists.entry.types.now (frame_in lists.entry).joints counts.old counts.new }
 {
-    if joint_counts.len() == 0 {
+    if lists.joint_counts.len() == 0 {
         let pairs = Pairs {
-            pairs: joints,
-            enabled,
+            pairs: lists.joint_ends,
+            enabled: lists.enabled,
         };
-        count_each(types, pairs, counts);
+        count_each(lists.types, pairs, counts);
         return;
     }
     let counted = frame::constraints::Counted {
-        ends: joints,
-        counts: joint_counts,
-        enabled,
+        ends: lists.joint_ends,
+        counts: lists.joint_counts,
+        enabled: lists.enabled,
     };
-    count_each(types, counted, counts);
+    count_each(lists.types, counted, counts);
 }
 
 // What a body counts for.
@@ -109,24 +105,17 @@ fn largest(types: &[u8], counts: &[u16]) -> usize
 }
 
 // D of a frame that passed question 7, whose joints have these counts; without counts they are pairs. The table `on_bodies` is free.
-pub fn degree(
-    types: &[u8],
-    manifolds: &[u16],
-    joints: &[u16],
-    counts: &[u8],
-    enabled: &[u8],
-    on_bodies: &mut [u16],
-) -> usize
-    requires { (length on_bodies.old ≡ length types.now) × CountsOf counts.now joints.now
-        × (all_sound (frame_with types.now manifolds.now joints.now counts.now enabled.now) ≡ true) × (length (constraints (frame_with types.now manifolds.now joints.now counts.now enabled.now)) ≤ 8192) }
-    ensures { result ≡ degree_max (frame_with types.now manifolds.now joints.now counts.now enabled.now) }
+pub fn degree(lists: Lists<'_>, on_bodies: &mut [u16]) -> usize
+    requires { (length on_bodies.old ≡ length lists.types.now) × CountsOf lists.joint_counts.now lists.joint_ends.now
+        × (all_sound (frame_in lists) ≡ true) × (length (constraints (frame_in lists)) ≤ 8192) }
+    ensures { result ≡ degree_max (frame_in lists.entry) }
 {
     tables::fill(on_bodies, 0);
     let pairs = Pairs {
-        pairs: manifolds,
+        pairs: lists.manifolds,
         enabled: &[],
     };
-    count_each(types, pairs, on_bodies);
-    count_joints(types, joints, counts, enabled, on_bodies);
-    largest(types, on_bodies)
+    count_each(lists.types, pairs, on_bodies);
+    count_joints(lists, on_bodies);
+    largest(lists.types, on_bodies)
 }

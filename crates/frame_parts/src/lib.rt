@@ -88,14 +88,14 @@ pub fn degree_of(
         return 0;
     }
     let n = 2 * manifolds;
-    degrees::degree(
+    let lists = frame::Lists {
         types,
-        &pairs[..n],
-        &pairs[n..],
-        joint_counts(counts, manifolds),
+        manifolds: &pairs[..n],
+        joint_ends: &pairs[n..],
+        joint_counts: joint_counts(counts, manifolds),
         enabled,
-        &mut on_bodies[..types.len()],
-    )
+    };
+    degrees::degree(lists, &mut on_bodies[..types.len()])
 }
 
 // The numbers by island, where the label tables hold at least so many manifolds and the rest joints.

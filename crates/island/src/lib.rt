@@ -78,16 +78,7 @@ fn build_sized(
     ensures { BuiltSized (frame_in lists.entry) parents.new sizes.new body_islands.new manifold_islands.new joint_islands.new result }
 {
     reset(parents, sizes, body_islands);
-    if !island_joins::join_frame(
-        lists.types,
-        lists.manifolds,
-        lists.joint_ends,
-        lists.joint_counts,
-        lists.enabled,
-        parents,
-        sizes,
-        body_islands,
-    ) {
+    if !island_joins::join_frame(lists, parents, sizes, body_islands) {
         reset(parents, sizes, body_islands);
         manifold_islands.fill(NONE);
         joint_islands.fill(NONE);

@@ -1,13 +1,12 @@
 -- What constraints join, and which bodies they constrain. A live pair of dynamic bodies has one edge, any other pair none; a live constraint on more bodies has an edge from its
 -- first dynamic body to each later one. A live constraint constrains its bodies. What is joined by one list and then by another is joined by both together: so a loop over the
 -- constraints joins them all.
-use Rattle.std.proofs.Common.{ℕ, ◌+◌, ◌*◌, ◌≤◌, ◌<◌, arith, add-one, ◌≡◌, refl, sym, ap, ◌∙◌, subst, Bool, true, false, ◌&&◌, ◌||◌, cond, List, [], ◌∷◌, ◌++◌, map, append_assoc, append-nil, eqb, length, get_or, set, take, drop, length-set, drop_of_length-le, get_or-set_same, get_or-set_other, drop-cons, take_all, eqb-true, eq-eqb, ne_eqb}
-use Rattle.std.proofs.Math.Decide.{ℕ_discrete, dec_lt}
-use Rattle.std.proofs.Math.Bool.{and-true, or-false}
+use Rattle.std.proofs.Common.{ℕ, ◌+◌, ◌*◌, ◌≤◌, ◌<◌, arith, add-one, ◌≡◌, refl, sym, ap, ◌∙◌, Bool, true, false, ◌&&◌, cond, List, [], ◌∷◌, ◌++◌, map, append_assoc, append-nil, eqb, length, get_or, take, drop, drop_of_length-le, drop-cons, eqb-true, eq-eqb, ne_eqb}
+use Rattle.std.proofs.Math.Decide.{dec_lt}
+use Rattle.std.proofs.Math.Bool.{or-false}
 use Rattle.lists.specs.Basics.{filter, any, all, mem}
-use Rattle.lists.proofs.Laws.{and_left, and_right, and_both, clashes, not-true-false, any_append, all_append, cond-or}
+use Rattle.lists.proofs.Laws.{and_left, and_right, and_both, not-true-false, any_append, all_append, cond-or}
 use Rattle.lists.proofs.Ranges.{join_map-append}
-use Rattle.lists.proofs.Scans.{any_next}
 use Rattle.frame.specs.Frames.{Constraint, Frame, constraint, dynamic, on, sound, none}
 use Rattle.island_sets.specs.Sets.{root_of, hang}
 use Rattle.island_sets.specs.Steps.{Sets}
@@ -69,9 +68,6 @@ module _ (ts bs : List ℕ) where
   unfolding dynamic
   first_found i e k t = record { inside = omega (arith, k); skipped = e; here = λ h. eq-eqb (get_or ts (at i) 0) 2 t }
 
-  pub first_nowhere : (i : ℕ) → dynamics i ≡ dynamics 0 → length bs ≡ i → FirstDynamic ts bs i
-  first_nowhere i e h = record { inside = omega (arith, h); skipped = e; here = λ k. absurd (omega arith) }
-
   -- it is joined with each later one: the loop, at place i
   pub record Starring (r : ℕ) (p₀ p s : List ℕ) (i : ℕ) : Type 0 where
     pub above : r < i
@@ -109,42 +105,11 @@ module _ (ts bs : List ℕ) where
             ∙ w.roots;
       }
 
-      pub starring_ends : length bs ≤ i → root_of p ≡ hang_all (length ts) (root_of p₀) (edges_of (bare ts) (tied true bs))
-      starring_ends h = ap (λ (ds : List ℕ). hang_all (length ts) (root_of p) (map (edge (at r)) ds)) (sym (dynamics_end i h)) ∙ w.roots
-
 -- ---- which bodies are constrained
-constrain_one : (l : List ℕ) (a x : ℕ) → a < length l → get_or (set l a 0) x none ≡ cond (eqb x a) 0 (get_or l x none)
-constrain_one l a x h = go (ℕ_discrete x a)
-  where
-    go : Dec (x ≡ a) → get_or (set l a 0) x none ≡ cond (eqb x a) 0 (get_or l x none)
-    go (yes e) = rw (e, eq-eqb a a refl) (get_or-set_same l a 0 none h)
-    go (no n) = rw (ne_eqb x a n) (get_or-set_other l a x 0 none n)
-
--- two of them
-pub constrain_two : (l : List ℕ) (a b x : ℕ) → a < length l → b < length l → get_or (set (set l a 0) b 0) x none ≡ cond (mem x (a ∷ b ∷ [])) 0 (get_or l x none)
-constrain_two l a b x h k =
-    constrain_one (set l a 0) b x (rw length-set k)
-    ∙ ap (λ (n : ℕ). cond (eqb x b) 0 n) (constrain_one l a x h)
-    ∙ cond-or (eqb x a) (eqb x b) 0 (get_or l x none)
-    ∙ ap (λ (t : Bool). cond (eqb x a || t) 0 (get_or l x none)) (sym (or-false (eqb x b)))
-
 -- the loop over bodies bs, at place i
 pub record Constraining (bs l₀ l : List ℕ) (i : ℕ) : Type 0 where
   pub long : length l ≡ length l₀
   pub labels : (x : ℕ) → get_or l x none ≡ cond (mem x (take i bs)) 0 (get_or l₀ x none)
-
-pub constraining_turns : (bs l₀ l : List ℕ) (i : ℕ) → Constraining bs l₀ l i → i < length bs → get_or bs i 0 < length l → Constraining bs l₀ (set l (get_or bs i 0) 0) (i + 1)
-constraining_turns bs l₀ l i w h k = record {
-  long = length-set l (get_or bs i 0) 0 ∙ w.long;
-  labels = λ x.
-      constrain_one l (get_or bs i 0) x k
-      ∙ ap (λ (n : ℕ). cond (eqb x (get_or bs i 0)) 0 n) (w.labels x)
-      ∙ cond-or (mem x (take i bs)) (eqb x (get_or bs i 0)) 0 (get_or l₀ x none)
-      ∙ ap (λ (t : Bool). cond t 0 (get_or l₀ x none)) (sym (any_next (eqb x) bs i h));
-}
-
-pub constraining_ends : (bs l₀ l : List ℕ) (i : ℕ) → Constraining bs l₀ l i → length bs ≤ i → (x : ℕ) → get_or l x none ≡ cond (mem x bs) 0 (get_or l₀ x none)
-constraining_ends bs l₀ l i w h x = w.labels x ∙ ap (λ (ys : List ℕ). cond (mem x ys) 0 (get_or l₀ x none)) (take_all i bs h)
 
 -- ---- one constraint
 module _ (ts p l : List ℕ) (t : Bool) (bs : List ℕ) where
@@ -209,11 +174,8 @@ pub record Joining (ts : List ℕ) (cs left : List Constraint) (p₀ l₀ p s l 
 pub joining_starts : (ts : List ℕ) (cs : List Constraint) (p s l : List ℕ) → Sets p s → Joining ts cs cs p l p s l
 joining_starts ts cs p s l h = record { long_p = refl; long_l = refl; done = []; whole = refl; passed = refl; joined = joined_none ts p s l h }
 
+-- the next of them, c, is tried
 module _ (ts : List ℕ) (cs left : List Constraint) (p₀ l₀ p s l : List ℕ) (w : Joining ts cs left p₀ l₀ p s l) where
-  asked-both : all (sound (length ts)) cs ≡ all (sound (length ts)) left
-  asked-both = ap (all (sound (length ts))) (sym w.whole) ∙ all_append (sound (length ts)) w.done left ∙ rw w.passed
-
-  -- the next of them, c, is tried
   module _ (c : Constraint) (rest : List Constraint) (e : left ≡ c ∷ rest) (p' s' l' : List ℕ) (r : Bool) (j : JoinedOrRefused ts (c ∷ []) p l p' s' l' r) where
     pub joining_turns : r ≡ true → length p' ≡ length p → length l' ≡ length l → Joining ts cs rest p₀ l₀ p' s' l'
     joining_turns ok ep el = record {
@@ -224,17 +186,3 @@ module _ (ts : List ℕ) (cs left : List Constraint) (p₀ l₀ p s l : List ℕ
       passed = all_append (sound (length ts)) w.done (c ∷ []) ∙ and_both (all (sound (length ts)) w.done) (all (sound (length ts)) (c ∷ [])) w.passed (sym j.answer ∙ ok);
       joined = joined_append ts w.done (c ∷ []) p₀ l₀ p s l p' s' l' w.joined (j.joined ok);
     }
-
-    pub joining_stops : r ≡ false → JoinedOrRefused ts cs p₀ l₀ p' s' l' false
-    joining_stops bad = record {
-      answer = sym (asked-both ∙ ap (all (sound (length ts))) e ∙ ap (λ (t : Bool). t && all (sound (length ts)) rest) (sym (and-true (sound (length ts) c)) ∙ sym j.answer ∙ bad));
-      joined = λ t. clashes false t refl;
-    }
-
-  pub joining_ends : left ≡ [] → JoinedOrRefused ts cs p₀ l₀ p s l true
-  joining_ends e =
-      let all_done : w.done ≡ cs = sym (append-nil w.done) ∙ ap (λ (ds : List Constraint). w.done ++ ds) (sym e) ∙ w.whole in
-      record {
-        answer = sym (ap (all (sound (length ts))) (sym all_done) ∙ w.passed);
-        joined = λ t. subst (λ (ds : List Constraint). Joined ts ds p₀ l₀ p s l) all_done w.joined;
-      }

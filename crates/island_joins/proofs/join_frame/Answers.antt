@@ -1,13 +1,12 @@
 -- `island_joins::join_frame` meets its contract: a frame's constraints are its manifolds and then its joints.
-use Rattle.std.proofs.Common.{[]}
-use Rattle.frame.specs.Frames.{constraints_of, joints_of}
+use Rattle.frame.specs.Lists.{frame_in}
 use Rattle.island_joins.proofs.Joining.{tried_both}
 use Rattle.island_joins.proofs.join_frame.Goals as goal
 
 pub returns : goal.returns
 returns c =
     let a = c.args in
-    let f = c.join_all in
+    let f = c.join_each in
     let g = c.join_joints in
-    tried_both a.body_types.now (constraints_of a.manifolds.now []) (joints_of a.joint_counts.now a.joint_ends.now a.enabled.now) a.parents.now a.body_islands.now f.new.parents f.new.sizes f.new.body_islands f.result f.ensures c.if-not-join_all.false
+    tried_both a.lists.types.now (frame_in a.lists).manifolds (frame_in a.lists).joints a.parents.now a.body_islands.now f.new.parents f.new.sizes f.new.body_islands f.result f.ensures c.if-not-join_each.false
     g.new.parents g.new.sizes g.new.body_islands g.result g.ensures
