@@ -73,8 +73,7 @@ pub fn degree_of(lists: Lists<'_>, on_bodies: &mut [u16]) -> usize
 
 // The numbers by island, where the label tables hold at least so many manifolds and the rest joints.
 pub fn sort(
-    manifold_islands: &[u16],
-    joint_islands: &[u16],
+    tables: &IslandTables<'_>,
     manifolds: usize,
     joints: usize,
     islands: u16,
@@ -83,14 +82,14 @@ pub fn sort(
     offsets: &mut [u16],
     numbers: &mut [u16],
 )
-    requires manifolds_in_bounds { (manifolds ≤ length manifold_islands.now) × (joints ≤ length joint_islands.now) × (manifolds + joints ≤ length keys.old) }
-    requires labels { Labels islands (take manifolds manifold_islands.now ++ take joints joint_islands.now) }
+    requires in_bounds { (manifolds ≤ length tables.now.manifold_islands.now) × (joints ≤ length tables.now.joint_islands.now) × (manifolds + joints ≤ length keys.old) }
+    requires labels { Labels islands (take manifolds tables.now.manifold_islands.now ++ take joints tables.now.joint_islands.now) }
     requires sortable { Sortable (manifolds + joints) (take (manifolds + joints) keys.old) scratch_offsets.old offsets.old numbers.old }
-    ensures { numbers.new ≡ by_island islands (take manifolds manifold_islands.now ++ take joints joint_islands.now) }
+    ensures { numbers.new ≡ by_island islands (take manifolds tables.now.manifold_islands.now ++ take joints tables.now.joint_islands.now) }
 {
     island_numbers::sort(
-        &manifold_islands[..manifolds],
-        &joint_islands[..joints],
+        &tables.manifold_islands[..manifolds],
+        &tables.joint_islands[..joints],
         islands,
         &mut keys[..manifolds + joints],
         scratch_offsets,
