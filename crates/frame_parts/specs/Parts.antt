@@ -1,22 +1,27 @@
--- What counting D needs, and the refusal of the islands.
-use Rattle.std.specs.Prelude.{ℕ, ◌*◌, ◌≤◌, ◌≡◌, true, cond, List, eqb, length, take, drop}
-use Rattle.frame.specs.Frames.{Frame, constraints, frame_with, end_count, all_sound}
+-- The frame that stands in a run's tables, the refusal of its islands call, and what counting D needs.
+use Rattle.std.specs.Prelude.{ℕ, ◌*◌, ◌≤◌, ◌≡◌, Bool, true, cond, List, length, take, drop}
+use Rattle.frame.specs.declared.Lists.{Lists}
+use Rattle.frame.specs.Lists.{frame_in}
+use Rattle.frame.specs.Frames.{constraints, end_count, all_sound}
 use Rattle.island.specs.Calls.{Rooms, island_refusal, multi_island_refusal}
 
--- the frame that stands in the tables of types, endpoints, counts and enabled bytes, with m manifolds first; without counts all are pairs
-abbrev pub standing_frame : List ℕ → List ℕ → ℕ → List ℕ → List ℕ → Frame
-standing_frame ts ps m cs es = frame_with ts (take (2 * m) ps) (drop (2 * m) ps) (drop m cs) es
+-- the lists l stand in the tables of types, endpoints, counts and enabled bytes, with m manifolds first; without counts all are pairs
+pub record Standing (ts ps : List ℕ) (m : ℕ) (cs es : List ℕ) (l : Lists) : Type 0 where
+  pub types : l.types.now ≡ ts
+  pub manifolds : l.manifolds.now ≡ take (2 * m) ps
+  pub joint_ends : l.joint_ends.now ≡ drop (2 * m) ps
+  pub joint_counts : l.joint_counts.now ≡ drop m cs
+  pub enabled : l.enabled.now ≡ es
 
--- the refusal of its islands call
-abbrev pub standing_refusal : List ℕ → List ℕ → ℕ → List ℕ → List ℕ → Rooms → ℕ
-standing_refusal ts ps m cs es r = cond (eqb (length cs) 0)
-    (island_refusal ts (take (2 * m) ps) (drop (2 * m) ps) es r)
-    (multi_island_refusal ts (take (2 * m) ps) (drop (2 * m) ps) (drop m cs) es r)
+-- the refusal of their islands call, where constraints have counts or not
+abbrev pub standing_refusal : Bool → Lists → Rooms → ℕ
+standing_refusal counted l r = cond counted
+    (multi_island_refusal l.types.now l.manifolds.now l.joint_ends.now l.joint_counts.now l.enabled.now r)
+    (island_refusal l.types.now l.manifolds.now l.joint_ends.now l.enabled.now r)
 
--- unless the frame is refused, it passed question 7; its counts make its endpoints
-pub record Countable (k : ℕ) (ts ps : List ℕ) (m : ℕ) (cs es on_bodies : List ℕ) : Type 0 where
-  pub pairs : 2 * m ≤ length ps
-  pub joints : (length cs ≡ 0 → ⊥) → (m ≤ length cs) × (end_count (drop m cs) ≡ length (drop (2 * m) ps))
-  pub counts : length ts ≤ length on_bodies
-  pub sound : k ≡ 0 → all_sound (standing_frame ts ps m cs es) ≡ true
-  pub few : length (constraints (standing_frame ts ps m cs es)) ≤ 8192
+-- they passed question 7; the joints' counts make their endpoints
+pub record Countable (l : Lists) (on_bodies : List ℕ) : Type 0 where
+  pub joints : (length l.joint_counts.now ≡ 0 → ⊥) → end_count l.joint_counts.now ≡ length l.joint_ends.now
+  pub counts : length l.types.now ≤ length on_bodies
+  pub sound : all_sound (frame_in l) ≡ true
+  pub few : length (constraints (frame_in l)) ≤ 8192

@@ -2,106 +2,71 @@
 // island, on tables that hold the manifolds' part before the joints'.
 #![tactic(auto)]
 
-ghost use Rattle.std.specs.Prelude.{◌+◌, ◌*◌, ◌≤◌, ◌≡◌, cond, ◌++◌, eqb, length, take, drop};
+ghost use Rattle.std.specs.Prelude.{◌+◌, ◌*◌, ◌≤◌, ◌≡◌, false, ◌++◌, length, take, drop};
 ghost use Rattle.frame.specs.Frames.{degree_max};
-ghost use Rattle.island.specs.Calls.{island_tables_of, rooms_of, Built};
-ghost use Rattle.island.specs.Answers.{answer_number, answer_islands};
+ghost use Rattle.frame.specs.Lists.{frame_in};
+ghost use Rattle.frame.specs.Refusals.{refused_by};
+ghost use Rattle.island.specs.Answers.{answer_islands};
+ghost use Rattle.island.specs.Calls.{rooms_of, Built};
+ghost use Rattle.island.specs.Lent.{tables_in, SameTables};
 ghost use Rattle.island_numbers.specs.Numbers.{by_island, Labels, Sortable};
-ghost use Rattle.frame_parts.specs.Parts.{standing_frame, standing_refusal, Countable};
+ghost use Rattle.frame_parts.specs.Parts.{Standing, standing_refusal, Countable};
 
-use island::Answer;
+use frame::{Lists, Refusal};
+use island::IslandTables;
 
 // The counts of the joints, behind the manifolds'; none if the constraints are pairs.
 fn joint_counts<'a>(counts: &'a [u8], manifolds: usize) -> &'a [u8]
-    requires { (length counts.now ≡ 0 → ⊥) → manifolds ≤ length counts.now }
     ensures { result.now ≡ drop manifolds counts.now }
 {
-    if counts.len() == 0 {
-        return counts;
-    }
-    &counts[manifolds..]
+    counts.get(manifolds..).unwrap_or(&[])
 }
 
-// The islands; without counts the joints are pairs.
-pub fn build(
-    types: &[u8],
-    pairs: &[u16],
+// The frame that stands in the tables; without counts its joints are pairs.
+pub fn lists_of<'a>(
+    types: &'a [u8],
+    pairs: &'a [u16],
     manifolds: usize,
-    counts: &[u8],
-    enabled: &[u8],
-    parents: &mut [u16],
-    sizes: &mut [u16],
-    body_islands: &mut [u16],
-    manifold_islands: &mut [u16],
-    joint_islands: &mut [u16],
-) -> Answer
-    requires { (2 * manifolds ≤ length pairs.now) × ((length counts.now ≡ 0 → ⊥) → manifolds ≤ length counts.now) }
-    ensures { Built (standing_frame types.now pairs.now manifolds counts.now enabled.now)
-        (standing_refusal types.now pairs.now manifolds counts.now enabled.now
-        (rooms_of (island_tables_of parents.old sizes.old body_islands.old manifold_islands.old joint_islands.old)))
-        (island_tables_of parents.old sizes.old body_islands.old manifold_islands.old joint_islands.old)
-        (island_tables_of parents.new sizes.new body_islands.new manifold_islands.new joint_islands.new)
-        (answer_number result) (answer_islands result) }
+    counts: &'a [u8],
+    enabled: &'a [u8],
+) -> Lists<'a>
+    requires { 2 * manifolds ≤ length pairs.now }
+    ensures { Standing types.now pairs.now manifolds counts.now enabled.now result }
 {
-    let n = 2 * manifolds;
-    if counts.len() != 0 {
-        return island::build_with_multi_joints(
-            types,
-            &pairs[..n],
-            &pairs[n..],
-            joint_counts(counts, manifolds),
-            enabled,
-            parents,
-            sizes,
-            body_islands,
-            manifold_islands,
-            joint_islands,
-        );
-    }
-    island::build_with_joints(
+    let (front, rest) = pairs.split_at(2 * manifolds);
+    Lists {
         types,
-        &pairs[..n],
-        &pairs[n..],
-        enabled,
-        parents,
-        sizes,
-        body_islands,
-        manifold_islands,
-        joint_islands,
-    )
-}
-
-// D, or 0 after a refusal.
-pub fn degree_of(
-    refusal: u8,
-    types: &[u8],
-    pairs: &[u16],
-    manifolds: usize,
-    counts: &[u8],
-    enabled: &[u8],
-    on_bodies: &mut [u16],
-) -> usize
-    requires { Countable refusal types.now pairs.now manifolds counts.now enabled.now on_bodies.old }
-    ensures { result ≡ cond (eqb refusal 0) (degree_max (standing_frame types.now pairs.now manifolds counts.now enabled.now)) 0 }
-{
-    if refusal != 0 {
-        return 0;
-    }
-    let n = 2 * manifolds;
-    let lists = frame::Lists {
-        types,
-        manifolds: &pairs[..n],
-        joint_ends: &pairs[n..],
+        manifolds: front,
+        joint_ends: rest,
         joint_counts: joint_counts(counts, manifolds),
         enabled,
-    };
-    degrees::degree(lists, &mut on_bodies[..types.len()])
+    }
+}
+
+// Its islands; where the constraints have no counts the joints are pairs.
+pub fn build(lists: Lists<'_>, counted: bool, tables: &mut IslandTables<'_>) -> Result<u16, Refusal>
+    requires { counted ≡ false → length lists.joint_counts.now ≡ 0 }
+    ensures built { Built (frame_in lists.entry) (standing_refusal counted lists.entry (rooms_of (tables_in tables.old)))
+        (tables_in tables.old) (tables_in tables.new) (refused_by result) (answer_islands result) }
+    ensures same { SameTables tables.old tables.new }
+{
+    if counted {
+        return island::build_with_multi_joints(lists, tables);
+    }
+    island::build_with_joints(lists, tables)
+}
+
+// D of a frame that was not refused. The table is free.
+pub fn degree_of(lists: Lists<'_>, on_bodies: &mut [u16]) -> usize
+    requires { Countable lists on_bodies.old }
+    ensures { result ≡ degree_max (frame_in lists.entry) }
+{
+    degrees::degree(lists, &mut on_bodies[..lists.types.len()])
 }
 
 // The numbers by island, where the label tables hold at least so many manifolds and the rest joints.
 pub fn sort(
-    manifold_islands: &[u16],
-    joint_islands: &[u16],
+    tables: &IslandTables<'_>,
     manifolds: usize,
     joints: usize,
     islands: u16,
@@ -110,14 +75,14 @@ pub fn sort(
     offsets: &mut [u16],
     numbers: &mut [u16],
 )
-    requires manifolds_in_bounds { (manifolds ≤ length manifold_islands.now) × (joints ≤ length joint_islands.now) × (manifolds + joints ≤ length keys.old) }
-    requires labels { Labels islands (take manifolds manifold_islands.now ++ take joints joint_islands.now) }
+    requires in_bounds { (manifolds ≤ length tables.now.manifold_islands.now) × (joints ≤ length tables.now.joint_islands.now) × (manifolds + joints ≤ length keys.old) }
+    requires labels { Labels islands (take manifolds tables.now.manifold_islands.now ++ take joints tables.now.joint_islands.now) }
     requires sortable { Sortable (manifolds + joints) (take (manifolds + joints) keys.old) scratch_offsets.old offsets.old numbers.old }
-    ensures { numbers.new ≡ by_island islands (take manifolds manifold_islands.now ++ take joints joint_islands.now) }
+    ensures { numbers.new ≡ by_island islands (take manifolds tables.now.manifold_islands.now ++ take joints tables.now.joint_islands.now) }
 {
     island_numbers::sort(
-        &manifold_islands[..manifolds],
-        &joint_islands[..joints],
+        &tables.manifold_islands[..manifolds],
+        &tables.joint_islands[..joints],
         islands,
         &mut keys[..manifolds + joints],
         scratch_offsets,

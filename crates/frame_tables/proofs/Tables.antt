@@ -1,11 +1,15 @@
 -- Once questions 1 to 6 are passed, an islands call asks only 7, with counts or without. Its labels, read from the front of the lent tables,
 -- are the frame's, or none after 7, and either way they can be sorted.
-use Rattle.std.proofs.Common.{ℕ, ◌+◌, ◌*◌, ◌/◌, ◌%◌, ◌≤◌, ◌≡◌, refl, sym, ap, ◌∙◌, subst, true, cond, List, [], ◌∷◌, ◌++◌, map, arith, eqb, length, take, drop, replicate, length-append, take_at, drop_at, length-take-le, le-leb, eq-eqb, eqb-true}
+use Rattle.std.proofs.Common.{ℕ, ◌+◌, ◌*◌, ◌/◌, ◌%◌, ◌≤◌, ◌≡◌, refl, sym, ap, ◌∙◌, subst, true, false, not, cond, List, Result, Ok, Err, [], ◌∷◌, ◌++◌, map, arith, eqb, length, take, drop, replicate, length-append, take_at, drop_at, length-take-le, le-leb, eq-eqb, eqb-true}
 use Rattle.std.proofs.Math.ListN.{length-map, length-replicate, replicate-append-replicate}
 use Rattle.std.proofs.Math.Seq.{drop-nil}
 use Rattle.std.proofs.lemmas.Bool.{eqb-false}
 use Rattle.lists.proofs.Laws.{by_cases, no_length}
 use Rattle.lists.proofs.Ranges.{map-append}
+use Rattle.frame.specs.declared.Lists.{Lists}
+use Rattle.frame.specs.declared.refusal.Refusal.{Refusal}
+use Rattle.frame.specs.Lists.{frame_in}
+use Rattle.frame.specs.Refusals.{number_of, refused_by}
 use Rattle.frame.specs.Frames.{Frame, constraints, none, end_count, all_sound, degree_max}
 use Rattle.frame.specs.Questions.{question, asked, few_each}
 use Rattle.frame.specs.Files.{second, count_m, count_j, types_in, manifolds_in, joint_ends_in, counts_in, live_in, decode, file_questions, frame_refusal}
@@ -14,9 +18,12 @@ use Rattle.frame.proofs.Questions.{asked-append}
 use Rattle.frame.proofs.Files.{Sized, manifolds-count, joints-count, constraint-count, file_sized, file-known, file-counts, types_long, manifold_ends_long, live_in_long, ends-first_long, counts-second_long, ends-second_long, all_counts-second, all_counts_long}
 use Rattle.connected_sets.specs.Islands.{label}
 use Rattle.island.specs.Calls.{IslandTables, Rooms, rooms_of, island_refusal, multi_island_refusal, labels_after, Built}
+use Rattle.island.specs.Answers.{answer_islands}
+use Rattle.island.proofs.Refusals.{numbered}
 use Rattle.schedules.proofs.Accepted.{Accepted, accepted}
 use Rattle.island_numbers.specs.Numbers.{Labels, Sortable, by_island}
-use Rattle.frame_parts.specs.Parts.{standing_frame, standing_refusal, Countable}
+use Rattle.frame_parts.specs.Parts.{Standing, standing_refusal, Countable}
+use Rattle.frame_tables.specs.declared.Filling.{Filling}
 use Rattle.frame_tables.specs.Filled.{Roomy, Fills, labels_in, sound_refusal}
 use Rattle.frame_tables.proofs.Labels.{frame_labels, none-labels}
 
@@ -80,19 +87,6 @@ module _ (bs : List ℕ) (e : asked (file_questions bs) ≡ 0) where
   -- ---- the frame that stands in the decoded tables
 
   module _ (m : ℕ) (ts fs ps cs es : List ℕ) (em : m ≡ count_m bs) (d : Decoded bs ts fs ps cs es) where
-    front : take (2 * m) ps ≡ manifolds_in bs
-    front = rw (d.ends, em) (take_at (manifolds_in bs) (joint_ends_in bs) (2 * count_m bs) (manifold_ends_long bs))
-
-    rest : drop (2 * m) ps ≡ joint_ends_in bs
-    rest = rw (d.ends, em) (drop_at (manifolds_in bs) (joint_ends_in bs) (2 * count_m bs) (manifold_ends_long bs))
-
-    joints-counted : drop m cs ≡ counts_in bs
-    joints-counted = rw (d.counts, em) (joint_counts bs)
-
-    frame_is : standing_frame ts ps m cs es ≡ f
-    unfolding decode
-    frame_is = rw (d.types, front, rest, joints-counted, d.enabled)
-
     pub pairs_inside : 2 * m ≤ length ps
     pairs_inside = omega (arith, ap length d.ends, length-append (manifolds_in bs) (joint_ends_in bs), manifold_ends_long bs, em)
 
@@ -100,123 +94,155 @@ module _ (bs : List ℕ) (e : asked (file_questions bs) ≡ 0) where
     counted-second : (length cs ≡ 0 → ⊥) → second bs ≡ true
     counted-second n = some_counts bs (λ z. n (ap length d.counts ∙ z))
 
-    pub counts_inside : (length cs ≡ 0 → ⊥) → m ≤ length cs
-    counts_inside n = omega (arith, ap length d.counts, all_counts_long bs (counted-second n), em)
+    module _ (l : Lists) (stands : Standing ts ps m cs es l) where
+      types-are : l.types.now ≡ types_in bs
+      types-are = stands.types ∙ d.types
 
-    module _ (t : IslandTables) (ns ks ss os ds : List ℕ) (room : Roomy bs t ns ks ss os ds) where
-      abbrev rooms : Rooms
-      rooms = rooms_of t
+      front : l.manifolds.now ≡ manifolds_in bs
+      front = stands.manifolds ∙ rw (d.ends, em) (take_at (manifolds_in bs) (joint_ends_in bs) (2 * count_m bs) (manifold_ends_long bs))
 
-      pairs_refusal : length cs ≡ 0 → island_refusal ts (take (2 * m) ps) (drop (2 * m) ps) es rooms ≡ sound_refusal bs
-      unfolding island_refusal sound_refusal few_each decode
-      pairs_refusal z =
-          let lm = manifold_ends_long bs in
-          let no = no_counts bs (sym (ap length d.counts) ∙ z) in
-          let lj = no.1 in
-          rw (
-            front,
-            rest,
-            d.types,
-            d.enabled,
-            no.0,
-            le-leb (length (types_in bs)) 4096 (omega (arith, types_long bs e, s.bodies)),
-            le-leb (length (manifolds_in bs) / 2) 4096 (omega (arith, lm, s.manifolds)),
-            le-leb (length (joint_ends_in bs) / 2) 4096 (omega (arith, lj, s.joints)),
-            eq-eqb (length (manifolds_in bs) % 2) 0 (omega (arith, lm)),
-            eq-eqb (length (joint_ends_in bs) % 2) 0 (omega (arith, lj)),
-            eq-eqb (length (live_in bs)) (length (joint_ends_in bs) / 2) (omega (arith, lj, live_in_long bs)),
-            file-known bs e,
-            le-leb (length (types_in bs)) (length t.parents) (omega (arith, types_long bs e, room.islands.parents)),
-            le-leb (length (types_in bs)) (length t.sizes) (omega (arith, types_long bs e, room.islands.sizes)),
-            le-leb (length (types_in bs)) (length t.body_islands) (omega (arith, types_long bs e, room.islands.body_islands)),
-            le-leb (length (manifolds_in bs) / 2) (length t.manifold_islands) (omega (arith, lm, room.islands.manifold_islands)),
-            le-leb (length (joint_ends_in bs) / 2) (length t.joint_islands) (omega (arith, lj, room.islands.joint_islands)),
-          )
+      rest : l.joint_ends.now ≡ joint_ends_in bs
+      rest = stands.joint_ends ∙ rw (d.ends, em) (drop_at (manifolds_in bs) (joint_ends_in bs) (2 * count_m bs) (manifold_ends_long bs))
 
-      counts-refusal : (length cs ≡ 0 → ⊥) → multi_island_refusal ts (take (2 * m) ps) (drop (2 * m) ps) (drop m cs) es rooms ≡ sound_refusal bs
-      unfolding multi_island_refusal sound_refusal few_each decode
-      counts-refusal n =
-          let lm = manifold_ends_long bs in
-          let v = counted-second n in
-          let lc = counts-second_long bs v in
-          rw (
-            front,
-            rest,
-            joints-counted,
-            d.types,
-            d.enabled,
-            le-leb (length (types_in bs)) 4096 (omega (arith, types_long bs e, s.bodies)),
-            le-leb (length (manifolds_in bs) / 2) 4096 (omega (arith, lm, s.manifolds)),
-            le-leb (length (counts_in bs)) 4096 (omega (arith, lc, s.joints)),
-            eq-eqb (length (manifolds_in bs) % 2) 0 (omega (arith, lm)),
-            eq-eqb (end_count (counts_in bs)) (length (joint_ends_in bs)) (ends-second_long bs v),
-            eq-eqb (length (live_in bs)) (length (counts_in bs)) (omega (arith, lc, live_in_long bs)),
-            file-known bs e,
-            file-counts bs e,
-            le-leb (length (types_in bs)) (length t.parents) (omega (arith, types_long bs e, room.islands.parents)),
-            le-leb (length (types_in bs)) (length t.sizes) (omega (arith, types_long bs e, room.islands.sizes)),
-            le-leb (length (types_in bs)) (length t.body_islands) (omega (arith, types_long bs e, room.islands.body_islands)),
-            le-leb (length (manifolds_in bs) / 2) (length t.manifold_islands) (omega (arith, lm, room.islands.manifold_islands)),
-            le-leb (length (counts_in bs)) (length t.joint_islands) (omega (arith, lc, room.islands.joint_islands)),
-          )
+      joints-counted : l.joint_counts.now ≡ counts_in bs
+      joints-counted = stands.joint_counts ∙ rw (d.counts, em) (joint_counts bs)
 
-      refusal_is : standing_refusal ts ps m cs es rooms ≡ sound_refusal bs
-      refusal_is = by_cases (eqb (length cs) 0)
-          (λ z. rw z (pairs_refusal (eqb-true (length cs) 0 z)))
-          (λ z. rw z (counts-refusal (eqb-false (length cs) 0 z)))
+      live-are : l.enabled.now ≡ live_in bs
+      live-are = stands.enabled ∙ d.enabled
 
-      module _ (u : IslandTables) (k n : ℕ) (h : Built (standing_frame ts ps m cs es) (standing_refusal ts ps m cs es rooms) t u k n) where
-        pub built : Built f (sound_refusal bs) t u k n
-        built = rw (frame_is, refusal_is) at h
+      frame_is : frame_in l ≡ f
+      unfolding decode
+      frame_is = rw (types-are, front, rest, joints-counted, live-are)
 
-        refusal-sound : k ≡ 0 → all_sound f ≡ true
-        unfolding sound_refusal
-        refusal-sound z = by_cases (all_sound f) (λ ok. ok) (λ ok. absurd (let y : 7 ≡ 0 = sym (rw ok at built.refusal) ∙ z in omega arith))
+      pub no_joint_counts : length cs ≡ 0 → length l.joint_counts.now ≡ 0
+      no_joint_counts z = ap length (joints-counted ∙ (no_counts bs (sym (ap length d.counts) ∙ z)).0)
 
-        pub countable : (c : ℕ) → c ≡ k → Countable c ts ps m cs es ds
-        countable c ec = record {
-          pairs = pairs_inside;
-          joints = λ n. (counts_inside n, rw (joints-counted, rest) (ends-second_long bs (counted-second n)));
-          counts = omega (arith, ap length d.types, types_long bs e, room.on_bodies);
-          sound = λ z. rw frame_is (refusal-sound (sym ec ∙ z));
-          few = subst (λ (g : Frame). length (constraints g) ≤ 8192) (sym frame_is) few_constraints;
-        }
+      module _ (t : IslandTables) (ns ks ss os ds : List ℕ) (room : Roomy bs t ns ks ss os ds) where
+        abbrev rooms : Rooms
+        rooms = rooms_of t
 
-        pub degree_is : (c r : ℕ) → c ≡ k → r ≡ cond (eqb c 0) (degree_max (standing_frame ts ps m cs es)) 0 → r ≡ cond (all_sound f) (degree_max f) 0
-        unfolding sound_refusal
-        degree_is c r ec er = er ∙ by_cases (all_sound f)
-            (λ ok. rw (frame_is, ec, rw ok at built.refusal, ok))
-            (λ ok. rw (ec, rw ok at built.refusal, ok))
+        pairs_refusal : length cs ≡ 0 → island_refusal l.types.now l.manifolds.now l.joint_ends.now l.enabled.now rooms ≡ sound_refusal bs
+        unfolding island_refusal sound_refusal few_each decode
+        pairs_refusal z =
+            let lm = manifold_ends_long bs in
+            let no = no_counts bs (sym (ap length d.counts) ∙ z) in
+            let lj = no.1 in
+            rw (
+              front,
+              rest,
+              types-are,
+              live-are,
+              no.0,
+              le-leb (length (types_in bs)) 4096 (omega (arith, types_long bs e, s.bodies)),
+              le-leb (length (manifolds_in bs) / 2) 4096 (omega (arith, lm, s.manifolds)),
+              le-leb (length (joint_ends_in bs) / 2) 4096 (omega (arith, lj, s.joints)),
+              eq-eqb (length (manifolds_in bs) % 2) 0 (omega (arith, lm)),
+              eq-eqb (length (joint_ends_in bs) % 2) 0 (omega (arith, lj)),
+              eq-eqb (length (live_in bs)) (length (joint_ends_in bs) / 2) (omega (arith, lj, live_in_long bs)),
+              file-known bs e,
+              le-leb (length (types_in bs)) (length t.parents) (omega (arith, types_long bs e, room.islands.parents)),
+              le-leb (length (types_in bs)) (length t.sizes) (omega (arith, types_long bs e, room.islands.sizes)),
+              le-leb (length (types_in bs)) (length t.body_islands) (omega (arith, types_long bs e, room.islands.body_islands)),
+              le-leb (length (manifolds_in bs) / 2) (length t.manifold_islands) (omega (arith, lm, room.islands.manifold_islands)),
+              le-leb (length (joint_ends_in bs) / 2) (length t.joint_islands) (omega (arith, lj, room.islands.joint_islands)),
+            )
 
-        -- ---- the last two steps
+        counts-refusal : (length cs ≡ 0 → ⊥) → multi_island_refusal l.types.now l.manifolds.now l.joint_ends.now l.joint_counts.now l.enabled.now rooms ≡ sound_refusal bs
+        unfolding multi_island_refusal sound_refusal few_each decode
+        counts-refusal n =
+            let lm = manifold_ends_long bs in
+            let v = counted-second n in
+            let lc = counts-second_long bs v in
+            rw (
+              front,
+              rest,
+              joints-counted,
+              types-are,
+              live-are,
+              le-leb (length (types_in bs)) 4096 (omega (arith, types_long bs e, s.bodies)),
+              le-leb (length (manifolds_in bs) / 2) 4096 (omega (arith, lm, s.manifolds)),
+              le-leb (length (counts_in bs)) 4096 (omega (arith, lc, s.joints)),
+              eq-eqb (length (manifolds_in bs) % 2) 0 (omega (arith, lm)),
+              eq-eqb (end_count (counts_in bs)) (length (joint_ends_in bs)) (ends-second_long bs v),
+              eq-eqb (length (live_in bs)) (length (counts_in bs)) (omega (arith, lc, live_in_long bs)),
+              file-known bs e,
+              file-counts bs e,
+              le-leb (length (types_in bs)) (length t.parents) (omega (arith, types_long bs e, room.islands.parents)),
+              le-leb (length (types_in bs)) (length t.sizes) (omega (arith, types_long bs e, room.islands.sizes)),
+              le-leb (length (types_in bs)) (length t.body_islands) (omega (arith, types_long bs e, room.islands.body_islands)),
+              le-leb (length (manifolds_in bs) / 2) (length t.manifold_islands) (omega (arith, lm, room.islands.manifold_islands)),
+              le-leb (length (counts_in bs)) (length t.joint_islands) (omega (arith, lc, room.islands.joint_islands)),
+            )
 
-        module _ (j c i : ℕ) (ej : j ≡ length es) (ec : c ≡ k) (ei : i ≡ n) where
-          joints_are : j ≡ count_j bs
-          joints_are = ej ∙ ap length d.enabled ∙ live_in_long bs
+        refusal_is : standing_refusal (not (eqb (length cs) 0)) l rooms ≡ sound_refusal bs
+        refusal_is = by_cases (eqb (length cs) 0)
+            (λ z. rw z (pairs_refusal (eqb-true (length cs) 0 z)))
+            (λ z. rw z (counts-refusal (eqb-false (length cs) 0 z)))
 
-          fronts : take m u.manifold_islands ++ take j u.joint_islands ≡ labels_in bs u.manifold_islands u.joint_islands
-          fronts = rw (em, joints_are)
+        -- ---- after the islands' call, whose answer is r
 
-          pub sort_ready : length u.manifold_islands ≡ length t.manifold_islands → length u.joint_islands ≡ length t.joint_islands
-              → ((m ≤ length u.manifold_islands) × (j ≤ length u.joint_islands) × (m + j ≤ length ks)) × (Labels i (take m u.manifold_islands ++ take j u.joint_islands) × Sortable (m + j) (take (m + j) ks) ss os ns)
-          sort_ready lm lj = (
-            (omega (arith, lm, em, room.islands.manifold_islands), omega (arith, lj, joints_are, room.islands.joint_islands), omega (arith, em, joints_are, room.keys)),
-            (
-              rw (fronts, ei) (labels_sortable t u k n built),
-              record {
-                keys = length-take-le (m + j) ks (omega (arith, em, joints_are, room.keys));
-                scratch = omega (arith, em, joints_are, room.scratch);
-                offsets = omega (arith, em, joints_are, room.offsets);
-                numbers = omega (arith, em, joints_are, room.numbers);
-              },
-            ),
-          )
+        module _ (u : IslandTables) (r : Result ℕ Refusal) (h : Built (frame_in l) (standing_refusal (not (eqb (length cs) 0)) l rooms) t u (refused_by r) (answer_islands r)) where
+          pub built : Built f (sound_refusal bs) t u (refused_by r) (answer_islands r)
+          built = rw (frame_is, refusal_is) at h
 
-          pub filled : (r : ℕ) (ns' : List ℕ) → r ≡ cond (eqb c 0) (degree_max (standing_frame ts ps m cs es)) 0 → ns' ≡ by_island i (take m u.manifold_islands ++ take j u.joint_islands)
-              → Fills bs ts fs ps cs es t u ns' (record { refusal = c; islands = i; degree = r })
-          filled r ns' er en = record {
-            decoded = d;
-            islands = rw (ec, ei) built;
-            degree = degree_is c r ec er;
-            numbers = en ∙ ap (by_island i) fronts;
+          accepted-sound : refused_by r ≡ 0 → all_sound f ≡ true
+          unfolding sound_refusal
+          accepted-sound z = by_cases (all_sound f) (λ ok. ok) (λ ok. absurd (let y : 7 ≡ 0 = sym (rw ok at built.refusal) ∙ z in omega arith))
+
+          refused-unsound : (refused_by r ≡ 0 → ⊥) → all_sound f ≡ false
+          unfolding sound_refusal
+          refused-unsound n = by_cases (all_sound f) (λ ok. absurd (n (rw ok at built.refusal))) (λ ok. ok)
+
+          pub countable : refused_by r ≡ 0 → Countable l ds
+          countable z = record {
+            joints = λ n. rw (joints-counted, rest) (ends-second_long bs (counted-second (λ y. n (no_joint_counts y))));
+            counts = omega (arith, ap length types-are, types_long bs e, room.on_bodies);
+            sound = rw frame_is (accepted-sound z);
+            few = subst (λ (g : Frame). length (constraints g) ≤ 8192) (sym frame_is) few_constraints;
           }
+
+          -- ---- the numbers
+
+          module _ (j i : ℕ) (ej : j ≡ length es) (ei : i ≡ answer_islands r) where
+            joints_are : j ≡ count_j bs
+            joints_are = ej ∙ ap length d.enabled ∙ live_in_long bs
+
+            fronts : take m u.manifold_islands ++ take j u.joint_islands ≡ labels_in bs u.manifold_islands u.joint_islands
+            fronts = rw (em, joints_are)
+
+            pub sort_ready : length u.manifold_islands ≡ length t.manifold_islands → length u.joint_islands ≡ length t.joint_islands
+                → ((m ≤ length u.manifold_islands) × (j ≤ length u.joint_islands) × (m + j ≤ length ks)) × (Labels i (take m u.manifold_islands ++ take j u.joint_islands) × Sortable (m + j) (take (m + j) ks) ss os ns)
+            sort_ready lm lj = (
+              (omega (arith, lm, em, room.islands.manifold_islands), omega (arith, lj, joints_are, room.islands.joint_islands), omega (arith, em, joints_are, room.keys)),
+              (
+                rw (fronts, ei) (labels_sortable t u (refused_by r) (answer_islands r) built),
+                record {
+                  keys = length-take-le (m + j) ks (omega (arith, em, joints_are, room.keys));
+                  scratch = omega (arith, em, joints_are, room.scratch);
+                  offsets = omega (arith, em, joints_are, room.offsets);
+                  numbers = omega (arith, em, joints_are, room.numbers);
+                },
+              ),
+            )
+
+            module _ (ns' : List ℕ) (en : ns' ≡ by_island i (take m u.manifold_islands ++ take j u.joint_islands)) where
+              sorted : ns' ≡ by_island (answer_islands r) (labels_in bs u.manifold_islands u.joint_islands)
+              sorted = en ∙ rw (fronts, ei)
+
+              -- ---- and the answer
+
+              pub filled : (n c : ℕ) → r ≡ Ok n → c ≡ degree_max (frame_in l) → Fills bs ts fs ps cs es t u ns' (Ok (record { islands = n; degree = c }))
+              filled n c er ec = record {
+                decoded = d;
+                islands = rw er at built;
+                degree = rw (accepted-sound (ap refused_by er)) (ec ∙ ap degree_max frame_is);
+                numbers = rw er at sorted;
+              }
+
+              pub unfilled : (k : Refusal) → r ≡ Err k → Fills bs ts fs ps cs es t u ns' (Err k)
+              unfilled k er = record {
+                decoded = d;
+                islands = rw er at built;
+                degree = rw (refused-unsound (λ z. numbered k (sym (ap refused_by er) ∙ z)));
+                numbers = rw er at sorted;
+              }

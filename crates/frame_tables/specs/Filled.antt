@@ -1,5 +1,7 @@
 -- A frame's tables, filled for the run.
-use Rattle.std.specs.Prelude.{ℕ, ◌+◌, ◌≤◌, ◌≡◌, cond, List, ◌++◌, length, take}
+use Rattle.std.specs.Prelude.{ℕ, ◌+◌, ◌≤◌, ◌≡◌, cond, List, ◌++◌, Result, Ok, Err, length, take}
+use Rattle.frame.specs.declared.refusal.Refusal.{Refusal}
+use Rattle.frame.specs.Refusals.{refused_by}
 use Rattle.frame.specs.Frames.{all_sound, degree_max}
 use Rattle.frame.specs.Files.{count_b, count_m, count_j, decode}
 use Rattle.island.specs.Calls.{IslandTables, Built}
@@ -32,9 +34,18 @@ pub record Roomy (bs : List ℕ) (t : IslandTables) (ns ks ss os ds : List ℕ) 
 abbrev pub labels_in : List ℕ → List ℕ → List ℕ → List ℕ
 labels_in bs mi ji = take (count_m bs) mi ++ take (count_j bs) ji
 
+-- how many islands an answer tells, and D; both 0 after a refusal
+abbrev pub islands_in : Result Filling Refusal → ℕ
+islands_in (Ok f) = f.islands
+islands_in (Err _) = 0
+
+abbrev pub degree_in : Result Filling Refusal → ℕ
+degree_in (Ok f) = f.degree
+degree_in (Err _) = 0
+
 -- all tables filled: island tables at entry (t) and at exit (u), the sorted numbers, and the answer
-pub record Fills (bs ts fs ps cs es : List ℕ) (t u : IslandTables) (ns : List ℕ) (r : Filling) : Type 0 where
+pub record Fills (bs ts fs ps cs es : List ℕ) (t u : IslandTables) (ns : List ℕ) (r : Result Filling Refusal) : Type 0 where
   pub decoded : Decoded bs ts fs ps cs es
-  pub islands : Built (decode bs) (sound_refusal bs) t u r.refusal r.islands
-  pub degree : r.degree ≡ cond (all_sound (decode bs)) (degree_max (decode bs)) 0
-  pub numbers : ns ≡ by_island r.islands (labels_in bs u.manifold_islands u.joint_islands)
+  pub islands : Built (decode bs) (sound_refusal bs) t u (refused_by r) (islands_in r)
+  pub degree : degree_in r ≡ cond (all_sound (decode bs)) (degree_max (decode bs)) 0
+  pub numbers : ns ≡ by_island (islands_in r) (labels_in bs u.manifold_islands u.joint_islands)

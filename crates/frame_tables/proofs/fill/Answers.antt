@@ -1,23 +1,35 @@
 -- `fill`: after the decoding the tables hold the file's frame, so the islands call asks only question 7; the labels it leaves can be sorted.
-use Rattle.std.proofs.Common.{refl}
-use Rattle.frame_tables.proofs.Tables.{countable, sort_ready, filled}
+use Rattle.std.proofs.Common.{refl, ap}
+use Rattle.std.proofs.lemmas.Result.{err_from_is_err_and}
+use Rattle.frame.specs.Refusals.{refused_by}
+use Rattle.frame_tables.proofs.Tables.{countable, sort_ready, filled, unfilled}
 use Rattle.frame_tables.proofs.fill.Goals as goal
 
-pub degree_of-degree-requires : goal.degree_of-degree-requires
-degree_of-degree-requires c =
+pub sort-requires-clause-in_bounds : goal.sort-requires-clause-in_bounds
+sort-requires-clause-in_bounds c =
     let r = c.requires in
-    let d = c.decode in
-    countable c.args.frame.now r.decodable.file c.args.manifolds d.new.types d.new.flags d.new.pairs d.new.counts d.new.enabled r.decodable.manifolds d.ensures _ _ _ _ _ _ r.roomy _ _ _ c.build-answer.ensures _ c.refusal_of-refusal.ensures
+    let b = c.build-built.ensures in
+    (sort_ready c.args.frame.now r.decodable.file _ _ _ _ _ _ r.decodable.manifolds c.decode.ensures _ c.lists_of-lists.ensures _ _ _ _ _ _ r.roomy _ c.build-built.result b.built _ _ refl c.unwrap_or.ensures b.same.long_manifold_islands b.same.long_joint_islands).0
 
 pub sort-requires-clause-labels : goal.sort-requires-clause-labels
 sort-requires-clause-labels c =
     let r = c.requires in
-    let d = c.decode in
-    let b = c.build-answer in
-    (sort_ready c.args.frame.now r.decodable.file c.args.manifolds d.new.types d.new.flags d.new.pairs d.new.counts d.new.enabled r.decodable.manifolds d.ensures _ _ _ _ _ _ r.roomy _ _ _ b.ensures _ _ _ refl c.refusal_of-refusal.ensures c.islands_of-islands.ensures b.auto.manifold_islands b.auto.joint_islands).1.0
+    let b = c.build-built.ensures in
+    (sort_ready c.args.frame.now r.decodable.file _ _ _ _ _ _ r.decodable.manifolds c.decode.ensures _ c.lists_of-lists.ensures _ _ _ _ _ _ r.roomy _ c.build-built.result b.built _ _ refl c.unwrap_or.ensures b.same.long_manifold_islands b.same.long_joint_islands).1.0
 
-pub returns : goal.returns
-returns c =
+pub returns-in_err-islands-clause-filled : goal.returns-in_err-islands-clause-filled
+returns-in_err-islands-clause-filled c =
     let r = c.requires in
-    let d = c.decode in
-    filled c.args.frame.now r.decodable.file c.args.manifolds d.new.types d.new.flags d.new.pairs d.new.counts d.new.enabled r.decodable.manifolds d.ensures _ _ _ _ _ _ r.roomy _ _ _ c.build-answer.ensures _ _ _ refl c.refusal_of-refusal.ensures c.islands_of-islands.ensures _ _ c.degree_of-degree.ensures c.sort.ensures
+    let b = c.build-built.ensures in
+    let p = err_from_is_err_and c.from_residual.result c.from_residual.ensures.1 in
+    rw (p.1, p.2) (unfilled c.args.frame.now r.decodable.file _ _ _ _ _ _ r.decodable.manifolds c.decode.ensures _ c.lists_of-lists.ensures _ _ _ _ _ _ r.roomy _ c.build-built.result b.built _ _ refl c.unwrap_or.ensures _ c.sort.ensures _ c.in_err-islands.was)
+
+pub degree_of-requires : goal.degree_of-requires
+degree_of-requires c =
+    let r = c.requires in
+    countable c.args.frame.now r.decodable.file _ _ _ _ _ _ r.decodable.manifolds c.decode.ensures _ c.lists_of-lists.ensures _ _ _ _ _ _ r.roomy _ c.build-built.result c.build-built.ensures.built (ap refused_by c.in_ok-islands.was)
+
+pub returns-clause-filled : goal.returns-clause-filled
+returns-clause-filled c =
+    let r = c.requires in
+    filled c.args.frame.now r.decodable.file _ _ _ _ _ _ r.decodable.manifolds c.decode.ensures _ c.lists_of-lists.ensures _ _ _ _ _ _ r.roomy _ c.build-built.result c.build-built.ensures.built _ _ refl c.unwrap_or.ensures _ c.sort.ensures _ _ c.in_ok-islands.was c.degree_of.ensures
