@@ -7,8 +7,10 @@ ghost use Rattle.frame.specs.Frames.{constraint, constraints_of, counted_of, end
 ghost use Rattle.island_sets.specs.Steps.{Balanced};
 ghost use Rattle.island_labels.specs.Labels.{in_island_by, Numberable, Flagged, Stepped, NumberedByLowest, label_by};
 
+use frame::Frame;
+
 // The label of what has no island.
-pub const NONE: u16 = 65535;
+pub const NONE: u16 = Frame::NONE;
 
 // The label of a body that is in an island and has no number yet.
 const UNNUMBERED: u16 = 65534;
