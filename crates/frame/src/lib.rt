@@ -230,6 +230,9 @@ impl Frame {
 
     pub const MAX_ENDS: usize = 4;
 
+    // The label of a body or constraint that has no island.
+    pub const NONE: u16 = 65535;
+
     // Questions 1 to 5 of a file.
     pub fn read(bytes: &[u8]) -> Result<Frame, Refusal>
         ensures { Read bytes.now result }

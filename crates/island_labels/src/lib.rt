@@ -8,10 +8,11 @@ ghost use Rattle.frame.specs.Frames.{constraints_of, end_count, joints_of, sound
 ghost use Rattle.island_sets.specs.Steps.{Balanced};
 ghost use Rattle.island_labels.specs.Labels.{in_island_by, Numberable, Flagged, Stepped, NumberedByLowest, label_by};
 
+use frame::Frame;
 use frame::constraints::{Constraints, Counted, Lent, Pairs};
 
 // The label of what has no island.
-pub const NONE: u16 = 65535;
+pub const NONE: u16 = Frame::NONE;
 
 // The label of a body that is in an island and has no number yet.
 const UNNUMBERED: u16 = 65534;
