@@ -9,7 +9,7 @@ ghost use Rattle.frame.specs.Refusals.{refused_by};
 ghost use Rattle.groups.specs.Groups.{multi_plan_of};
 ghost use Rattle.parts.specs.Steps.{BoundsOf};
 ghost use Rattle.plan_questions.specs.Plans.{tables_of};
-ghost use Rattle.plan_questions.specs.Lent.{tables_in, SameTables};
+ghost use Rattle.plan_questions.specs.Lent.{tables_in, lengths_of, SameTables};
 ghost use Rattle.constraint_coloring.specs.Stages.{Buildable, Rebuilt};
 ghost use Rattle.multi_coloring.specs.Counts.{count_read, counts_read, positions_in, multi_update_refusal};
 ghost use Rattle.multi_coloring.specs.Calls.{fresh_multi, multi_holds, MultiUpdated, MultiLocated};
@@ -197,6 +197,7 @@ impl MultiColoring {
     ) -> Update<Self>
         ensures updated { MultiUpdated self flags.now ends.now counts_in.now (tables_in tables.old) counts.old (tables_in tables.new) counts.new result }
         ensures same_tables { SameTables tables.old tables.new }
+        ensures same_lengths { lengths_of (tables_in tables.new) ≡ lengths_of (tables_in tables.old) }
     {
         let room = (counts_in.len() <= counts.len())
             & tables.has_room_for(flags.len(), counts_in.len(), ends.len());

@@ -13,9 +13,8 @@ use Rattle.constraint_coloring.specs.declared.Update.{Update}
 use Rattle.plan_questions.specs.Plans.{Tables, roomy_with}
 use Rattle.constraint_coloring.specs.Calls.{fresh_plan, plan_after, refusal_with, Updated}
 use Rattle.multi_coloring.specs.declared.MultiColoring.{MultiColoring}
-use Rattle.multi_coloring.specs.declared.MultiUpdate.{MultiUpdate}
 use Rattle.multi_coloring.specs.Counts.{multi_update_refusal}
-use Rattle.multi_coloring.specs.Calls.{fresh_multi, multi_plan_after, multi_refusal_with, numbers_of, MultiUpdated}
+use Rattle.multi_coloring.specs.Calls.{fresh_multi, multi_refusal_with, numbers_of, MultiUpdated}
 use Rattle.multi_coloring.proofs.Accepted.{Accepted, accepted, few-ends, two-each}
 use Rattle.schedules.specs.Runs.{freshly, members_in, bodies_in, lookup_refusal, lookup_of, take_rank}
 use Rattle.schedules.proofs.Standing.{Lookups, asked_pairs, fresh_pairs, updated_pairs, few_pairs, fresh-counts, updated_lent, constraints-lent, few-counts}
@@ -75,7 +74,7 @@ module _ (flags ends : List ℕ) (t u : Tables) (ready : Ready flags [] ends (ra
       let room : roomy_with (length flags) (length ends / 2) (2 * (length ends / 2)) t ≡ true = subst (λ (e : ℕ). roomy_with (length flags) (length ends / 2) e t ≡ true) (asked_pairs flags ends true ready.accepted).1 ready.tables in
       rw room ready.accepted
 
-  pub pairs_colored : (new plan : ConstraintColoring) (r : Update) → new ≡ fresh_plan → Updated new flags ends t u r → plan ≡ plan_after new r → Colored flags [] ends plan u
+  pub pairs_colored : (new plan : ConstraintColoring) (r : Update ConstraintColoring) → new ≡ fresh_plan → Updated new flags ends t u r → plan ≡ plan_after new r → Colored flags [] ends plan u
   unfolding members_in bodies_in take_rank lookup_refusal lookup_of
   pairs_colored new plan r e up f =
       let l = updated_pairs flags ends t u r with_tables (rw e at up) in
@@ -86,14 +85,14 @@ module _ (flags ends : List ℕ) (t u : Tables) (ready : Ready flags [] ends (ra
 
 -- of constraints that have a count each
 module _ (flags counts ends old left : List ℕ) (t u : Tables) (ready : Ready flags counts ends (ranks counts ends) t old) (some : length counts ≡ 0 → ⊥) where
-  pub counts_colored : (new after : MultiColoring) (plan : ConstraintColoring) (r : MultiUpdate) → new ≡ fresh_multi → MultiUpdated new flags ends counts t old u left r → after ≡ multi_plan_after new r → plan ≡ numbers_of after → Colored flags counts ends plan u
+  pub counts_colored : (new after : MultiColoring) (r : Update MultiColoring) → new ≡ fresh_multi → MultiUpdated new flags ends counts t old u left r → after ≡ plan_after new r → Colored flags counts ends after.plan u
   unfolding members_in bodies_in take_rank lookup_refusal lookup_of
-  counts_colored new after plan r e up f g =
+  counts_colored new after r e up f =
       let ok = asks_multi ready some in
       let up' : MultiUpdated fresh_multi flags ends counts t old u left r = rw e at up in
       let l = updated_lent flags ends counts t u old left r ok up' in
       let asked = asks_counts ready some in
-      rw (g, f, e) (colored flags counts ends (counted_parts counts ends) (few-counts flags ends counts true asked) u (numbers_of (multi_plan_after fresh_multi r))
+      rw (f, e) (colored flags counts ends (counted_parts counts ends) (few-counts flags ends counts true asked) u (numbers_of (plan_after fresh_multi r))
       (λ s. constraints-lent flags ends counts t u old left r ok up')
       (record { groups = l.groups; members = l.members; bodies = l.bodies; takes = l.takes })
       (fresh-counts flags ends counts asked))
