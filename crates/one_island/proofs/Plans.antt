@@ -5,7 +5,6 @@ use Rattle.std.proofs.lemmas.Bool.{eqb-false}
 use Rattle.lists.specs.Basics.{join_map, range}
 use Rattle.lists.proofs.Laws.{by_cases, range_high, pigeonhole, no_length}
 use Rattle.lists.proofs.Ranges.{join_map_ext_in}
-use Rattle.frame.specs.Frames.{counts_known, end_count}
 use Rattle.groups.specs.Groups.{Plan, pairs_of, counted_parts, colors_of, group_count}
 use Rattle.groups.proofs.Colors.{colors-length, group_not_empty}
 use Rattle.constraint_coloring.specs.declared.ConstraintColoring.{ConstraintColoring}
@@ -20,7 +19,7 @@ use Rattle.schedules.specs.Runs.{freshly, members_in, bodies_in, lookup_refusal,
 use Rattle.schedules.proofs.Standing.{Lookups, asked_pairs, fresh_pairs, updated_pairs, few_pairs, fresh-counts, updated_lent, constraints-lent, few-counts}
 use Rattle.schedules.proofs.Condition3.{same_calls}
 use Rattle.group_run.specs.Appends.{seen, calls_in, plan_calls}
-use Rattle.one_island.specs.Island.{island_calls, ranks, Ready, Colored}
+use Rattle.one_island.specs.Island.{island_calls, ranks, Ready, Counted, Colored}
 
 -- two plans whose lookups hand back the same make the same takes
 same-plan_calls : (flags : List ℕ) (cs : List (List ℕ)) (p q : Plan) → Lookups flags cs p → Lookups flags cs q → (types ns : List ℕ) (i : ℕ) → plan_calls p types ns i ≡ plan_calls q types ns i
@@ -99,18 +98,10 @@ module _ (flags counts ends old left : List ℕ) (t u : Tables) (ready : Ready f
 
 -- ---- the bounds of the constraints, and their positions
 
--- what the counts of an island are known to be; without counts there is nothing to know
-pub record Counted (counts : List ℕ) (t : Tables) : Type 0 where
-  pub few : length counts ≤ 8192
-  pub known : counts_known counts ≡ true
-  pub sum : end_count counts ≤ 32768
-  pub bounds : 2 * length counts ≤ length t.body_constraints
-  pub positions : end_count counts ≤ length t.constraint_body_positions
-
 module _ {flags counts ends old : List ℕ} {n : ℕ} {t : Tables} (ready : Ready flags counts ends n t old) where
-  pub ready-counted : Counted counts t
+  pub ready-counted : Counted counts t.body_constraints t.constraint_body_positions
   ready-counted = by_cases (eqb (length counts) 0)
-      (λ e. rw (no_length counts (eqb-true (length counts) 0 e)) (record { few = omega arith; known = refl; sum = omega arith; bounds = omega arith; positions = omega arith }))
+      (λ e. rw (no_length counts (eqb-true (length counts) 0 e)) (record { few = omega arith; known = refl; sum = omega arith; bounds = omega arith; positions_there = omega arith }))
       (λ e.
       let a = passed_counts ready (eqb-false (length counts) 0 e) in
       record {
@@ -118,5 +109,5 @@ module _ {flags counts ends old : List ℕ} {n : ℕ} {t : Tables} (ready : Read
         known = a.known;
         sum = few-ends a;
         bounds = omega (arith, two-each a, a.tables.1.1.1.0);
-        positions = omega (arith, a.whole, a.tables.1.1.1.1.1.1.1.1.1.1.1.1.1.0);
+        positions_there = omega (arith, a.whole, a.tables.1.1.1.1.1.1.1.1.1.1.1.1.1.0);
       })

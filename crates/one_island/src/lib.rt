@@ -1,14 +1,12 @@
 // One island of the run, internal: its constraints are colored on a fresh plan and its groups taken in order.
 #![tactic(auto)]
 
-ghost use Rattle.std.specs.Prelude.{◌≡◌, ◌*◌, ◌≤◌, [], length, take};
-ghost use Rattle.frame.specs.Frames.{end_count};
-ghost use Rattle.parts.specs.Steps.{BoundsOf};
+ghost use Rattle.std.specs.Prelude.{◌≡◌, ◌≤◌, [], length};
 ghost use Rattle.plan_questions.specs.Lent.{tables_in, lengths_of, SameTables};
 ghost use Rattle.colored_bodies.specs.Bindings.{Known};
 ghost use Rattle.turn_table.specs.Turns.{Room, Appended};
-ghost use Rattle.group_run.specs.Appends.{added_by};
-ghost use Rattle.one_island.specs.Island.{island_calls, ranks, Ready, Colored};
+ghost use Rattle.group_run.specs.Appends.{seen, plan_calls, added_by};
+ghost use Rattle.one_island.specs.Island.{island_calls, ranks, Ready, Counted, Colored};
 
 use constraint_coloring::ConstraintColoring;
 use multi_coloring::MultiColoring;
@@ -65,12 +63,47 @@ fn color_island(
     color_counted(flags, ends, counts, plan_counts, tables)
 }
 
-// The bounds of constraints with these counts, over the first places of a table.
-fn bound_front(counts: &[u8], table: &mut [u16])
-    requires { (2 * length counts.now ≤ length table.old) × (length counts.now ≤ 8192) × (end_count counts.now ≤ 32768) }
-    ensures { BoundsOf counts.now (take (2 * length counts.now) table.new) }
+// The groups of a colored island, in order. What an update leaves in the table of the constraints on each body is not promised, so the bounds
+// of the constraints are filled in there again.
+fn run_colored(
+    island: u16,
+    types: &[u8],
+    counts: &[u8],
+    numbers: &[u16],
+    plan: ConstraintColoring,
+    body_constraints: &mut [u16],
+    color_offsets: &mut [u16],
+    colored_constraints: &mut [u16],
+    color_body_offsets: &mut [u16],
+    color_bodies: &mut [u16],
+    constraint_body_positions: &mut [u16],
+    turns: &mut [u16],
+    tally: Tally,
+) -> Tally
+    requires counted { Counted counts.now body_constraints.old constraint_body_positions.old }
+    requires constraints { (length counts.now ≡ 0 → ⊥) → plan.constraint_count ≡ length counts.now }
+    requires color_count_bound { plan.color_count ≤ 8192 }
+    requires room { Room (added_by (plan_calls (seen plan counts.now color_offsets.old colored_constraints.old color_body_offsets.old color_bodies.old constraint_body_positions.old) types.now numbers.now island)) turns.old tally }
+    requires known { Known types.now }
+    ensures appended { Appended (added_by (plan_calls (seen plan counts.now color_offsets.old colored_constraints.old color_body_offsets.old color_bodies.old constraint_body_positions.old) types.now numbers.now island)) turns.old tally turns.new result }
 {
-    parts::bound_counts(counts, &mut table[..2 * counts.len()]);
+    let bounds = &mut body_constraints[..2 * counts.len()];
+    parts::bound_counts(counts, bounds);
+    group_run::run_groups(
+        island,
+        numbers,
+        types,
+        plan,
+        counts,
+        bounds,
+        color_offsets,
+        colored_constraints,
+        color_body_offsets,
+        color_bodies,
+        constraint_body_positions,
+        turns,
+        tally,
+    )
 }
 
 // One island, whose constraints are `numbers`, with these endpoints and counts; without counts they are pairs. The tables of the plan are free.
@@ -94,15 +127,13 @@ pub fn run_island(
     ensures same_lengths { lengths_of (tables_in tables.new) ≡ lengths_of (tables_in tables.old) }
 {
     let plan = color_island(flags, ends, counts, plan_counts, tables);
-    // What an update leaves in this table is not promised, so the bounds of the constraints are filled again.
-    bound_front(counts, tables.body_constraints);
-    group_run::run_groups(
+    run_colored(
         island,
-        numbers,
         types,
-        plan,
         counts,
-        &tables.body_constraints[..2 * counts.len()],
+        numbers,
+        plan,
+        tables.body_constraints,
         tables.color_offsets,
         tables.colored_constraints,
         tables.color_body_offsets,
