@@ -7,6 +7,7 @@ ghost use Rattle.run_answer.specs.Answers.{run_number, run_report, Asks, AnswerO
 
 use frame::Frame;
 use frame_tables::Filling;
+use plan_questions::PlanLengths;
 use turn_table::Tally;
 
 // What a run carries: islands, turns, takes, and D, the largest number of constraints with an island on one body that makes conflicts.
@@ -195,10 +196,7 @@ pub fn ask(
     let joints = sizes_read.joints;
     let counted = sizes_read.version == 2;
     let entries = entries_for(counted, manifolds, joints);
-    let plan = plan_questions::roomy_with(
-        bodies,
-        manifolds + joints,
-        entries,
+    let plan = PlanLengths {
         dynamic_bodies,
         endpoints,
         body_offsets,
@@ -212,7 +210,7 @@ pub fn ask(
         color_body_offsets,
         color_bodies,
         constraint_body_positions,
-    );
+    };
     let room = roomy_for(
         bodies,
         manifolds,
@@ -234,7 +232,7 @@ pub fn ask(
         plan_counts,
         enabled,
         numbers,
-        plan,
+        plan.has_room_for(bodies, manifolds + joints, entries),
     );
     Asked {
         refusal: first_refusal(frame::refusal_of(reading), room),
