@@ -8,7 +8,7 @@ ghost use Rattle.parts.specs.Parts.{parts_at, Bounded};
 ghost use Rattle.parts.specs.Steps.{Gapless};
 ghost use Rattle.gathering.specs.Gathers.{Gatherable};
 ghost use Rattle.plan_questions.specs.Plans.{tables_of, group_part};
-ghost use Rattle.plan_questions.specs.Lent.{tables_in, SameTables};
+ghost use Rattle.plan_questions.specs.Lent.{tables_in, lengths_of, SameTables};
 ghost use Rattle.constraint_coloring.specs.Calls.{update_number, update_changed, plan_after, fresh_plan, Updated, Located};
 ghost use Rattle.constraint_coloring.specs.Stages.{Scheduled, Buildable, Rebuilt};
 
@@ -222,6 +222,7 @@ impl ConstraintColoring {
     pub fn update(self, flags: &[u8], pairs: &[u16], tables: &mut PlanTables<'_>) -> Update<Self>
         ensures updated { Updated self flags.now pairs.now (tables_in tables.old) (tables_in tables.new) result }
         ensures same_tables { SameTables tables.old tables.new }
+        ensures same_lengths { lengths_of (tables_in tables.new) ≡ lengths_of (tables_in tables.old) }
     {
         let room = tables.has_room_for_pairs(flags.len(), pairs.len() / 2);
         match plan_questions::ask_update(flags, pairs, room) {

@@ -9,6 +9,7 @@ ghost use Rattle.run_answer.specs.Answers.{Asks};
 ghost use Rattle.frame_run.specs.Calls.{lent_of, roomy_for, Ran};
 ghost use Rattle.frame_run.specs.Sized.{RoomySized, RanSized};
 
+use plan_questions::PlanTables;
 use run_answer::{Answer, Asked};
 
 // The run of a file that passed questions 1 to 6, where `types`, `flags`, `pairs`, `counts`, `enabled` and `numbers` have its sizes,
@@ -75,20 +76,9 @@ fn run_sized(
         color_offsets,
         body_stamps,
     );
-    let tally = island_run::run_islands(
-        filling.islands,
-        types,
-        flags,
-        pairs,
-        counts,
-        &manifold_islands[..manifolds],
-        &joint_islands[..enabled.len()],
-        numbers,
-        island_pairs,
-        island_counts,
+    let mut tables = PlanTables {
         dynamic_bodies,
         endpoints,
-        plan_counts,
         body_offsets,
         body_constraints,
         scratch_offsets,
@@ -100,6 +90,20 @@ fn run_sized(
         color_body_offsets,
         color_bodies,
         constraint_body_positions,
+    };
+    let tally = island_run::run_islands(
+        filling.islands,
+        types,
+        flags,
+        pairs,
+        counts,
+        &manifold_islands[..manifolds],
+        &joint_islands[..enabled.len()],
+        numbers,
+        island_pairs,
+        island_counts,
+        plan_counts,
+        &mut tables,
         turns,
     );
     run_answer::answer_of(filling, tally)

@@ -1,19 +1,20 @@
 -- What a take adds can be seen from its answer on the marks alone: the plan's other tables and the binding's bodies make no difference.
-use Rattle.std.proofs.Common.{ℕ, zero, suc, ◌+◌, ◌-◌, ◌≤◌, ◌<◌, ◌≡◌, refl, sym, ap, ◌∙◌, Bool, cond, List, [], ◌∷◌, ◌++◌, map, arith, add-one, ltb, eqb, length, get_or, drop, replicate, drop_of_length-le, drop-cons, take_all, ne_eqb, le-leb, lt-ltb, le-ltb}
+use Rattle.std.proofs.Common.{Bor, Ok, Err, ℕ, zero, suc, ◌+◌, ◌-◌, ◌≤◌, ◌<◌, ◌≡◌, refl, sym, ap, ◌∙◌, Bool, cond, List, [], ◌∷◌, ◌++◌, map, arith, add-one, ltb, eqb, length, get_or, drop, replicate, drop_of_length-le, drop-cons, take_all, ne_eqb, le-leb, lt-ltb, le-ltb}
 use Rattle.std.proofs.lemmas.Bool.{eqb-false}
 use Rattle.lists.specs.Basics.{one, count, sum_of, four, join_map, range_from}
 use Rattle.lists.proofs.Laws.{by_cases}
 use Rattle.lists.proofs.Fills.{whole}
 use Rattle.lists.proofs.Sums.{sum_append, sum_map}
+use Rattle.frame.specs.declared.refusal.Refusal.{Refusal}
 use Rattle.frame.specs.Frames.{end_count}
+use Rattle.frame.specs.Refusals.{number_of}
 use Rattle.groups.specs.Groups.{pair_at, Plan}
 use Rattle.parts.specs.Parts.{part_at, Present}
 use Rattle.parts.proofs.Bounds.{part-counted, counted_bounded}
 use Rattle.constraint_coloring.specs.declared.ConstraintColoring.{ConstraintColoring}
-use Rattle.constraint_coloring.specs.declared.Positions.{Positions}
-use Rattle.constraint_coloring.specs.declared.Positions.TheVariants as positions
-use Rattle.plan_questions.specs.Plans.{group_part, positions_refusal}
-use Rattle.constraint_coloring.specs.Calls.{positions_number, positions_values, Located}
+use Rattle.plan_questions.specs.Plans.{group_part}
+use Rattle.constraint_coloring.specs.Calls.{Located}
+use Rattle.constraint_coloring.proofs.Updates.{number_not-0}
 use Rattle.multi_coloring.specs.Counts.{count_read, counts_read, multi_positions_refusal}
 use Rattle.colored_bodies.specs.declared.BodyBinding.{BodyBinding}
 use Rattle.colored_bodies.specs.declared.Marked.{Marked}
@@ -50,29 +51,29 @@ module _ (p : Plan) (marks : List ℕ) (n r : ℕ) where
 pub dynamic-two : (hs : List Handed) (m : Marked) → marked_dynamic m ≡ map (λ h. h.dynamic) hs → (pair_taken m).dynamic ≡ count (λ h. h.dynamic) hs
 dynamic-two hs m e = ap (count (λ (d : Bool). d)) e ∙ sum_map one (λ (h : Handed). h.dynamic) hs
 
-module _ (plan : ConstraintColoring) (pos marks : List ℕ) (n r : ℕ) (q : Positions) (l : Located plan.constraint_count pos r q) where
+module _ (plan : ConstraintColoring) (pos marks : List ℕ) (n r : ℕ) where
   abbrev paired : Plan
   paired = seen plan [] [] [] [] [] pos
 
   abbrev two : BodyBinding
   two = marks_only marks n
 
-  pub pair_is_taken : (x y : ℕ) (m : Marked) (t : Taken) (left : List ℕ) → q ≡ positions.At x y → Marks two (x ∷ y ∷ []) m left → t ≡ pair_taken m → RankTaken paired marks n r t left
+  -- positions that are handed back are the two of the pair
+  pub pair_found : (places : Bor (List ℕ)) → Located plan.constraint_count pos r (Ok places) → places.now ≡ pair_at pos r
+  pair_found places l = l.values ∙ ap (λ (j : ℕ). cond (eqb j 0) (pair_at pos r) []) (sym l.refusal)
+
+  pub pair_is_taken : (places : Bor (List ℕ)) → Located plan.constraint_count pos r (Ok places) → (m : Marked) (t : Taken) (left : List ℕ) → Marks two (get_or places.now 0 0 ∷ get_or places.now 1 0 ∷ []) m left → t ≡ pair_taken m → RankTaken paired marks n r t left
   unfolding lookup_refusal lookup_of
-  pair_is_taken x y m t left e h k =
-      let z : positions_refusal plan.constraint_count pos r ≡ 0 = sym l.refusal ∙ ap positions_number e in
-      let ps : x ∷ y ∷ [] ≡ pair_at pos r = sym (ap positions_values e) ∙ l.values ∙ ap (λ (j : ℕ). cond (eqb j 0) (pair_at pos r) []) z in
-      rank_taken paired marks n r (x ∷ y ∷ []) t left z (sym ps)
+  pair_is_taken places l m t left h k =
+      let ps : get_or places.now 0 0 ∷ get_or places.now 1 0 ∷ [] ≡ pair_at pos r = rw (pair_found places l) in
+      rank_taken paired marks n r (get_or places.now 0 0 ∷ get_or places.now 1 0 ∷ []) t left (sym l.refusal) (sym ps)
       (ap (λ (u : Taken). u.refusal) k ∙ h.refusal)
-      (ap (λ (u : Taken). u.dynamic) k ∙ dynamic-two (take_of two (x ∷ y ∷ [])).handed m h.dynamic)
+      (ap (λ (u : Taken). u.dynamic) k ∙ dynamic-two (take_of two (get_or places.now 0 0 ∷ get_or places.now 1 0 ∷ [])).handed m h.dynamic)
       h.marks
 
-  pub pair_refused : (k : ℕ) → q ≡ positions.Refused k → RankTaken paired marks n r (record { refusal = k; dynamic = 0 }) marks
+  pub pair_refused : (k : Refusal) → Located plan.constraint_count pos r (Err k) → RankTaken paired marks n r (record { refusal = number_of k; dynamic = 0 }) marks
   unfolding lookup_refusal
-  pair_refused k e =
-      let z : positions_refusal plan.constraint_count pos r ≡ k = sym l.refusal ∙ ap positions_number e in
-      let no : [] ≡ cond (eqb k 0) (pair_at pos r) [] = sym (ap positions_values e) ∙ l.values ∙ ap (λ (j : ℕ). cond (eqb j 0) (pair_at pos r) []) z in
-      rank_refused paired marks n r k z (λ t. absurd (let y : 0 ≡ 2 = ap length (rw t at no) in omega arith))
+  pair_refused k l = rank_refused paired marks n r (number_of k) (sym l.refusal) (number_not-0 k)
 
 -- ---- of a constraint that has a count
 four-flags : (xs : List ℕ) → sum_of (λ f. f) (four xs) ≡ sum_of (λ f. f) xs

@@ -10,7 +10,7 @@ ghost use Rattle.group_run.specs.Appends.{seen, plan_calls, added_by, marks_only
 
 use colored_bodies::Marked;
 use colored_bodies::multi::MarkedAt;
-use constraint_coloring::{ConstraintColoring, Positions};
+use constraint_coloring::ConstraintColoring;
 use frame::Frame;
 use turn_table::{Taken, Tally};
 
@@ -55,11 +55,17 @@ fn take_pair(
     ensures { RankTaken (seen plan [] [] [] [] [] positions.now) marks.old count rank result marks.new }
 {
     match plan.body_positions_for_constraint(positions, rank) {
-        Positions::At(a, b) => {
-            pair_taken(colored_bodies::take_marks(marks, count, a as usize, b as usize))
+        Ok(places) => {
+            let taken = colored_bodies::take_marks(
+                marks,
+                count,
+                places[0] as usize,
+                places[1] as usize,
+            );
+            pair_taken(taken)
         }
-        Positions::Refused(n) => Taken {
-            refusal: n,
+        Err(refusal) => Taken {
+            refusal: refusal.number(),
             dynamic: 0,
         },
     }

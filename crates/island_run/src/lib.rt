@@ -3,12 +3,13 @@
 
 ghost use Rattle.std.specs.Prelude.{◌≡◌, ◌≤◌, ◌-◌, ◌*◌, ◌++◌, cond, eqb, length, take, drop};
 ghost use Rattle.frame.specs.Frames.{end_count};
-ghost use Rattle.plan_questions.specs.Plans.{tables_of};
+ghost use Rattle.plan_questions.specs.Lent.{tables_in, SameTables};
 ghost use Rattle.colored_bodies.specs.Bindings.{Known};
 ghost use Rattle.turn_table.specs.Turns.{none, Room, Appended};
 ghost use Rattle.group_run.specs.Appends.{added_by};
 ghost use Rattle.island_run.specs.Islands.{calls_of, Prepared};
 
+use plan_questions::PlanTables;
 use turn_table::Tally;
 
 // The counts of the constraints from place `start` to place `end`; without counts none.
@@ -46,36 +47,22 @@ pub fn run_islands(
     numbers: &[u16],
     island_ends: &mut [u16],
     island_counts: &mut [u8],
-    dynamic_bodies: &mut [u8],
-    endpoints: &mut [u16],
     plan_counts: &mut [u8],
-    body_offsets: &mut [u16],
-    body_constraints: &mut [u16],
-    scratch_offsets: &mut [u16],
-    constraint_colors: &mut [u16],
-    color_stamps: &mut [u16],
-    body_stamps: &mut [u16],
-    color_offsets: &mut [u16],
-    colored_constraints: &mut [u16],
-    color_body_offsets: &mut [u16],
-    color_bodies: &mut [u16],
-    constraint_body_positions: &mut [u16],
+    tables: &mut PlanTables<'_>,
     turns: &mut [u16],
 ) -> Tally
     requires prepared { Prepared islands flags.now counts.now ends.now (manifold_islands.now ++ joint_islands.now) numbers.now island_ends.old island_counts.old
-        (tables_of dynamic_bodies.old endpoints.old body_offsets.old
-        body_constraints.old scratch_offsets.old constraint_colors.old
-        color_stamps.old body_stamps.old color_offsets.old
-        colored_constraints.old color_body_offsets.old color_bodies.old constraint_body_positions.old) plan_counts.old }
+        (tables_in tables.old) plan_counts.old }
     requires room { Room (added_by (calls_of types.now flags.now counts.now ends.now (manifold_islands.now ++ joint_islands.now) islands)) turns.old none }
     requires known { Known types.now }
-    ensures { Appended (added_by (calls_of types.now flags.now counts.now ends.now (manifold_islands.now ++ joint_islands.now) islands)) turns.old none turns.new result }
+    ensures appended { Appended (added_by (calls_of types.now flags.now counts.now ends.now (manifold_islands.now ++ joint_islands.now) islands)) turns.old none turns.new result }
+    ensures same_tables { SameTables tables.old tables.new }
 {
     island_numbers::collect(
         ends,
         counts,
         numbers,
-        body_constraints,
+        tables.body_constraints,
         island_ends,
         island_counts,
     );
@@ -95,20 +82,8 @@ pub fn run_islands(
             &island_ends[ends_start..ends_end],
             part_counts,
             &numbers[start..end],
-            dynamic_bodies,
-            endpoints,
             plan_counts,
-            body_offsets,
-            body_constraints,
-            scratch_offsets,
-            constraint_colors,
-            color_stamps,
-            body_stamps,
-            color_offsets,
-            colored_constraints,
-            color_body_offsets,
-            color_bodies,
-            constraint_body_positions,
+            tables,
             turns,
             tally,
         );

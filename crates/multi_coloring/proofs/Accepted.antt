@@ -49,6 +49,10 @@ module _ {flags ends counts : List ℕ} {t : Tables} {c : List ℕ} (o : Accepte
   pub two-each : 2 * length counts ≤ length ends
   two-each = omega (arith, (known-many counts o.known).0, o.whole)
 
+  -- there is room for two bounds a constraint
+  pub bounds_room : 2 * length counts ≤ length t.body_constraints
+  bounds_room = omega (arith, two-each, o.tables.1.1.1.0)
+
   pub few-ends : end_count counts ≤ 32768
   few-ends = omega (arith, (known-many counts o.known).1, o.few)
 

@@ -4,7 +4,7 @@ use Rattle.lists.specs.Basics.{all}
 use Rattle.frame.specs.Frames.{counted_of, sound, fits}
 use Rattle.groups.specs.Groups.{counted_parts}
 
-pub sound-counted : (n : ℕ) (counts ends : List ℕ) → all (sound n) (counted_of counts ends []) ≡ all (fits n) (counted_parts counts ends)
+pub sound_counted : (n : ℕ) (counts ends : List ℕ) → all (sound n) (counted_of counts ends []) ≡ all (fits n) (counted_parts counts ends)
 unfolding sound
-sound-counted n [] ends = refl
-sound-counted n (c ∷ counts) ends = ap (λ (t : Bool). fits n (take c ends) && t) (sound-counted n counts (drop c ends))
+sound_counted n [] ends = refl
+sound_counted n (c ∷ counts) ends = ap (λ (t : Bool). fits n (take c ends) && t) (sound_counted n counts (drop c ends))

@@ -2,19 +2,18 @@
 -- rebuilt tables and the counts are those of the contract.
 use Rattle.std.proofs.Common.{ℕ, ◌≡◌, refl, sym, ap, ◌∙◌, Bool, true, false, not, List, eqb, ne_eqb}
 use Rattle.lists.specs.Basics.{over}
+use Rattle.frame.specs.declared.refusal.Refusal.{Refusal}
+use Rattle.frame.specs.Refusals.{number_of}
 use Rattle.groups.specs.Groups.{Plan, with_counts, multi_plan_of}
 use Rattle.plan_questions.specs.Plans.{Tables}
 use Rattle.constraint_coloring.specs.Stages.{Rebuilt}
 use Rattle.constraint_coloring.specs.declared.ConstraintColoring.{ConstraintColoring}
-use Rattle.constraint_coloring.proofs.Updates.{written-not, written_new, leaves_kept}
-use Rattle.multi_coloring.specs.Calls.{multi_number, multi_refused, multi_changed, multi_plan_after, multi_holds, multi_refusal_with, multi_changes_with, MultiUpdated}
+use Rattle.constraint_coloring.proofs.Updates.{number_not-0, written-not, written_new, leaves_kept}
+use Rattle.constraint_coloring.specs.Calls.{update_number, update_refused, update_changed, plan_after}
+use Rattle.constraint_coloring.specs.declared.Update.{Update}
+use Rattle.constraint_coloring.specs.declared.Update.TheVariants.{Changed, Unchanged, Refused}
+use Rattle.multi_coloring.specs.Calls.{multi_holds, multi_refusal_with, multi_changes_with, MultiUpdated}
 use Rattle.multi_coloring.specs.declared.MultiColoring.{MultiColoring}
-use Rattle.multi_coloring.specs.declared.MultiUpdate.{MultiUpdate}
-use Rattle.multi_coloring.specs.declared.MultiUpdate.TheVariants.{Changed, Unchanged, Refused}
-
--- what a built plan carries, as a plan with counts
-abbrev pub counted_plan : ConstraintColoring → MultiColoring
-counted_plan q = record { body_count = q.body_count; constraint_count = q.constraint_count; color_count = q.color_count; max_color_constraint_count = q.max_color_constraint_count }
 
 -- counts are no part of what is built
 pub built_counts : (counts : List ℕ) {flags ends : List ℕ} {d : Plan} {t u : Tables} {r : ConstraintColoring} → Rebuilt flags ends d t u r → Rebuilt flags ends (with_counts counts d) t u r
@@ -46,7 +45,7 @@ module _ (p : MultiColoring) (flags ends counts : List ℕ) (t : Tables) (c : Li
   changes = multi_changes_with p t c flags ends counts
 
   -- an answer that is not "changed" leaves the plan and all tables
-  kept_all : (r : MultiUpdate) → changes ≡ false → multi_number r ≡ refusal → multi_refused r ≡ not (eqb refusal 0) → multi_changed r ≡ false → multi_plan_after p r ≡ p → MultiUpdated p flags ends counts t c t c r
+  kept_all : (r : Update MultiColoring) → changes ≡ false → update_number r ≡ refusal → update_refused r ≡ not (eqb refusal 0) → update_changed r ≡ false → plan_after p r ≡ p → MultiUpdated p flags ends counts t c t c r
   kept_all r e n s b q = record {
     refusal = n;
     refused = s;
@@ -56,24 +55,26 @@ module _ (p : MultiColoring) (flags ends counts : List ℕ) (t : Tables) (c : Li
     counts_are = written-not changes counts c e;
   }
 
-  pub refused : (n : ℕ) → n ≡ refusal → (n ≡ 0 → ⊥) → MultiUpdated p flags ends counts t c t c (Refused n)
+  pub refused : (r : Refusal) → number_of r ≡ refusal → MultiUpdated p flags ends counts t c t c (Refused r)
   unfolding multi_changes_with
-  refused n e ne = kept_all (Refused n) (rw (sym e, ne_eqb n 0 ne)) e (rw (sym e, ne_eqb n 0 ne)) refl refl
+  refused r e =
+      let ne = ne_eqb (number_of r) 0 (number_not-0 r) in
+      kept_all (Refused r) (rw (sym e, ne)) e (rw (sym e, ne)) refl refl
 
   pub unchanged : refusal ≡ 0 → multi_holds p t c flags ends counts ≡ true → MultiUpdated p flags ends counts t c t c Unchanged
   unfolding multi_changes_with
   unchanged e h = kept_all Unchanged (rw (e, h)) (sym e) (rw e) refl refl
 
-  pub changed : (u : Tables) (c' : List ℕ) (q : ConstraintColoring) (r : MultiColoring) → refusal ≡ 0 → multi_holds p t c flags ends counts ≡ false → Rebuilt flags ends (multi_plan_of flags ends counts) t u q → c' ≡ over counts c → r ≡ counted_plan q
-      → MultiUpdated p flags ends counts t c u c' (Changed r)
+  pub changed : (u : Tables) (c' : List ℕ) (q : ConstraintColoring) → refusal ≡ 0 → multi_holds p t c flags ends counts ≡ false → Rebuilt flags ends (multi_plan_of flags ends counts) t u q → c' ≡ over counts c
+      → MultiUpdated p flags ends counts t c u c' (Changed (record { plan = q }))
   unfolding multi_changes_with
-  changed u c' q r e h w v k =
+  changed u c' q e h w v =
       let y : changes ≡ true = rw (e, h) in
       record {
         refusal = sym e;
         refused = rw e;
         changed = sym y;
-        plan = rw y (k ∙ ap counted_plan w.plan);
+        plan = rw y (ap (λ (c : ConstraintColoring). record { plan = c }) w.plan);
         tables = rw y w.tables;
         counts_are = rw y (written_new counts c c' v);
       }

@@ -2,78 +2,26 @@
 // and positions stand constraint after constraint without gaps; a further table remembers the counts.
 #![tactic(auto)]
 
-ghost use Rattle.std.specs.Prelude.{◌≡◌, ◌≤◌, ◌+◌, ◌*◌, ◌&&◌, map, leb, eqb, length, take, drop};
-ghost use Rattle.lists.specs.Basics.{one, over, same, four};
+ghost use Rattle.std.specs.Prelude.{◌≡◌, ℕ, List, [], ◌≤◌, ◌<◌, ◌*◌, ◌&&◌, map, leb, length};
+ghost use Rattle.lists.specs.Basics.{same};
 ghost use Rattle.frame.specs.Frames.{end_count};
+ghost use Rattle.frame.specs.Refusals.{refused_by};
 ghost use Rattle.groups.specs.Groups.{multi_plan_of};
-ghost use Rattle.plan_questions.specs.Plans.{tables_of, group_part};
-ghost use Rattle.constraint_coloring.specs.Stages.{Rebuilt};
-ghost use Rattle.multi_coloring.specs.Counts.{count_read, counts_read, multi_update_refusal};
-ghost use Rattle.multi_coloring.specs.Calls.{multi_number, multi_changed, multi_plan_after, fresh_multi, multi_refusal_with, MultiUpdated, MultiLocated};
+ghost use Rattle.parts.specs.Steps.{BoundsOf};
+ghost use Rattle.plan_questions.specs.Plans.{tables_of};
+ghost use Rattle.plan_questions.specs.Lent.{tables_in, lengths_of, SameTables};
+ghost use Rattle.constraint_coloring.specs.Stages.{Buildable, Rebuilt};
+ghost use Rattle.multi_coloring.specs.Counts.{count_read, counts_read, positions_in, multi_update_refusal};
+ghost use Rattle.multi_coloring.specs.Calls.{fresh_multi, multi_holds, MultiUpdated, MultiLocated};
 
-use constraint_coloring::ConstraintColoring;
-use frame::Frame;
+use constraint_coloring::{ConstraintColoring, Update};
+use frame::{Frame, Refusal};
+use plan_questions::{PlanTables, ask};
 
-// What a plan with counts carries by value; the rest stands in the tables that its caller lends.
-#[derive(Clone, Copy)]
+// A plan with counts: what it carries by value are the numbers of a plan. The rest stands in the tables that its caller lends.
+#[derive(Clone, Copy, Debug, PartialEq, Eq)]
 pub struct MultiColoring {
-    pub body_count: usize,
-    pub constraint_count: usize,
-    pub color_count: usize,
-    pub max_color_constraint_count: usize,
-}
-
-// The answer of an update: "changed" with the plan, "unchanged", or the number of the first question that got a "no".
-#[derive(Clone, Copy)]
-pub enum MultiUpdate {
-    Changed(MultiColoring),
-    Unchanged,
-    Refused(u8),
-}
-
-// What an update answered: the refusal or 0, 1 if it changed the plan, and the plan after it.
-pub fn refusal_of(answer: MultiUpdate) -> u8
-    ensures { result ≡ multi_number answer }
-{
-    match answer {
-        MultiUpdate::Changed(_) => 0,
-        MultiUpdate::Unchanged => 0,
-        MultiUpdate::Refused(n) => n,
-    }
-}
-
-pub fn is_changed(answer: MultiUpdate) -> u8
-    ensures { result ≡ one (multi_changed answer) }
-{
-    match answer {
-        MultiUpdate::Changed(_) => 1,
-        MultiUpdate::Unchanged => 0,
-        MultiUpdate::Refused(_) => 0,
-    }
-}
-
-pub fn plan_after(plan: MultiColoring, answer: MultiUpdate) -> MultiColoring
-    ensures { result ≡ multi_plan_after plan answer }
-{
-    match answer {
-        MultiUpdate::Changed(changed) => changed,
-        MultiUpdate::Unchanged => plan,
-        MultiUpdate::Refused(_) => plan,
-    }
-}
-
-// Positions of a constraint: how many, and these in four places; those past them are 0.
-#[derive(Clone, Copy)]
-pub struct Places {
-    pub count: usize,
-    pub places: [u16; 4],
-}
-
-// The answer of a lookup of positions, or the number of the first question that got a "no".
-#[derive(Clone, Copy)]
-pub enum MultiPositions {
-    At(Places),
-    Refused(u8),
+    pub plan: ConstraintColoring,
 }
 
 // A remembered count as it is read: outside two to four it is two.
@@ -92,37 +40,18 @@ fn ends_read(counts: &[u8]) -> usize
     requires { length counts.now ≤ 8192 }
     ensures { result ≡ end_count (map count_read counts.now) }
 {
-    let mut sum: usize = 0;
-    let mut constraint = 0;
-    // `sum` is how many endpoints the constraints passed have.
-    while constraint < counts.len() {
-        sum += read_count(counts[constraint]);
-        constraint += 1;
-    }
-    sum
+    counts.iter().map(|&count| read_count(count)).sum()
 }
 
-// Whether a count is the remembered one, as that is read.
-fn same_count(count: u8, remembered: u8) -> bool
-    ensures { result ≡ eqb count (count_read remembered) }
-{
-    frame::wide(count) == read_count(remembered)
-}
-
-// Whether counts are the remembered ones, place by place.
+// Whether counts are the remembered ones, as those are read.
 fn same_counts(counts: &[u8], remembered: &[u8]) -> bool
     requires { length remembered.now ≡ length counts.now }
     ensures { result ≡ same counts.now (map count_read remembered.now) }
 {
-    let mut constraint = 0;
-    // The counts passed are the same.
-    while constraint < counts.len() {
-        if !same_count(counts[constraint], remembered[constraint]) {
-            return false;
-        }
-        constraint += 1;
-    }
-    true
+    counts
+        .iter()
+        .zip(remembered)
+        .all(|(&count, &kept)| frame::wide(count) == read_count(kept))
 }
 
 // Question 6 of a lookup of positions: are all counts there, and the positions of all constraints?
@@ -135,101 +64,58 @@ fn positions_there(
     ensures { result ≡ (leb constraint_count (length counts.now)
         && leb (end_count (counts_read constraint_count counts.now)) (length constraint_body_positions.now)) }
 {
-    if counts.len() < constraint_count {
-        return false;
-    }
-    ends_read(&counts[..constraint_count]) <= constraint_body_positions.len()
+    (constraint_count <= counts.len())
+        && (ends_read(&counts[..constraint_count]) <= constraint_body_positions.len())
 }
 
-// The positions from a place of the table on, in four places.
-fn places_at(constraint_body_positions: &[u16], start: usize, count: usize) -> Places
-    requires { (start + count ≤ length constraint_body_positions.now) × (count ≤ 4) }
-    ensures count { result.count ≡ count }
-    ensures places { result.places ≡ four (take count (drop start constraint_body_positions.now)) }
-{
-    let mut places = [0u16; 4];
-    tables::copy(&constraint_body_positions[start..], count, &mut places);
-    Places {
-        count: count,
-        places: places,
-    }
-}
-
-// Question 4: do the counts make up the endpoint list?
-fn counts_fill(counts: &[u8], ends: &[u16]) -> bool
-    requires { length counts.now ≤ 8192 }
-    ensures { result ≡ eqb (end_count counts.now) (length ends.now) }
-{
-    frame::multi::sum_counts(counts) == ends.len()
-}
-
-// Questions 3 to 7, where `room` answers 6; 0 where all get a "yes".
-fn update_refusal(flags: &[u8], ends: &[u16], counts: &[u8], room: bool) -> u8
-    ensures { result ≡ multi_update_refusal flags.now ends.now counts.now room }
-{
-    if !((flags.len() <= Frame::MAX_BODIES) & (counts.len() <= Frame::MAX_PAIRS)) {
-        return 3;
-    }
-    if !counts_fill(counts, ends) {
-        return 4;
-    }
-    if !(frame::at_most(flags, 1) & frame::multi::counts_known(counts)) {
-        return 5;
-    }
-    if !room {
-        return 6;
-    }
-    if !frame::multi::all_fit(flags.len(), ends, counts, &[]) {
-        return 7;
-    }
-    0
-}
-
-// Whether a plan with its tables of flags, endpoints and counts holds exactly this input.
-fn remembers(
-    plan: MultiColoring,
-    flags: &[u8],
-    ends: &[u16],
-    counts_in: &[u8],
-    dynamic_bodies: &[u8],
-    endpoints: &[u16],
+// The places of a constraint: they start behind those of the constraints before it.
+fn places_of<'a>(
+    constraint_count: usize,
     counts: &[u8],
-) -> bool
-    requires { (length flags.now ≤ length dynamic_bodies.now) × (length ends.now ≤ length endpoints.now) × (length counts_in.now ≤ length counts.now) }
-    ensures { result ≡ (eqb (length flags.now) plan.body_count && eqb (length counts_in.now) plan.constraint_count
-        && same flags.now (take (length flags.now) dynamic_bodies.now)
-        && same counts_in.now (counts_read (length counts_in.now) counts.now)
-        && same ends.now (take (length ends.now) endpoints.now)) }
+    constraint_body_positions: &'a [u16],
+    constraint: usize,
+) -> &'a [u16]
+    requires counts { (constraint < constraint_count) × (constraint_count ≤ 8192) × (constraint_count ≤ length counts.now) }
+    requires places { end_count (counts_read constraint_count counts.now) ≤ length constraint_body_positions.now }
+    ensures { result.now ≡ positions_in constraint_count counts.now constraint_body_positions.now constraint }
 {
-    if flags.len() != plan.body_count {
-        return false;
-    }
-    if counts_in.len() != plan.constraint_count {
-        return false;
-    }
-    if !plan_questions::same_flags(flags, &dynamic_bodies[..flags.len()]) {
-        return false;
-    }
-    if !same_counts(counts_in, &counts[..counts_in.len()]) {
-        return false;
-    }
-    plan_questions::same_pairs(ends, &endpoints[..ends.len()])
+    let start = ends_read(&counts[..constraint]);
+    let end = start + read_count(counts[constraint]);
+    &constraint_body_positions[start..end]
 }
 
-// Remembers the input and builds its plan. The bounds of the constraints stand in the table of the constraints on each body, which has
-// two places for each, since it has one for each endpoint.
-fn rebuild(
+// Questions 3 to 7, where `room` answers 6.
+#[tactic(auto, using(crate::proofs::Questions::sound_counted), unfolding(crate::specs::Counts::multi_update_refusal))]
+fn ask_update(flags: &[u8], ends: &[u16], counts: &[u8], room: bool) -> Result<(), Refusal>
+    ensures { refused_by result ≡ multi_update_refusal flags.now ends.now counts.now room }
+{
+    let few = (flags.len() <= Frame::MAX_BODIES) & (counts.len() <= Frame::MAX_PAIRS);
+    ask(few, Refusal::TooMany)?;
+    ask(
+        frame::multi::sum_counts(counts) == ends.len(),
+        Refusal::Lengths,
+    )?;
+    let known = frame::at_most(flags, 1) & frame::multi::counts_known(counts);
+    ask(known, Refusal::Values)?;
+    ask(room, Refusal::Room)?;
+    ask(
+        frame::multi::all_fit(flags.len(), ends, counts, &[]),
+        Refusal::Endpoints,
+    )
+}
+
+// Remembers the endpoints and builds the plan. The bounds of the constraints stand in the table of the constraints on each body, which has
+// two places for each, since it has one for each endpoint. The tables `body_offsets` and `color_stamps` are not lent; they stand as [] in the
+// contract, as does that of the bounds, which is free.
+fn build_counted(
     flags: &[u8],
     ends: &[u16],
-    counts_in: &[u8],
+    counts: &[u8],
     dynamic_bodies: &mut [u8],
     endpoints: &mut [u16],
-    counts: &mut [u8],
-    body_offsets: &mut [u16],
     body_constraints: &mut [u16],
     scratch_offsets: &mut [u16],
     constraint_colors: &mut [u16],
-    color_stamps: &mut [u16],
     body_stamps: &mut [u16],
     color_offsets: &mut [u16],
     colored_constraints: &mut [u16],
@@ -237,30 +123,26 @@ fn rebuild(
     color_bodies: &mut [u16],
     constraint_body_positions: &mut [u16],
 ) -> ConstraintColoring
-    requires { multi_refusal_with
-        (tables_of dynamic_bodies.old endpoints.old body_offsets.old
-        body_constraints.old scratch_offsets.old constraint_colors.old
-        color_stamps.old body_stamps.old color_offsets.old
-        colored_constraints.old color_body_offsets.old color_bodies.old constraint_body_positions.old) counts.old flags.now ends.now counts_in.now ≡ 0 }
-    ensures built { Rebuilt flags.now ends.now (multi_plan_of flags.now ends.now counts_in.now)
-        (tables_of dynamic_bodies.old endpoints.old body_offsets.old
-        body_constraints.old scratch_offsets.old constraint_colors.old
-        color_stamps.old body_stamps.old color_offsets.old
+    requires bounds { (2 * length counts.now ≤ length body_constraints.old) × (length counts.now ≤ 8192) × (end_count counts.now ≤ 32768) }
+    requires buildable { (bounds : List ℕ) → BoundsOf counts.now bounds → length bounds ≡ 2 * length counts.now → Buildable flags.now ends.now bounds (length counts.now)
+        (tables_of dynamic_bodies.old endpoints.old [] [] scratch_offsets.old
+        constraint_colors.old [] body_stamps.old color_offsets.old
+        colored_constraints.old color_body_offsets.old color_bodies.old constraint_body_positions.old) }
+    ensures { Rebuilt flags.now ends.now (multi_plan_of flags.now ends.now counts.now)
+        (tables_of dynamic_bodies.old endpoints.old [] [] scratch_offsets.old
+        constraint_colors.old [] body_stamps.old color_offsets.old
         colored_constraints.old color_body_offsets.old color_bodies.old constraint_body_positions.old)
-        (tables_of dynamic_bodies.new endpoints.new body_offsets.new
-        body_constraints.new scratch_offsets.new constraint_colors.new
-        color_stamps.new body_stamps.new color_offsets.new
+        (tables_of dynamic_bodies.new endpoints.new [] [] scratch_offsets.new
+        constraint_colors.new [] body_stamps.new color_offsets.new
         colored_constraints.new color_body_offsets.new color_bodies.new constraint_body_positions.new) result }
-    ensures remembered { counts.new ≡ over counts_in.now counts.old }
 {
-    let constraint_count = counts_in.len();
-    constraint_coloring::copy_flags(counts_in, counts);
-    parts::bound_counts(counts_in, &mut body_constraints[..2 * constraint_count]);
+    let bounds = &mut body_constraints[..2 * counts.len()];
+    parts::bound_counts(counts, bounds);
     constraint_coloring::build_plan(
         flags,
         ends,
-        &body_constraints[..2 * constraint_count],
-        constraint_count,
+        bounds,
+        counts.len(),
         dynamic_bodies,
         endpoints,
         scratch_offsets,
@@ -274,34 +156,34 @@ fn rebuild(
     )
 }
 
-// What a built plan carries, as a plan with counts.
-fn carry(plan: ConstraintColoring) -> MultiColoring
-    ensures { result ≡ record {
-      body_count = plan.body_count;
-      constraint_count = plan.constraint_count;
-      color_count = plan.color_count;
-      max_color_constraint_count = plan.max_color_constraint_count;
-    } }
-{
-    MultiColoring {
-        body_count: plan.body_count,
-        constraint_count: plan.constraint_count,
-        color_count: plan.color_count,
-        max_color_constraint_count: plan.max_color_constraint_count,
-    }
-}
-
 impl MultiColoring {
     // A fresh plan: it remembers three empty lists.
     pub fn new() -> Self
         ensures { result ≡ fresh_multi }
     {
         MultiColoring {
-            body_count: 0,
-            constraint_count: 0,
-            color_count: 0,
-            max_color_constraint_count: 0,
+            plan: ConstraintColoring::new(),
         }
+    }
+
+    // Whether the plan, with its tables and its counts, holds exactly this input.
+    #[tactic(auto, unfolding(crate::specs::Calls::multi_holds))]
+    fn holds(
+        self,
+        flags: &[u8],
+        ends: &[u16],
+        counts_in: &[u8],
+        counts: &[u8],
+        tables: &PlanTables<'_>,
+    ) -> bool
+        requires { length counts_in.now ≤ length counts.now }
+        ensures { result ≡ multi_holds self (tables_in tables.now) counts.now flags.now ends.now counts_in.now }
+    {
+        (flags.len() == self.plan.body_count)
+            && (counts_in.len() == self.plan.constraint_count)
+            && tables.dynamic_bodies.starts_with(flags)
+            && same_counts(counts_in, &counts[..counts_in.len()])
+            && tables.endpoints.starts_with(ends)
     }
 
     // Questions 3 to 7; then equal input is "unchanged" and writes nothing, and other input is remembered and its plan built.
@@ -310,131 +192,60 @@ impl MultiColoring {
         flags: &[u8],
         ends: &[u16],
         counts_in: &[u8],
-        dynamic_bodies: &mut [u8],
-        endpoints: &mut [u16],
         counts: &mut [u8],
-        body_offsets: &mut [u16],
-        body_constraints: &mut [u16],
-        scratch_offsets: &mut [u16],
-        constraint_colors: &mut [u16],
-        color_stamps: &mut [u16],
-        body_stamps: &mut [u16],
-        color_offsets: &mut [u16],
-        colored_constraints: &mut [u16],
-        color_body_offsets: &mut [u16],
-        color_bodies: &mut [u16],
-        constraint_body_positions: &mut [u16],
-    ) -> MultiUpdate
-        ensures { MultiUpdated self flags.now ends.now counts_in.now
-            (tables_of dynamic_bodies.old endpoints.old body_offsets.old
-            body_constraints.old scratch_offsets.old constraint_colors.old
-            color_stamps.old body_stamps.old color_offsets.old
-            colored_constraints.old color_body_offsets.old color_bodies.old constraint_body_positions.old) counts.old
-            (tables_of dynamic_bodies.new endpoints.new body_offsets.new
-            body_constraints.new scratch_offsets.new constraint_colors.new
-            color_stamps.new body_stamps.new color_offsets.new
-            colored_constraints.new color_body_offsets.new color_bodies.new constraint_body_positions.new) counts.new result }
+        tables: &mut PlanTables<'_>,
+    ) -> Update<Self>
+        ensures updated { MultiUpdated self flags.now ends.now counts_in.now (tables_in tables.old) counts.old (tables_in tables.new) counts.new result }
+        ensures same_tables { SameTables tables.old tables.new }
+        ensures same_lengths { lengths_of (tables_in tables.new) ≡ lengths_of (tables_in tables.old) }
     {
         let room = (counts_in.len() <= counts.len())
-            & plan_questions::roomy_with(
-                flags.len(),
-                counts_in.len(),
-                ends.len(),
-                dynamic_bodies.len(),
-                endpoints.len(),
-                body_offsets.len(),
-                body_constraints.len(),
-                scratch_offsets.len(),
-                constraint_colors.len(),
-                color_stamps.len(),
-                body_stamps.len(),
-                color_offsets.len(),
-                colored_constraints.len(),
-                color_body_offsets.len(),
-                color_bodies.len(),
-                constraint_body_positions.len(),
-            );
-        let refusal = update_refusal(flags, ends, counts_in, room);
-        if refusal != 0 {
-            return MultiUpdate::Refused(refusal);
+            & tables.has_room_for(flags.len(), counts_in.len(), ends.len());
+        match ask_update(flags, ends, counts_in, room) {
+            Err(refusal) => return Update::Refused(refusal),
+            Ok(()) => {}
         }
-        if remembers(
-            self,
+        if self.holds(flags, ends, counts_in, counts, tables) {
+            return Update::Unchanged;
+        }
+        constraint_coloring::copy_over(counts_in, counts);
+        let plan = build_counted(
             flags,
             ends,
             counts_in,
-            dynamic_bodies,
-            endpoints,
-            counts,
-        ) {
-            return MultiUpdate::Unchanged;
-        }
-        let plan = rebuild(
-            flags,
-            ends,
-            counts_in,
-            dynamic_bodies,
-            endpoints,
-            counts,
-            body_offsets,
-            body_constraints,
-            scratch_offsets,
-            constraint_colors,
-            color_stamps,
-            body_stamps,
-            color_offsets,
-            colored_constraints,
-            color_body_offsets,
-            color_bodies,
-            constraint_body_positions,
+            tables.dynamic_bodies,
+            tables.endpoints,
+            tables.body_constraints,
+            tables.scratch_offsets,
+            tables.constraint_colors,
+            tables.body_stamps,
+            tables.color_offsets,
+            tables.colored_constraints,
+            tables.color_body_offsets,
+            tables.color_bodies,
+            tables.constraint_body_positions,
         );
-        MultiUpdate::Changed(carry(plan))
+        Update::Changed(MultiColoring { plan })
     }
 
-    // The constraints of a group: that part of the plan's own table.
-    pub fn constraints_in_schedule_group<'a>(
-        self,
-        color_offsets: &[u16],
-        colored_constraints: &'a [u16],
-        group: usize,
-    ) -> &'a [u16]
-        ensures { result.now ≡ group_part self.color_count color_offsets.now colored_constraints.now group }
-    {
-        plan_questions::group_part(self.color_count, color_offsets, colored_constraints, group)
-    }
-
-    // The bodies of a group: that part of the plan's own table.
-    pub fn bodies_in_schedule_group<'a>(
-        self,
-        color_body_offsets: &[u16],
-        color_bodies: &'a [u16],
-        group: usize,
-    ) -> &'a [u16]
-        ensures { result.now ≡ group_part self.color_count color_body_offsets.now color_bodies.now group }
-    {
-        plan_questions::group_part(self.color_count, color_body_offsets, color_bodies, group)
-    }
-
-    // The positions of a constraint among its group's bodies: questions 3, 6 and 12. `counts` is the plan's table of counts.
-    pub fn body_positions_for_constraint(
+    // The positions of a constraint among its group's bodies, which are two to four places of the table: questions 3, 6 and 12. `counts` is
+    // the plan's table of counts.
+    #[tactic(auto, unfolding(crate::specs::Counts::multi_positions_refusal))]
+    pub fn body_positions_for_constraint<'a>(
         self,
         counts: &[u8],
-        constraint_body_positions: &[u16],
+        constraint_body_positions: &'a [u16],
         constraint: usize,
-    ) -> MultiPositions
-        ensures { MultiLocated self.constraint_count counts.now constraint_body_positions.now constraint result }
+    ) -> Result<&'a [u16], Refusal>
+        ensures { MultiLocated self.plan.constraint_count counts.now constraint_body_positions.now constraint result }
     {
-        if Frame::MAX_PAIRS < self.constraint_count {
-            return MultiPositions::Refused(3);
-        }
-        if !positions_there(self.constraint_count, counts, constraint_body_positions) {
-            return MultiPositions::Refused(6);
-        }
-        if self.constraint_count <= constraint {
-            return MultiPositions::Refused(12);
-        }
-        let start = ends_read(&counts[..constraint]);
-        let count = read_count(counts[constraint]);
-        MultiPositions::At(places_at(constraint_body_positions, start, count))
+        let constraints = self.plan.constraint_count;
+        ask(constraints <= Frame::MAX_PAIRS, Refusal::TooMany)?;
+        ask(
+            positions_there(constraints, counts, constraint_body_positions),
+            Refusal::Room,
+        )?;
+        ask(constraint < constraints, Refusal::NoConstraint)?;
+        Ok(places_of(constraints, counts, constraint_body_positions, constraint))
     }
 }

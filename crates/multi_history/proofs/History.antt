@@ -9,16 +9,17 @@ use Rattle.groups.specs.Groups.{plan_from, counted_parts, colors_of, group_count
 use Rattle.parts.proofs.Bounds.{counted-length}
 use Rattle.plan_questions.specs.Plans.{Tables}
 use Rattle.plan_history.specs.Memory.{Answered}
-use Rattle.plan_history.specs.History.{Stands}
+use Rattle.plan_history.specs.History.{answer_of, Stands}
 use Rattle.plan_history.proofs.Memory.{same-eq}
 use Rattle.plan_history.proofs.Held.{stand_same, stand_new, stand_old, held-new, held_old, held-fresh}
 use Rattle.multi_coloring.specs.declared.MultiColoring.{MultiColoring}
-use Rattle.multi_coloring.specs.declared.MultiUpdate.{MultiUpdate}
+use Rattle.constraint_coloring.specs.declared.Update.{Update}
+use Rattle.constraint_coloring.specs.Calls.{update_changed, plan_after}
 use Rattle.multi_coloring.specs.Counts.{count_read, counts_read}
-use Rattle.multi_coloring.specs.Calls.{multi_changed, multi_plan_after, fresh_multi, multi_holds, multi_roomy, multi_refusal_with, multi_changes_with, MultiUpdated}
+use Rattle.multi_coloring.specs.Calls.{fresh_multi, multi_holds, multi_roomy, multi_refusal_with, multi_changes_with, MultiUpdated}
 use Rattle.multi_coloring.proofs.Accepted.{Accepted, accepted}
 use Rattle.multi_history.specs.Memory.{MultiMemory, multi_fresh, multi_changes, multi_remembered, MultiInput, multi_answers}
-use Rattle.multi_history.specs.History.{multi_answer_of, MultiHistory, still, step, multi_memory_after, MultiStanding}
+use Rattle.multi_history.specs.History.{MultiHistory, still, step, multi_memory_after, MultiStanding}
 use Rattle.multi_history.proofs.Memory.{all_equal}
 
 -- counts of two to four are read as they stand
@@ -89,7 +90,7 @@ module _ (flags ends counts : List ℕ) (m : MultiMemory) (t : Tables) (c : List
 
 -- ---- one update
 
-module _ (begun : Bool) (m : MultiMemory) (p : MultiColoring) (t u : Tables) (c d : List ℕ) (flags ends counts : List ℕ) (r : MultiUpdate) (h : Remembers begun m p t c) (w : MultiUpdated p flags ends counts t c u d r) where
+module _ (begun : Bool) (m : MultiMemory) (p : MultiColoring) (t u : Tables) (c d : List ℕ) (flags ends counts : List ℕ) (r : Update MultiColoring) (h : Remembers begun m p t c) (w : MultiUpdated p flags ends counts t c u d r) where
   abbrev room : Bool
   room = multi_roomy t c flags ends counts
 
@@ -104,7 +105,7 @@ module _ (begun : Bool) (m : MultiMemory) (p : MultiColoring) (t u : Tables) (c 
   unfolding multi_holds plan_from
   holds_is whole =
       let s = h.standing in
-      ap (λ (q : MultiColoring). eqb (length flags) q.body_count && eqb (length counts) q.constraint_count && same flags (take (length flags) t.dynamic_bodies) && same counts (counts_read (length counts) c) && same ends (take (length ends) t.endpoints)) s.plan
+      ap (λ (q : MultiColoring). eqb (length flags) q.plan.body_count && eqb (length counts) q.plan.constraint_count && same flags (take (length flags) t.dynamic_bodies) && same counts (counts_read (length counts) c) && same ends (take (length ends) t.endpoints)) s.plan
       ∙ test_is flags ends counts m t c s.tables.dynamic_bodies s.tables.endpoints s.counts h.known whole h.whole
 
   changes_is : ch ≡ multi_changes m flags ends counts room
@@ -113,14 +114,14 @@ module _ (begun : Bool) (m : MultiMemory) (p : MultiColoring) (t u : Tables) (c 
       (λ e. ap (λ (b : Bool). eqb refusal 0 && not b) (holds_is (accepted flags ends counts t c (eqb-true refusal 0 e)).whole))
       (λ e. rw e)
 
-  answer_is : multi_answer_of r ≡ record { refusal = refusal; changed = multi_changes m flags ends counts room }
+  answer_is : answer_of r ≡ record { refusal = refusal; changed = multi_changes m flags ends counts room }
   answer_is = ap₂ (λ (n : ℕ) (b : Bool). record { refusal = n; changed = b }) w.refusal (w.changed ∙ changes_is)
 
   changed_accepted : ch ≡ true → Accepted flags ends counts t c
   unfolding multi_changes_with
   changed_accepted y = accepted flags ends counts t c (eqb-true refusal 0 (and_left (eqb refusal 0) (not (multi_holds p t c flags ends counts)) y))
 
-  after-new : ch ≡ true → Remembers true (record { flags = flags; ends = ends; counts = counts }) (multi_plan_after p r) u d
+  after-new : ch ≡ true → Remembers true (record { flags = flags; ends = ends; counts = counts }) (plan_after p r) u d
   after-new y =
       let o = changed_accepted y in
       record {
@@ -129,7 +130,7 @@ module _ (begun : Bool) (m : MultiMemory) (p : MultiColoring) (t u : Tables) (c 
         whole = o.whole;
       }
 
-  after_old : ch ≡ false → Remembers begun m (multi_plan_after p r) u d
+  after_old : ch ≡ false → Remembers begun m (plan_after p r) u d
   after_old n =
       let s = h.standing in
       record {
@@ -138,15 +139,15 @@ module _ (begun : Bool) (m : MultiMemory) (p : MultiColoring) (t u : Tables) (c 
         whole = h.whole;
       }
 
-  after : Remembers (begun || multi_changed r) (multi_remembered m flags ends counts room) (multi_plan_after p r) u d
+  after : Remembers (begun || update_changed r) (multi_remembered m flags ends counts room) (plan_after p r) u d
   unfolding multi_remembered
   after = by_cases ch
       (λ y.
-      let b : (begun || multi_changed r) ≡ true = ap (λ (x : Bool). begun || x) (w.changed ∙ y) ∙ or-true begun in
+      let b : (begun || update_changed r) ≡ true = ap (λ (x : Bool). begun || x) (w.changed ∙ y) ∙ or-true begun in
       let e : multi_changes m flags ends counts room ≡ true = sym changes_is ∙ y in
       rw (b, e) (after-new y))
       (λ n.
-      let b : (begun || multi_changed r) ≡ begun = ap (λ (x : Bool). begun || x) (w.changed ∙ n) ∙ or-false begun in
+      let b : (begun || update_changed r) ≡ begun = ap (λ (x : Bool). begun || x) (w.changed ∙ n) ∙ or-false begun in
       let e : multi_changes m flags ends counts room ≡ false = sym changes_is ∙ n in
       rw (b, e) (after_old n))
 
@@ -160,7 +161,7 @@ history_from : {p q : MultiColoring} {t v : Tables} {c e : List ℕ} {ins : List
 unfolding multi_answers multi_refusal_with
 history_from begun m h still = (refl, rw or-false h)
 history_from {p} {q} {t} {v} {c} {e} begun m h (step {u = u} {d = d} {ins = ins} {outs = outs} flags ends counts r w rest) =
-    let rest_is = history_from (begun || multi_changed r) (multi_remembered m flags ends counts (multi_roomy t c flags ends counts)) (after begun m p t u c d flags ends counts r h w) rest in
+    let rest_is = history_from (begun || update_changed r) (multi_remembered m flags ends counts (multi_roomy t c flags ends counts)) (after begun m p t u c d flags ends counts r h w) rest in
     (ap₂ (λ (a : Answered) (as' : List Answered). a ∷ as') (answer_is begun m p t u c d flags ends counts r h w) rest_is.0, rw or_assoc at rest_is.1)
 
 fresh_remembers : (t : Tables) (c : List ℕ) → Remembers false multi_fresh fresh_multi t c

@@ -2,24 +2,22 @@
 use Rattle.std.specs.Prelude.{ℕ, ◌≡◌, Bool, List, [], ◌∷◌}
 use Rattle.plan_questions.specs.Plans.{Tables}
 use Rattle.plan_history.specs.Memory.{Answered}
-use Rattle.plan_history.specs.History.{Stands, Held}
+use Rattle.plan_history.specs.History.{answer_of, Stands, Held}
 use Rattle.multi_coloring.specs.declared.MultiColoring.{MultiColoring}
-use Rattle.multi_coloring.specs.declared.MultiUpdate.{MultiUpdate}
-use Rattle.multi_coloring.specs.Calls.{multi_number, multi_changed, multi_plan_after, multi_carried, multi_roomy, MultiUpdated}
+use Rattle.constraint_coloring.specs.declared.Update.{Update}
+use Rattle.constraint_coloring.specs.Calls.{plan_after}
+use Rattle.multi_coloring.specs.Calls.{multi_carried, multi_roomy, MultiUpdated}
 use Rattle.multi_history.specs.Memory.{MultiMemory, multi_remembered, multi_plan_for, MultiInput}
 
--- an update's input with what question 6 finds in the tables and the counts, and its answer
+-- an update's input with what question 6 finds in the tables and the counts
 abbrev pub multi_input_of : List ℕ → List ℕ → List ℕ → Tables → List ℕ → MultiInput
 multi_input_of flags ends counts t c = record { flags = flags; ends = ends; counts = counts; room = multi_roomy t c flags ends counts }
-
-abbrev pub multi_answer_of : MultiUpdate → Answered
-multi_answer_of r = record { refusal = multi_number r; changed = multi_changed r }
 
 -- a history leads from the plan p, the tables t and the counts c to the plan q, the tables v and the counts e; each step is an update by its contract
 pub data MultiHistory : MultiColoring → Tables → List ℕ → List MultiInput → List Answered → MultiColoring → Tables → List ℕ → Type 0 where
   still : {p : MultiColoring} {t : Tables} {c : List ℕ} → MultiHistory p t c [] [] p t c
-  step : {p q : MultiColoring} {t u v : Tables} {c d e : List ℕ} {ins : List MultiInput} {outs : List Answered} (flags ends counts : List ℕ) (r : MultiUpdate) → MultiUpdated p flags ends counts t c u d r → MultiHistory (multi_plan_after p r) u d ins outs q v e
-      → MultiHistory p t c (multi_input_of flags ends counts t c ∷ ins) (multi_answer_of r ∷ outs) q v e
+  step : {p q : MultiColoring} {t u v : Tables} {c d e : List ℕ} {ins : List MultiInput} {outs : List Answered} (flags ends counts : List ℕ) (r : Update MultiColoring) → MultiUpdated p flags ends counts t c u d r → MultiHistory (plan_after p r) u d ins outs q v e
+      → MultiHistory p t c (multi_input_of flags ends counts t c ∷ ins) (answer_of r ∷ outs) q v e
 
 -- what is remembered after these inputs
 abbrev pub multi_memory_after : MultiMemory → List MultiInput → MultiMemory

@@ -5,7 +5,6 @@ use Rattle.std.proofs.lemmas.Bool.{eqb-false}
 use Rattle.lists.specs.Basics.{join_map, range}
 use Rattle.lists.proofs.Laws.{by_cases, range_high, pigeonhole, no_length}
 use Rattle.lists.proofs.Ranges.{join_map_ext_in}
-use Rattle.frame.specs.Frames.{counts_known, end_count}
 use Rattle.groups.specs.Groups.{Plan, pairs_of, counted_parts, colors_of, group_count}
 use Rattle.groups.proofs.Colors.{colors-length, group_not_empty}
 use Rattle.constraint_coloring.specs.declared.ConstraintColoring.{ConstraintColoring}
@@ -13,15 +12,14 @@ use Rattle.constraint_coloring.specs.declared.Update.{Update}
 use Rattle.plan_questions.specs.Plans.{Tables, roomy_with}
 use Rattle.constraint_coloring.specs.Calls.{fresh_plan, plan_after, refusal_with, Updated}
 use Rattle.multi_coloring.specs.declared.MultiColoring.{MultiColoring}
-use Rattle.multi_coloring.specs.declared.MultiUpdate.{MultiUpdate}
 use Rattle.multi_coloring.specs.Counts.{multi_update_refusal}
-use Rattle.multi_coloring.specs.Calls.{fresh_multi, multi_plan_after, multi_refusal_with, numbers_of, MultiUpdated}
+use Rattle.multi_coloring.specs.Calls.{fresh_multi, multi_refusal_with, numbers_of, MultiUpdated}
 use Rattle.multi_coloring.proofs.Accepted.{Accepted, accepted, few-ends, two-each}
 use Rattle.schedules.specs.Runs.{freshly, members_in, bodies_in, lookup_refusal, lookup_of, take_rank}
 use Rattle.schedules.proofs.Standing.{Lookups, asked_pairs, fresh_pairs, updated_pairs, few_pairs, fresh-counts, updated_lent, constraints-lent, few-counts}
 use Rattle.schedules.proofs.Condition3.{same_calls}
 use Rattle.group_run.specs.Appends.{seen, calls_in, plan_calls}
-use Rattle.one_island.specs.Island.{island_calls, ranks, Ready, Colored}
+use Rattle.one_island.specs.Island.{island_calls, ranks, Ready, Counted, Colored}
 
 -- two plans whose lookups hand back the same make the same takes
 same-plan_calls : (flags : List ℕ) (cs : List (List ℕ)) (p q : Plan) → Lookups flags cs p → Lookups flags cs q → (types ns : List ℕ) (i : ℕ) → plan_calls p types ns i ≡ plan_calls q types ns i
@@ -75,7 +73,7 @@ module _ (flags ends : List ℕ) (t u : Tables) (ready : Ready flags [] ends (ra
       let room : roomy_with (length flags) (length ends / 2) (2 * (length ends / 2)) t ≡ true = subst (λ (e : ℕ). roomy_with (length flags) (length ends / 2) e t ≡ true) (asked_pairs flags ends true ready.accepted).1 ready.tables in
       rw room ready.accepted
 
-  pub pairs_colored : (new plan : ConstraintColoring) (r : Update) → new ≡ fresh_plan → Updated new flags ends t u r → plan ≡ plan_after new r → Colored flags [] ends plan u
+  pub pairs_colored : (new plan : ConstraintColoring) (r : Update ConstraintColoring) → new ≡ fresh_plan → Updated new flags ends t u r → plan ≡ plan_after new r → Colored flags [] ends plan u
   unfolding members_in bodies_in take_rank lookup_refusal lookup_of
   pairs_colored new plan r e up f =
       let l = updated_pairs flags ends t u r with_tables (rw e at up) in
@@ -86,32 +84,24 @@ module _ (flags ends : List ℕ) (t u : Tables) (ready : Ready flags [] ends (ra
 
 -- of constraints that have a count each
 module _ (flags counts ends old left : List ℕ) (t u : Tables) (ready : Ready flags counts ends (ranks counts ends) t old) (some : length counts ≡ 0 → ⊥) where
-  pub counts_colored : (new after : MultiColoring) (plan : ConstraintColoring) (r : MultiUpdate) → new ≡ fresh_multi → MultiUpdated new flags ends counts t old u left r → after ≡ multi_plan_after new r → plan ≡ numbers_of after → Colored flags counts ends plan u
+  pub counts_colored : (new after : MultiColoring) (r : Update MultiColoring) → new ≡ fresh_multi → MultiUpdated new flags ends counts t old u left r → after ≡ plan_after new r → Colored flags counts ends after.plan u
   unfolding members_in bodies_in take_rank lookup_refusal lookup_of
-  counts_colored new after plan r e up f g =
+  counts_colored new after r e up f =
       let ok = asks_multi ready some in
       let up' : MultiUpdated fresh_multi flags ends counts t old u left r = rw e at up in
       let l = updated_lent flags ends counts t u old left r ok up' in
       let asked = asks_counts ready some in
-      rw (g, f, e) (colored flags counts ends (counted_parts counts ends) (few-counts flags ends counts true asked) u (numbers_of (multi_plan_after fresh_multi r))
+      rw (f, e) (colored flags counts ends (counted_parts counts ends) (few-counts flags ends counts true asked) u (numbers_of (plan_after fresh_multi r))
       (λ s. constraints-lent flags ends counts t u old left r ok up')
       (record { groups = l.groups; members = l.members; bodies = l.bodies; takes = l.takes })
       (fresh-counts flags ends counts asked))
 
 -- ---- the bounds of the constraints, and their positions
 
--- what the counts of an island are known to be; without counts there is nothing to know
-pub record Counted (counts : List ℕ) (t : Tables) : Type 0 where
-  pub few : length counts ≤ 8192
-  pub known : counts_known counts ≡ true
-  pub sum : end_count counts ≤ 32768
-  pub bounds : 2 * length counts ≤ length t.body_constraints
-  pub positions : end_count counts ≤ length t.constraint_body_positions
-
 module _ {flags counts ends old : List ℕ} {n : ℕ} {t : Tables} (ready : Ready flags counts ends n t old) where
-  pub ready-counted : Counted counts t
+  pub ready-counted : Counted counts t.body_constraints t.constraint_body_positions
   ready-counted = by_cases (eqb (length counts) 0)
-      (λ e. rw (no_length counts (eqb-true (length counts) 0 e)) (record { few = omega arith; known = refl; sum = omega arith; bounds = omega arith; positions = omega arith }))
+      (λ e. rw (no_length counts (eqb-true (length counts) 0 e)) (record { few = omega arith; known = refl; sum = omega arith; bounds = omega arith; positions_there = omega arith }))
       (λ e.
       let a = passed_counts ready (eqb-false (length counts) 0 e) in
       record {
@@ -119,5 +109,5 @@ module _ {flags counts ends old : List ℕ} {n : ℕ} {t : Tables} (ready : Read
         known = a.known;
         sum = few-ends a;
         bounds = omega (arith, two-each a, a.tables.1.1.1.0);
-        positions = omega (arith, a.whole, a.tables.1.1.1.1.1.1.1.1.1.1.1.1.1.0);
+        positions_there = omega (arith, a.whole, a.tables.1.1.1.1.1.1.1.1.1.1.1.1.1.0);
       })

@@ -1,5 +1,6 @@
 -- The takes of one island, as they are made from its endpoints and counts.
-use Rattle.std.specs.Prelude.{ℕ, ◌/◌, ◌≤◌, ◌≡◌, true, cond, List, eqb, length}
+use Rattle.std.specs.Prelude.{ℕ, ◌*◌, ◌/◌, ◌≤◌, ◌≡◌, true, cond, List, eqb, length}
+use Rattle.frame.specs.Frames.{counts_known, end_count}
 use Rattle.constraint_coloring.specs.declared.ConstraintColoring.{ConstraintColoring}
 use Rattle.plan_questions.specs.Plans.{Tables, roomy_with, update_refusal}
 use Rattle.multi_coloring.specs.Counts.{multi_update_refusal}
@@ -30,3 +31,12 @@ pub record Colored (flags counts ends : List ℕ) (p : ConstraintColoring) (u : 
   pub groups : p.color_count ≤ 8192
   pub constraints : (length counts ≡ 0 → ⊥) → p.constraint_count ≡ length counts
   pub takes : (types ns : List ℕ) (i : ℕ) → plan_calls (seen p counts u.color_offsets u.colored_constraints u.color_body_offsets u.color_bodies u.constraint_body_positions) types ns i ≡ island_calls types flags counts ends i ns
+
+-- what the counts of an island are known to be; without counts there is nothing to know. The tables have room for
+-- their bounds, and positions for all of them
+pub record Counted (counts body_constraints positions : List ℕ) : Type 0 where
+  pub few : length counts ≤ 8192
+  pub known : counts_known counts ≡ true
+  pub sum : end_count counts ≤ 32768
+  pub bounds : 2 * length counts ≤ length body_constraints
+  pub positions_there : end_count counts ≤ length positions

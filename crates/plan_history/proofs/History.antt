@@ -65,7 +65,7 @@ record Remembers (begun : Bool) (m : Memory) (p : ConstraintColoring) (t : Table
   pub standing : Standing begun m p t
   pub even : Even m.pairs
 
-module _ (begun : Bool) (m : Memory) (p : ConstraintColoring) (t u : Tables) (flags pairs : List ℕ) (r : Update) (h : Remembers begun m p t) (w : Updated p flags pairs t u r) where
+module _ (begun : Bool) (m : Memory) (p : ConstraintColoring) (t u : Tables) (flags pairs : List ℕ) (r : Update ConstraintColoring) (h : Remembers begun m p t) (w : Updated p flags pairs t u r) where
   abbrev room : Bool
   room = roomy (length flags) (length pairs / 2) t
 

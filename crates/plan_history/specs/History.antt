@@ -12,13 +12,13 @@ use Rattle.plan_history.specs.Memory.{Memory, remembered, plan_for, Input, Answe
 abbrev pub input_of : List ℕ → List ℕ → Tables → Input
 input_of flags pairs t = record { flags = flags; pairs = pairs; room = roomy (length flags) (pair_count pairs) t }
 
-abbrev pub answer_of : Update → Answered
+abbrev pub answer_of : {P : Type 0} → Update P → Answered
 answer_of r = record { refusal = update_number r; changed = update_changed r }
 
 -- a history leads from the plan p and the tables t to the plan q and the tables v; each step is an update by its contract
 pub data History : ConstraintColoring → Tables → List Input → List Answered → ConstraintColoring → Tables → Type 0 where
   still : {p : ConstraintColoring} {t : Tables} → History p t [] [] p t
-  step : {p q : ConstraintColoring} {t u v : Tables} {ins : List Input} {outs : List Answered} (flags pairs : List ℕ) (r : Update) → Updated p flags pairs t u r → History (plan_after p r) u ins outs q v → History p t (input_of flags pairs t ∷ ins) (answer_of r ∷ outs) q v
+  step : {p q : ConstraintColoring} {t u v : Tables} {ins : List Input} {outs : List Answered} (flags pairs : List ℕ) (r : Update ConstraintColoring) → Updated p flags pairs t u r → History (plan_after p r) u ins outs q v → History p t (input_of flags pairs t ∷ ins) (answer_of r ∷ outs) q v
 
 -- what is remembered after these inputs
 abbrev pub memory_after : Memory → List Input → Memory

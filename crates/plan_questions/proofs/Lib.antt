@@ -1,4 +1,3 @@
 pub mod Questions
 pub mod Rooms
-pub mod Scans
 pub mod Lookups

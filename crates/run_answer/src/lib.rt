@@ -8,6 +8,7 @@ ghost use Rattle.run_answer.specs.Answers.{run_number, run_report, Asks, AnswerO
 
 use frame::{Frame, Refusal, Version};
 use frame_tables::Filling;
+use plan_questions::PlanLengths;
 use turn_table::Tally;
 
 // What a run carries: islands, turns, takes, and D, the largest number of constraints with an island on one body that makes conflicts.
@@ -206,10 +207,7 @@ pub fn ask(
     let joints = sizes_read.joints;
     let counted = sizes_read.version == Version::Second;
     let entries = entries_for(counted, manifolds, joints);
-    let plan = plan_questions::roomy_with(
-        bodies,
-        manifolds + joints,
-        entries,
+    let plan = PlanLengths {
         dynamic_bodies,
         endpoints,
         body_offsets,
@@ -223,7 +221,7 @@ pub fn ask(
         color_body_offsets,
         color_bodies,
         constraint_body_positions,
-    );
+    };
     let room = roomy_for(
         bodies,
         manifolds,
@@ -245,7 +243,7 @@ pub fn ask(
         plan_counts,
         enabled,
         numbers,
-        plan,
+        plan.has_room_for(bodies, manifolds + joints, entries),
     );
     Asked {
         refusal: room_refusal(room),

@@ -8,15 +8,15 @@ use Rattle.frame.specs.Frames.{Frame}
 use Rattle.frame.specs.Files.{second, decode}
 use Rattle.connected_sets.specs.Islands.{island_count, of_island}
 use Rattle.groups.specs.Groups.{Plan, plan_of, multi_plan_of}
+use Rattle.constraint_coloring.specs.declared.ConstraintColoring.{ConstraintColoring}
 use Rattle.constraint_coloring.specs.declared.Update.{Update}
 use Rattle.constraint_coloring.specs.declared.Update.TheVariants.{Changed, Unchanged}
 use Rattle.plan_questions.specs.Plans.{Tables, roomy, roomy_with}
 use Rattle.constraint_coloring.specs.Calls.{fresh_plan, plan_after, carried, holds, Leaves, Updated}
 use Rattle.plan_questions.proofs.Rooms.{with_fitted}
 use Rattle.constraint_coloring.proofs.Updates as updates
-use Rattle.multi_coloring.specs.declared.MultiUpdate.{MultiUpdate}
-use Rattle.multi_coloring.specs.declared.MultiUpdate.TheVariants as multi
-use Rattle.multi_coloring.specs.Calls.{fresh_multi, multi_plan_after, multi_carried, multi_holds, multi_roomy, numbers_of, MultiUpdated}
+use Rattle.multi_coloring.specs.declared.MultiColoring.{MultiColoring}
+use Rattle.multi_coloring.specs.Calls.{fresh_multi, multi_carried, multi_holds, multi_roomy, numbers_of, MultiUpdated}
 use Rattle.multi_coloring.proofs.Updates as counted_updates
 use Rattle.schedules.specs.Runs.{Plans, Orders, flags, pairs_for, counts_for, plan_at, members_in, rising}
 use Rattle.schedules.specs.Condition.{SameNumbers, standing, Planned, Permuted, Roomy, Found, Scheduled, Exist, RoomExists, RisingExists, RisingRuns}
@@ -76,7 +76,7 @@ module _ (f : Frame) (i : ℕ) (t : Tables) where
     abbrev tables_after : Tables
     tables_after = cond same t (rewritten fs es (plan_of fs es) t)
 
-    abbrev answer : Update
+    abbrev answer : Update ConstraintColoring
     answer = cond same Unchanged (Changed (carried (plan_of fs es)))
 
     updated_pairs : Accepted false f → i < island_count f → roomy (length f.types) (length (of_island f i)) t ≡ true → Updated fresh_plan fs es t tables_after answer
@@ -103,21 +103,21 @@ module _ (f : Frame) (i : ℕ) (t : Tables) where
     abbrev counts_after : List ℕ
     counts_after = cond same_counts c (over cs c)
 
-    abbrev counted_answer : MultiUpdate
-    counted_answer = cond same_counts multi.Unchanged (multi.Changed (multi_carried d))
+    abbrev counted_answer : Update MultiColoring
+    counted_answer = cond same_counts Unchanged (Changed (multi_carried d))
 
     updated_counts : Accepted true f → i < island_count f → multi_roomy t c fs es cs ≡ true → MultiUpdated fresh_multi fs es cs t c counted_after counts_after counted_answer
     updated_counts ok l room =
         let e = accepted_counts f ok i l t c room in
         by_cases same_counts
         (λ s. rw s (counted_updates.unchanged fresh_multi fs es cs t c e s))
-        (λ n. rw n (counted_updates.changed fresh_multi fs es cs t c (rewritten fs es d t) (over cs c) (carried d) (multi_carried d) e n (record { plan = refl; tables = leaves_rewritten fs es d t }) refl refl))
+        (λ n. rw n (counted_updates.changed fresh_multi fs es cs t c (rewritten fs es d t) (over cs c) (carried d) e n (record { plan = refl; tables = leaves_rewritten fs es d t }) refl))
 
 -- ---- a schedule of these updates
 
 plans_of : Bool → Frame → (ℕ → Tables) → (ℕ → List ℕ) → Plans
 plans_of false f t c i = standing (plan_after fresh_plan (answer f i (t i))) [] (tables_after f i (t i))
-plans_of true f t c i = standing (numbers_of (multi_plan_after fresh_multi (counted_answer f i (t i) (c i)))) (counts_after f i (t i) (c i)) (counted_after f i (t i) (c i))
+plans_of true f t c i = standing (numbers_of (plan_after fresh_multi (counted_answer f i (t i) (c i)))) (counts_after f i (t i) (c i)) (counted_after f i (t i) (c i))
 
 planned : (counted : Bool) (f : Frame) (t : ℕ → Tables) (c : ℕ → List ℕ) → Accepted counted f → Roomy counted f t c → (i : ℕ) → i < island_count f → Planned counted f i (plans_of counted f t c i)
 unfolding plans_of

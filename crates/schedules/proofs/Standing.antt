@@ -20,9 +20,9 @@ use Rattle.plan_questions.proofs.Lookups.{group_part_lem, positions-asked, posit
 use Rattle.constraint_coloring.specs.Calls.{fresh_plan, plan_after, carried, holds, refusal_with, changes_with, written, Leaves, Updated}
 use Rattle.plan_history.specs.Memory.{fresh, plan_for}
 use Rattle.plan_history.proofs.Memory.{remembers}
-use Rattle.multi_coloring.specs.declared.MultiUpdate.{MultiUpdate}
+use Rattle.multi_coloring.specs.declared.MultiColoring.{MultiColoring}
 use Rattle.multi_coloring.specs.Counts.{multi_update_refusal}
-use Rattle.multi_coloring.specs.Calls.{fresh_multi, multi_plan_after, multi_holds, multi_roomy, multi_refusal_with, multi_changes_with, numbers_of, MultiUpdated}
+use Rattle.multi_coloring.specs.Calls.{fresh_multi, multi_holds, multi_roomy, multi_refusal_with, multi_changes_with, numbers_of, MultiUpdated}
 use Rattle.colored_bodies.specs.declared.BodyBinding.{BodyBinding}
 use Rattle.colored_bodies.specs.Bindings.{take_of}
 use Rattle.schedules.specs.Runs.{freshly, members_in, bodies_in, lookup_refusal, lookup_of, take_rank}
@@ -189,7 +189,7 @@ unfolding freshly plan_from
 fresh_pairs flags pairs ok =
     rw (ap plan_for (remembers fresh flags pairs true ok)) (plan_lookups flags (pairs_of pairs) (few_pairs flags pairs true ok) [] (two flags pairs true ok))
 
-pub updated_pairs : (flags pairs : List ℕ) (t u : Tables) (r : Update) → refusal_with t flags pairs ≡ 0 → Updated fresh_plan flags pairs t u r → Lookups flags (pairs_of pairs) (standing (plan_after fresh_plan r) [] u)
+pub updated_pairs : (flags pairs : List ℕ) (t u : Tables) (r : Update ConstraintColoring) → refusal_with t flags pairs ≡ 0 → Updated fresh_plan flags pairs t u r → Lookups flags (pairs_of pairs) (standing (plan_after fresh_plan r) [] u)
 unfolding changes_with refusal_with holds
 updated_pairs flags pairs t u r ok up =
     left flags (pairs_of pairs) (few_pairs flags pairs _ ok) (changes_with fresh_plan t flags pairs) pairs [] (plan_from flags (pairs_of pairs)).counts (plan_after fresh_plan r) t u none up.plan up.tables (two flags pairs _ ok)
@@ -239,7 +239,7 @@ fresh-counts flags ends counts ok =
     rw (c, e) (fresh_pairs flags [] p))
     (λ z. rw z (plan_lookups flags (counted_parts counts ends) (few-counts flags ends counts true ok) counts (rw append-nil at (each flags ends counts true ok []))))
 
-module _ (flags ends counts : List ℕ) (t u : Tables) (c c' : List ℕ) (r : MultiUpdate) (ok : multi_refusal_with t c flags ends counts ≡ 0) (up : MultiUpdated fresh_multi flags ends counts t c u c' r) where
+module _ (flags ends counts : List ℕ) (t u : Tables) (c c' : List ℕ) (r : Update MultiColoring) (ok : multi_refusal_with t c flags ends counts ≡ 0) (up : MultiUpdated fresh_multi flags ends counts t c u c' r) where
   abbrev parts : List (List ℕ)
   parts = counted_parts counts ends
 
@@ -259,7 +259,7 @@ module _ (flags ends counts : List ℕ) (t u : Tables) (c c' : List ℕ) (r : Mu
       no_length counts (eqb-true (length counts) 0 (and_right (eqb (length flags) 0) (eqb (length counts) 0) nothing)))
       (λ new. clashes changes (rw (ok, new)) e)
 
-  carries : numbers_of (multi_plan_after fresh_multi r) ≡ cond changes (carried (plan_from flags parts)) fresh_plan
+  carries : numbers_of (plan_after fresh_multi r) ≡ cond changes (carried (plan_from flags parts)) fresh_plan
   carries = by_cases changes (λ e. rw e (rw e at (ap numbers_of up.plan))) (λ e. rw e (rw e at (ap numbers_of up.plan)))
 
   -- the counts that the plan remembers begin with those of the update
@@ -269,20 +269,20 @@ module _ (flags ends counts : List ℕ) (t u : Tables) (c c' : List ℕ) (r : Mu
       (λ e. (drop (length counts) c, rw (up.counts_are, e) refl))
       (λ e. (c, rw (up.counts_are, e, none e) refl))
 
-  updated_behind : (rest : List ℕ) → Lookups flags parts (standing (numbers_of (multi_plan_after fresh_multi r)) (counts ++ rest) u)
+  updated_behind : (rest : List ℕ) → Lookups flags parts (standing (numbers_of (plan_after fresh_multi r)) (counts ++ rest) u)
   updated_behind rest =
-      left flags parts (few-counts flags ends counts _ passes) changes ends (counts ++ rest) counts (numbers_of (multi_plan_after fresh_multi r)) t u
+      left flags parts (few-counts flags ends counts _ passes) changes ends (counts ++ rest) counts (numbers_of (plan_after fresh_multi r)) t u
       (λ e. ap (λ (l : List ℕ). counted_parts l ends) (none e)) carries up.tables (each flags ends counts _ passes rest)
 
-  pub updated_counts : Lookups flags parts (standing (numbers_of (multi_plan_after fresh_multi r)) c' u)
+  pub updated_counts : Lookups flags parts (standing (numbers_of (plan_after fresh_multi r)) c' u)
   updated_counts = rw remembered-counts.1 (updated_behind remembered-counts.0)
 
   -- the same, where the lookups are lent the counts of the update alone
-  pub updated_lent : Lookups flags parts (standing (numbers_of (multi_plan_after fresh_multi r)) counts u)
+  pub updated_lent : Lookups flags parts (standing (numbers_of (plan_after fresh_multi r)) counts u)
   updated_lent = rw append-nil at (updated_behind [])
 
   -- and there are as many constraints as counts
-  pub constraints-lent : (numbers_of (multi_plan_after fresh_multi r)).constraint_count ≡ length counts
+  pub constraints-lent : (numbers_of (plan_after fresh_multi r)).constraint_count ≡ length counts
   unfolding plan_from
   constraints-lent = ap (λ (q : ConstraintColoring). q.constraint_count) carries
       ∙ by_cases changes

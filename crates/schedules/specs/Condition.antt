@@ -9,8 +9,8 @@ use Rattle.constraint_coloring.specs.declared.ConstraintColoring.{ConstraintColo
 use Rattle.constraint_coloring.specs.declared.Update.{Update}
 use Rattle.plan_questions.specs.Plans.{Tables, roomy}
 use Rattle.constraint_coloring.specs.Calls.{fresh_plan, plan_after, plan_with, Updated}
-use Rattle.multi_coloring.specs.declared.MultiUpdate.{MultiUpdate}
-use Rattle.multi_coloring.specs.Calls.{fresh_multi, multi_plan_after, multi_roomy, numbers_of, MultiUpdated}
+use Rattle.multi_coloring.specs.declared.MultiColoring.{MultiColoring}
+use Rattle.multi_coloring.specs.Calls.{fresh_multi, multi_roomy, numbers_of, MultiUpdated}
 use Rattle.colored_bodies.specs.Bindings.{Handed}
 use Rattle.schedules.specs.Runs.{Call, Plans, Orders, flags, pairs_for, counts_for, plan_at, members_in, schedule, rising, run_calls, turn_of, turns_of, takes_of, run_of}
 
@@ -28,7 +28,7 @@ standing p counts t = plan_with p counts t.constraint_colors t.color_offsets t.c
 pub record PlannedPairs (f : Frame) (i : ℕ) (p : Plan) : Type 0 where
   pub before : Tables
   pub after : Tables
-  pub answer : Update
+  pub answer : Update ConstraintColoring
   pub room : roomy (length f.types) (length (of_island f i)) before ≡ true
   pub updated : Updated fresh_plan (flags f) (pairs_for f i) before after answer
   pub stands : p ≡ standing (plan_after fresh_plan answer) [] after
@@ -39,10 +39,10 @@ pub record PlannedCounts (f : Frame) (i : ℕ) (p : Plan) : Type 0 where
   pub counts_before : List ℕ
   pub after : Tables
   pub counts_after : List ℕ
-  pub answer : MultiUpdate
+  pub answer : Update MultiColoring
   pub room : multi_roomy before counts_before (flags f) (pairs_for f i) (counts_for true f i) ≡ true
   pub updated : MultiUpdated fresh_multi (flags f) (pairs_for f i) (counts_for true f i) before counts_before after counts_after answer
-  pub stands : p ≡ standing (numbers_of (multi_plan_after fresh_multi answer)) counts_after after
+  pub stands : p ≡ standing (numbers_of (plan_after fresh_multi answer)) counts_after after
 
 -- by the version: with counts on version 2
 abbrev pub Planned : Bool → Frame → ℕ → Plan → Type 0

@@ -3,8 +3,8 @@ use Rattle.std.proofs.Common.{[]}
 use Rattle.group_run.proofs.Takes.{pair_is_taken, pair_refused}
 use Rattle.group_run.proofs.take_pair.Goals as goal
 
-pub returns-in-At : goal.returns-in-At
-returns-in-At c = pair_is_taken _ _ _ _ _ _ c.body_positions_for_constraint.ensures _ _ _ _ _ c.in-At.is (c.take_marks.ensures []) c.pair_taken.ensures
+pub returns-in-Ok : goal.returns-in-Ok
+returns-in-Ok c = pair_is_taken _ _ _ _ _ _ c.in-Ok.ensures _ _ _ (c.take_marks-taken.ensures []) c.pair_taken.ensures
 
-pub returns-in-Refused : goal.returns-in-Refused
-returns-in-Refused c = pair_refused _ _ _ _ _ _ c.body_positions_for_constraint.ensures _ c.in-Refused.is
+pub returns-in-Err : goal.returns-in-Err
+returns-in-Err c = rw c.number.ensures (pair_refused _ _ _ _ _ _ c.in-Err.ensures)

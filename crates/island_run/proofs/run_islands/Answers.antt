@@ -1,8 +1,9 @@
-use Rattle.std.proofs.Common.{◌+◌, ◌-◌, ◌≤◌, ◌≡◌, sym, ap, ◌∙◌, arith, length, take, drop}
+use Rattle.std.proofs.Common.{rules, ◌+◌, ◌-◌, ◌≤◌, ◌≡◌, sym, ap, ◌∙◌, arith, length, take, drop}
 use Rattle.groups.proofs.Tables.{flatten-zero}
 use Rattle.group_run.proofs.Appends.{going_first, going_room, going_more}
 use Rattle.island_numbers.specs.Numbers.{counts_among}
 use Rattle.island_run.proofs.Loop.{islands-first, first-ends, part_count, next_start, part_inside, part-few, counts_there, counts_taken, counts-few, ends_next, ends_there, ready, island_next}
+use Rattle.island_run.proofs.Rooms.{same_twice}
 use Rattle.island_run.proofs.run_islands.Goals as goal
 use Rattle.island_run.proofs.run_islands.Goals.{After-part_end-end, After-count_ends}
 
@@ -22,7 +23,7 @@ there c =
     (counts c) c.collect.ensures.0 c.loop-island.invariant.2 c.count_ends.ensures
 
 pub loop-island-init : goal.loop-island-init
-loop-island-init c = (omega arith, sym (ap length (flatten-zero _)), first-ends _ _, rw c.no_turns-tally.ensures (going_first (islands-first _ _ _ _ _ _)))
+loop-island-init c = (omega arith, sym (ap length (flatten-zero _)), first-ends _ _, rw c.no_turns-tally.ensures (going_first (islands-first _ _ _ _ _ _)), search rules, search rules)
 
 pub counts_between-part_counts-requires : goal.counts_between-part_counts-requires
 counts_between-part_counts-requires c = counts_there c.requires.prepared c.loop-island-test.true c.loop-island.invariant.1 c.part_end-end.ensures c.collect.ensures.1
@@ -54,22 +55,7 @@ pub run_island-tally-requires-clause-ready : goal.run_island-tally-requires-clau
 run_island-tally-requires-clause-ready c =
     ready c.requires.prepared c.loop-island-test.true c.loop-island.invariant.1 c.part_end-end.ensures
     (counts (goal.at.run_island-tally-requires-clause-ready c).After-count_ends) c.collect.ensures.0 c.loop-island.invariant.2 c.count_ends.ensures _ _
-    (record {
-      dynamic_bodies = c.loop-island.auto.dynamic_bodies;
-      endpoints = c.loop-island.auto.endpoints;
-      body_offsets = c.loop-island.auto.body_offsets;
-      body_constraints = c.loop-island.auto.body_constraints ∙ c.collect.auto.bounds;
-      scratch_offsets = c.loop-island.auto.scratch_offsets;
-      constraint_colors = c.loop-island.auto.constraint_colors;
-      color_stamps = c.loop-island.auto.color_stamps;
-      body_stamps = c.loop-island.auto.body_stamps;
-      color_offsets = c.loop-island.auto.color_offsets;
-      colored_constraints = c.loop-island.auto.colored_constraints;
-      color_body_offsets = c.loop-island.auto.color_body_offsets;
-      color_bodies = c.loop-island.auto.color_bodies;
-      constraint_body_positions = c.loop-island.auto.constraint_body_positions;
-    })
-    c.loop-island.auto.plan_counts
+    c.loop-island.invariant.5 c.loop-island.auto.plan_counts
 
 pub run_island-tally-requires-clause-room : goal.run_island-tally-requires-clause-room
 run_island-tally-requires-clause-room c =
@@ -85,5 +71,7 @@ loop-island-preserved c =
       ends_next c.requires.prepared c.loop-island-test.true c.loop-island.invariant.1 c.part_end-end.ensures pc c.collect.ensures.0 c.loop-island.invariant.2 c.count_ends.ensures,
       going_more c.requires.room c.loop-island.invariant.3 _ _ _ _
           (island_next c.requires.prepared c.loop-island-test.true c.loop-island.invariant.1 c.part_end-end.ensures pc c.collect.ensures.0 c.loop-island.invariant.2 c.count_ends.ensures _)
-          c.run_island-tally.ensures,
+          c.run_island-tally.ensures.appended,
+      same_twice c.loop-island.invariant.4 c.run_island-tally.ensures.same_tables,
+      c.run_island-tally.ensures.same_lengths ∙ c.loop-island.invariant.5,
     )

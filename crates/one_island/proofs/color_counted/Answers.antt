@@ -2,5 +2,5 @@
 use Rattle.one_island.proofs.Plans.{counts_colored}
 use Rattle.one_island.proofs.color_counted.Goals as goal
 
-pub returns : goal.returns
-returns c = counts_colored _ _ _ _ _ _ _ c.requires.ready c.requires.some _ _ _ _ c.new-fresh.ensures c.update-answer.ensures c.plan_after.ensures c.numbers_of.ensures
+pub returns-clause-colored : goal.returns-clause-colored
+returns-clause-colored c = counts_colored _ _ _ _ _ _ _ c.requires.ready c.requires.some _ _ _ c.new-fresh.ensures c.update-answer.ensures.updated c.plan_after.ensures
