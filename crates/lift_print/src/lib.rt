@@ -34,20 +34,12 @@ fn put_lift(out: &mut [u8], wanted: Wanted) -> usize
     }
 }
 
-// What a line asks for.
-fn put_asked(out: &mut [u8], wanted: Option<Wanted>) -> usize
-    requires { length out.old ≡ 40971 }
-    ensures { Printed (lift_asked wanted) out.old out.new result }
-{
-    match wanted {
-        Some(wanted) => put_lift(out, wanted),
-        None => 0,
-    }
-}
-
 // The print of a text.
 pub fn put_print(text: &[u8], out: &mut [u8; generator::MAX_BYTES]) -> usize
     ensures { Printed (lift_asked (line_of text.now)) out.old out.new result }
 {
-    put_asked(out, lift_line::read_line(text))
+    match lift_line::read_line(text) {
+        Some(wanted) => put_lift(out, wanted),
+        None => 0,
+    }
 }

@@ -23,8 +23,14 @@ put_field-requires-3 c =
     let a = c.args in
     let room = leb-true (a.out.now.at + longest) (length a.out.now.out.now) (sym c.if-not-has_room.ensures) in
     omega (
-      arith, room, field_short islands_word a.islands 32, field_short turns_word a.turns 32,
-      c.put_field.ensures.next, c.put_field.ensures.long, c.put_field-2.ensures.next, c.put_field-2.ensures.long,
+      arith,
+      room,
+      field_short islands_word a.islands 32,
+      field_short turns_word a.turns 32,
+      c.put_field.ensures.next,
+      c.put_field.ensures.long,
+      c.put_field-2.ensures.next,
+      c.put_field-2.ensures.long,
     )
 
 pub put_field-requires-4 : goal.put_field-requires-4
@@ -32,8 +38,17 @@ put_field-requires-4 c =
     let a = c.args in
     let room = leb-true (a.out.now.at + longest) (length a.out.now.out.now) (sym c.if-not-has_room.ensures) in
     omega (
-      arith, room, field_short islands_word a.islands 32, field_short turns_word a.turns 32, field_short takes_word a.takes 32,
-      c.put_field.ensures.next, c.put_field.ensures.long, c.put_field-2.ensures.next, c.put_field-2.ensures.long, c.put_field-3.ensures.next, c.put_field-3.ensures.long,
+      arith,
+      room,
+      field_short islands_word a.islands 32,
+      field_short turns_word a.turns 32,
+      field_short takes_word a.takes 32,
+      c.put_field.ensures.next,
+      c.put_field.ensures.long,
+      c.put_field-2.ensures.next,
+      c.put_field-2.ensures.long,
+      c.put_field-3.ensures.next,
+      c.put_field-3.ensures.long,
     )
 
 pub returns : goal.returns

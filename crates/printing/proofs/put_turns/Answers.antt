@@ -17,9 +17,9 @@ loop-turn-preserved c =
     record {
       same = same_then l.invariant.same p.same;
       lines = λ placed.
-        let here = placed (omega (arith, c.loop-turn-test.true)) in
-        gather_turn a.frame.now a.turns.now a.first a.out.now l.out l.turn (l.invariant.lines placed) c.loop-turn-test.true
-        _ _ _ refl refl refl _ (p.wrote here) (λ v. (here v).file) c.if-out-before.false;
+          let here = placed (omega (arith, c.loop-turn-test.true)) in
+          gather_turn a.frame.now a.turns.now a.first a.out.now l.out l.turn (l.invariant.lines placed) c.loop-turn-test.true
+          _ _ _ refl refl refl _ (p.wrote here) (λ v. (here v).file) c.if-out-before.false;
     }
 
 pub returns-then-out-before-clause-lines : goal.returns-then-out-before-clause-lines
