@@ -14,6 +14,8 @@ ghost use Rattle.boundary.specs.Exports.{Updates, Found, Locates, Took};
 
 use colored_bodies::BodyBinding;
 use frame::Frame;
+use frame::refusal::refusal_number;
+use frame_file::Sizes;
 
 // The islands of a frame, and how many; answers the refusal or 0.
 #[unsafe(no_mangle)]
@@ -211,7 +213,12 @@ pub extern "C" fn engkarupi_generate(
 ) -> u8
     ensures { Made seed bodies manifolds joints frame.old frame.new result length.new }
 {
-    let answer = generator::generate(seed, bodies, manifolds, joints, frame);
-    *length = generator::length_of(answer);
-    generator::refusal_of(answer)
+    let sizes = Sizes {
+        bodies,
+        manifolds,
+        joints,
+    };
+    let answer = generator::generate(seed, sizes, frame);
+    *length = answer.unwrap_or(0);
+    refusal_number(&answer)
 }

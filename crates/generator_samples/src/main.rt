@@ -2,7 +2,8 @@
 // FNV-1a hash of 32 bits. The lent bytes are 0xab before the call.
 #![tactic(auto)]
 
-use generator::Generated;
+use frame::refusal::Refusal;
+use frame_file::Sizes;
 
 // Standard output, by its file descriptor.
 const STDOUT: i32 = 1;
@@ -17,15 +18,15 @@ fn write_number(word: &[u8], n: u64) {
 }
 
 // The answer's number, 0 where a frame was made, and the frame's length, 0 where it was refused.
-fn write_answer(name: &[u8], answer: Generated) {
+fn write_answer(name: &[u8], answer: Result<usize, Refusal>) {
     io::write_all(STDOUT, name);
     match answer {
-        Generated::Frame(length) => {
+        Ok(length) => {
             write_number(b" ", 0);
             write_number(b" ", length as u64);
         }
-        Generated::Refused(number) => {
-            write_number(b" ", number as u64);
+        Err(refusal) => {
+            write_number(b" ", refusal.number() as u64);
             write_number(b" ", 0);
         }
     }
@@ -70,7 +71,12 @@ fn show_bytes(
     joints: usize,
     bytes: &mut [u8],
 ) {
-    let answer = generator::generate(seed, bodies, manifolds, joints, bytes);
+    let sizes = Sizes {
+        bodies,
+        manifolds,
+        joints,
+    };
+    let answer = generator::generate(seed, sizes, bytes);
     write_answer(name, answer);
     if 0 < bytes.len() {
         io::write_all(STDOUT, b" ");
@@ -87,7 +93,12 @@ fn show_sums(
     joints: usize,
     bytes: &mut [u8],
 ) {
-    let answer = generator::generate(seed, bodies, manifolds, joints, bytes);
+    let sizes = Sizes {
+        bodies,
+        manifolds,
+        joints,
+    };
+    let answer = generator::generate(seed, sizes, bytes);
     write_answer(name, answer);
     write_number(b" sum ", sum(bytes) as u64);
     write_number(b" fnv ", fnv(bytes) as u64);

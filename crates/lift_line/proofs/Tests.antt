@@ -1,5 +1,6 @@
 -- What a digit and a byte that is not 0 tell.
-use Rattle.std.proofs.Common.{ℕ, zero, suc, ◌≤◌, ◌<◌, ◌≡◌, true, List, [], ◌∷◌, arith, leb, length, get_or, leb-true}
+use Rattle.std.proofs.Common.{ℕ, zero, suc, ◌≤◌, ◌<◌, ◌≡◌, true, List, [], ◌∷◌, arith, leb, length, get_or, leb-true, rules}
+use Rattle.std.specs.Char.{is_ascii_digit}
 use Rattle.lists.proofs.Laws.{and_left, and_right}
 use Rattle.lift_line.specs.Lines.{digit}
 
@@ -15,3 +16,7 @@ pub inside : (xs : List ℕ) (i : ℕ) → 1 ≤ get_or xs i 0 → i < length xs
 inside [] i h = absurd (omega arith)
 inside (x ∷ xs) zero h = omega arith
 inside (x ∷ xs) (suc i) h = omega (arith, inside xs i h)
+
+-- the library's digits are these
+pub ascii_is : (x : ℕ) → is_ascii_digit x ≡ digit x
+ascii_is x = search rules

@@ -1,10 +1,9 @@
 -- A line that was written is read back: four fields of 1 to 19 digits, parted by a space, with a newline at the end.
-use Rattle.std.proofs.Common.{ℕ, zero, suc, ◌+◌, ◌≤◌, ◌<◌, ◌≡◌, refl, sym, ap, ◌∙◌, true, false, List, [], ◌∷◌, ◌++◌, append_assoc, arith, length, get_or, drop, length-append, drop_at, lt-ltb}
+use Rattle.std.proofs.Common.{ℕ, zero, suc, ◌+◌, ◌≤◌, ◌<◌, ◌≡◌, refl, sym, ap, ◌∙◌, true, false, List, [], ◌∷◌, ◌++◌, Some, append_assoc, arith, length, get_or, drop, length-append, drop_at, lt-ltb}
 use Rattle.std.proofs.Math.Seq.{get_or_at}
 use Rattle.lists.specs.Basics.{all}
 use Rattle.lists.proofs.Laws.{and_left, and_right}
-use Rattle.lift_line.specs.declared.Line.TheVariants.{Wanted}
-use Rattle.lift_line.specs.Lines.{digit, digits_of, value_of, field_at, end_of, number_at, second, third, fourth, written, parted, readable, line_of, Spelled, line_text}
+use Rattle.lift_line.specs.Lines.{digit, digits_of, value_of, field_at, end_of, number_at, second, third, fourth, written, parted, readable, wanted, line_of, Spelled, line_text}
 
 digits_back : (n : ℕ) (ds : List ℕ) (x : ℕ) (rest : List ℕ) → all digit ds ≡ true → length ds ≤ n → digit x ≡ false → digits_of n (ds ++ x ∷ rest) ≡ ds
 digits_back zero [] x rest a l h = refl
@@ -58,7 +57,7 @@ onward text at ds x es y rest p s h = record {
 }
 
 pub line-read_back : (seed bodies manifolds joints : List ℕ) → Spelled seed → Spelled bodies → Spelled manifolds → Spelled joints → value_of 0 seed < 4294967296 →
-    line_of (line_text seed bodies manifolds joints) ≡ Wanted (value_of 0 seed) (value_of 0 bodies) (value_of 0 manifolds) (value_of 0 joints)
+    line_of (line_text seed bodies manifolds joints) ≡ Some (wanted (value_of 0 seed) (value_of 0 bodies) (value_of 0 manifolds) (value_of 0 joints))
 unfolding line_of readable
 line-read_back a b c d sa sb sc sd h =
     let t = line_text a b c d in

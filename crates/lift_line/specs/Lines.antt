@@ -1,8 +1,7 @@
 -- A line that asks for a test lift: seed, bodies, manifolds and joints in decimal, parted by one space.
-use Rattle.std.specs.Prelude.{ℕ, zero, suc, ◌+◌, ◌-◌, ◌*◌, ◌≤◌, ◌≡◌, Bool, true, ◌&&◌, cond, List, [], ◌∷◌, ◌++◌, leb, ltb, eqb, length, get_or, drop}
+use Rattle.std.specs.Prelude.{ℕ, zero, suc, ◌+◌, ◌-◌, ◌*◌, ◌≤◌, ◌≡◌, Bool, true, ◌&&◌, cond, List, [], ◌∷◌, ◌++◌, leb, ltb, eqb, length, get_or, drop, Option, Some, None}
 use Rattle.lists.specs.Basics.{all}
-use Rattle.lift_line.specs.declared.Line.{Line}
-use Rattle.lift_line.specs.declared.Line.TheVariants.{Wanted, Unreadable}
+use Rattle.lift_line.specs.declared.Wanted.{Wanted}
 
 -- is a byte one of 0 to 9?
 abbrev pub digit : ℕ → Bool
@@ -38,12 +37,15 @@ third text = end_of text (second text) + 1
 abbrev pub fourth : List ℕ → ℕ
 fourth text = end_of text (third text) + 1
 
--- a field that has digits, and one that a space follows
+-- a field that has digits; one that the byte `stop` follows, where `past` follows the text's end; and one that a space follows
 abbrev pub written : List ℕ → ℕ → Bool
 written text at = ltb at (end_of text at)
 
+abbrev pub followed : List ℕ → ℕ → ℕ → ℕ → Bool
+followed text at stop past = written text at && eqb (get_or text (end_of text at) past) stop
+
 abbrev pub parted : List ℕ → ℕ → Bool
-parted text at = written text at && eqb (get_or text (end_of text at) 0) 32
+parted text at = followed text at 32 0
 
 -- the text can be read: four fields, then a newline or nothing; the seed has 32 bits. What follows the newline is not looked at
 unfoldable pub readable : List ℕ → Bool
@@ -52,8 +54,11 @@ readable text =
     && eqb (get_or text (end_of text (fourth text)) 10) 10 && ltb (number_at text 0) 4294967296
 
 -- what the text asks for
-unfoldable pub line_of : List ℕ → Line
-line_of text = cond (readable text) (Wanted (number_at text 0) (number_at text (second text)) (number_at text (third text)) (number_at text (fourth text))) Unreadable
+abbrev pub wanted : ℕ → ℕ → ℕ → ℕ → Wanted
+wanted seed b m j = record { seed = seed; sizes = record { bodies = b; manifolds = m; joints = j } }
+
+unfoldable pub line_of : List ℕ → Option Wanted
+line_of text = cond (readable text) (Some (wanted (number_at text 0) (number_at text (second text)) (number_at text (third text)) (number_at text (fourth text)))) None
 
 -- ---- a line that was written: what a field may be, and four of them
 

@@ -2,14 +2,16 @@
 // every text. A number has at most 19 digits, so that 64 bits hold it.
 #![tactic(auto)]
 
-ghost use Rattle.std.specs.Prelude.{◌≡◌, ◌&&◌, ◌<◌, ltb, eqb, get_or};
-ghost use Rattle.lift_line.specs.Lines.{digit, end_of, number_at, line_of};
+ghost use Rattle.std.specs.Prelude.{◌≡◌, true, false, MatchOption, get_or};
+ghost use Rattle.lift_line.specs.Lines.{end_of, number_at, followed, line_of};
+
+use frame_file::Sizes;
 
 // What a line asks for.
-#[derive(Clone, Copy)]
-pub enum Line {
-    Wanted(u32, usize, usize, usize),
-    Unreadable,
+#[derive(Clone, Copy, Debug, PartialEq, Eq)]
+pub struct Wanted {
+    pub seed: u32,
+    pub sizes: Sizes,
 }
 
 // A number and the place after it.
@@ -19,23 +21,11 @@ struct Number {
     end: usize,
 }
 
-// The byte at a place, and 0 past the end.
-fn byte_at(text: &[u8], at: usize) -> usize
-    ensures { (result ≡ get_or text.now at 0) × (result < 256) }
+// The byte at a place; behind the text's end it is `past`.
+fn byte_at(text: &[u8], at: usize, past: u8) -> u8
+    ensures { result ≡ get_or text.now at past }
 {
-    if at < text.len() {
-        return text[at] as usize;
-    }
-    0
-}
-
-fn is_digit(x: usize) -> bool
-    ensures { result ≡ digit x }
-{
-    if x < 48 {
-        return false;
-    }
-    x <= 57
+    text.get(at).copied().unwrap_or(past)
 }
 
 // The number at a place: its digits, at most 19. Without a digit it is 0 and ends where it starts.
@@ -44,79 +34,45 @@ fn number_at(text: &[u8], at: usize) -> Number
 {
     let mut value = 0;
     let mut end = at;
-    let mut read: usize = 0;
     // `value` is the number of the first `read` digits, which end at `end`.
-    while read < 19 {
-        let byte = byte_at(text, end);
-        if !is_digit(byte) {
-            return Number {
-                value: value,
-                end: end,
-            };
+    for read in 0..19usize {
+        let byte = byte_at(text, end, 0);
+        if !byte.is_ascii_digit() {
+            return Number { value, end };
         }
-        value = 10 * value + (byte - 48);
+        value = 10 * value + (byte - b'0') as usize;
         end += 1;
-        read += 1;
     }
-    Number {
-        value: value,
-        end: end,
-    }
+    Number { value, end }
 }
 
-// Has the field from `at` to `end` digits, and does a space follow?
-fn is_parted(text: &[u8], at: usize, end: usize) -> bool
-    ensures { result ≡ (ltb at end && eqb (get_or text.now end 0) 32) }
+// The number at a place, if it has digits and the byte `stop` follows. Behind the text's end `past` follows.
+fn number_before(text: &[u8], at: usize, stop: u8, past: u8) -> Option<Number>
+    ensures { MatchOption result (followed text.now at stop past ≡ false) (λ n. (followed text.now at stop past ≡ true) × (n.value ≡ number_at text.now at) × (n.end ≡ end_of text.now at)) }
 {
-    if end <= at {
-        return false;
+    let number = number_at(text, at);
+    if at < number.end && byte_at(text, number.end, past) == stop {
+        Some(number)
+    } else {
+        None
     }
-    byte_at(text, end) == 32
-}
-
-// Has the field from `at` to `end` digits, and does a newline follow, or nothing?
-fn is_last(text: &[u8], at: usize, end: usize) -> bool
-    ensures { result ≡ (ltb at end && eqb (get_or text.now end 10) 10) }
-{
-    if end <= at {
-        return false;
-    }
-    if text.len() <= end {
-        return true;
-    }
-    text[end] == b'\n'
 }
 
 // Reads the line that a text begins with.
-pub fn read_line(text: &[u8]) -> Line
+pub fn read_line(text: &[u8]) -> Option<Wanted>
     ensures { result ≡ line_of text.now }
 {
-    let seed = number_at(text, 0);
-    if !is_parted(text, 0, seed.end) {
-        return Line::Unreadable;
-    }
-    let bodies_at = seed.end + 1;
-    let bodies = number_at(text, bodies_at);
-    if !is_parted(text, bodies_at, bodies.end) {
-        return Line::Unreadable;
-    }
-    let manifolds_at = bodies.end + 1;
-    let manifolds = number_at(text, manifolds_at);
-    if !is_parted(text, manifolds_at, manifolds.end) {
-        return Line::Unreadable;
-    }
-    let joints_at = manifolds.end + 1;
-    let joints = number_at(text, joints_at);
-    if !is_last(text, joints_at, joints.end) {
-        return Line::Unreadable;
-    }
-    if 4294967295 < seed.value {
-        return Line::Unreadable;
-    }
-    Line::Wanted(
-        seed.value as u32,
-        bodies.value,
-        manifolds.value,
-        joints.value,
-    )
+    let seed = number_before(text, 0, b' ', 0)?;
+    let bodies = number_before(text, seed.end + 1, b' ', 0)?;
+    let manifolds = number_before(text, bodies.end + 1, b' ', 0)?;
+    let joints = number_before(text, manifolds.end + 1, b'\n', b'\n')?;
+    let sizes = Sizes {
+        bodies: bodies.value,
+        manifolds: manifolds.value,
+        joints: joints.value,
+    };
+    let Ok(seed) = u32::try_from(seed.value) else {
+        return None;
+    };
+    Some(Wanted { seed, sizes })
 }

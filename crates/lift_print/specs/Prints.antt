@@ -1,20 +1,19 @@
 -- What the program `generate_frame` prints for a text.
-use Rattle.std.specs.Prelude.{ℕ, ◌≡◌, cond, List, [], eqb, length}
+use Rattle.std.specs.Prelude.{ℕ, ◌≡◌, cond, List, [], eqb, length, Option, Some, None}
 use Rattle.lists.specs.Basics.{over}
 use Rattle.schedules.specs.Print.{refusal_line}
 use Rattle.generator.specs.Draws.{generated_bytes}
 use Rattle.generator.specs.Calls.{generate_refusal}
-use Rattle.lift_line.specs.declared.Line.{Line}
-use Rattle.lift_line.specs.declared.Line.TheVariants.{Wanted, Unreadable}
+use Rattle.lift_line.specs.declared.Wanted.{Wanted}
 
 -- a lift's file, where there is room for the longest, or its refusal as `turns` prints one
 unfoldable pub lift_of : ℕ → ℕ → ℕ → ℕ → List ℕ
 lift_of seed b m j = cond (eqb (generate_refusal b m j 40971) 0) (generated_bytes seed b m j) (refusal_line (generate_refusal b m j 40971))
 
 -- what a line asks for; nothing where it can't be read
-abbrev pub lift_asked : Line → List ℕ
-lift_asked (Wanted seed b m j) = lift_of seed b m j
-lift_asked Unreadable = []
+abbrev pub lift_asked : Option Wanted → List ℕ
+lift_asked (Some w) = lift_of w.seed w.sizes.bodies w.sizes.manifolds w.sizes.joints
+lift_asked None = []
 
 -- a text put into the buffer `old` from place 0 on, and its length; the buffer keeps its own
 pub record Printed (text old new : List ℕ) (r : ℕ) : Type 0 where

@@ -3,34 +3,34 @@
 #![tactic(auto)]
 
 ghost use Rattle.std.specs.Prelude.{◌≡◌, length};
+ghost use Rattle.frame.specs.Refusals.{number_of};
 ghost use Rattle.lift_line.specs.Lines.{line_of};
+ghost use Rattle.print_fields.specs.Puts.{longest};
+ghost use Rattle.schedules.specs.Print.{refusal_line};
 ghost use Rattle.lift_print.specs.Prints.{lift_of, lift_asked, Printed};
 
-use generator::Generated;
-use lift_line::Line;
+use frame::refusal::Refusal;
+use lift_line::Wanted;
+use writer::Writer;
 
-// A lift's file, or its refusal.
-fn put_lift(out: &mut [u8], seed: u32, bodies: usize, manifolds: usize, joints: usize) -> usize
+// A refusal from the buffer's start on.
+fn put_refusal(out: &mut [u8], refusal: Refusal) -> usize
     requires { length out.old ≡ 40971 }
-    ensures { Printed (lift_of seed bodies manifolds joints) out.old out.new result }
+    ensures { Printed (refusal_line (number_of refusal)) out.old out.new result }
 {
-    let answer = generator::generate(seed, bodies, manifolds, joints, out);
-    match answer {
-        Generated::Frame(length) => length,
-        Generated::Refused(number) => printing::put_refusal(out, 0, number as usize),
-    }
+    let mut text = Writer { out, at: 0 };
+    printing::put_refusal(&mut text, refusal.number() as usize);
+    text.at
 }
 
-// What a line asks for.
-fn put_asked(out: &mut [u8], line: Line) -> usize
+// A lift's file, or its refusal.
+fn put_lift(out: &mut [u8], wanted: Wanted) -> usize
     requires { length out.old ≡ 40971 }
-    ensures { Printed (lift_asked line) out.old out.new result }
+    ensures { Printed (lift_of wanted.seed wanted.sizes.bodies wanted.sizes.manifolds wanted.sizes.joints) out.old out.new result }
 {
-    match line {
-        Line::Wanted(seed, bodies, manifolds, joints) => put_lift(
-            out, seed, bodies, manifolds, joints,
-        ),
-        Line::Unreadable => 0,
+    match generator::generate(wanted.seed, wanted.sizes, out) {
+        Ok(length) => length,
+        Err(refusal) => put_refusal(out, refusal),
     }
 }
 
@@ -38,6 +38,8 @@ fn put_asked(out: &mut [u8], line: Line) -> usize
 pub fn put_print(text: &[u8], out: &mut [u8; generator::MAX_BYTES]) -> usize
     ensures { Printed (lift_asked (line_of text.now)) out.old out.new result }
 {
-    let line = lift_line::read_line(text);
-    put_asked(out, line)
+    match lift_line::read_line(text) {
+        Some(wanted) => put_lift(out, wanted),
+        None => 0,
+    }
 }

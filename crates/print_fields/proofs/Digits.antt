@@ -1,6 +1,8 @@
 -- Decimal digits of a machine number: the last digit stands behind the digits of the rest, and there are at most 20.
 -- `digits d n` is the same for each d that is enough, that is, n < 10 ^ d.
-use Rattle.std.proofs.Common.{ℕ, zero, suc, ◌+◌, ◌*◌, ◌^◌, ◌/◌, ◌%◌, ◌≤◌, ◌<◌, ◌≡◌, sym, ap, ◌∙◌, List, [], ◌∷◌, ◌++◌, arith, ltb, length, length-append, lt-ltb, le-ltb}
+use Rattle.std.proofs.Common.{ℕ, zero, suc, ◌+◌, ◌*◌, ◌^◌, ◌/◌, ◌%◌, ◌≤◌, ◌<◌, ◌≡◌, sym, ap, ◌∙◌, List, [], ◌∷◌, ◌++◌, arith, ltb, length, length-append, lt-ltb, le-ltb, refl}
+use Rattle.std.specs.Fmt as std
+use Rattle.std.proofs.lemmas.Fmt.{decimal_by_steps}
 use Rattle.lists.proofs.Laws.{by_cases}
 use Rattle.schedules.specs.Print.{digits, decimal}
 
@@ -56,3 +58,10 @@ digits-few (suc d) n =
 pub decimal-few : (n : ℕ) → length (decimal n) ≤ 20
 unfolding decimal
 decimal-few n = digits-few 20 n
+
+-- what the library prints of a number
+pub printed_decimal : (n : ℕ) → n < 2 ^ 64 → std.decimal n ≡ decimal n
+printed_decimal n h = decimal_by_steps (λ (m : ℕ) (ds : List ℕ). m < 2 ^ 64 → ds ≡ decimal m)
+    (λ m k i. sym (decimal-one m k))
+    (λ m ds k e i. ap (λ (l : List ℕ). l ++ (48 + m % 10) ∷ []) (e (omega (arith, i))) ∙ sym (decimal_last m i k))
+    n h h

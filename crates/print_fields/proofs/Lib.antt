@@ -1,4 +1,2 @@
-pub mod Puts
 pub mod Digits
-pub mod Spelling
 pub mod Fields

@@ -1,12 +1,5 @@
--- Text put into a lent buffer from a place on.
-use Rattle.std.specs.Prelude.{ℕ, ◌+◌, ◌≤◌, ◌≡◌, cond, List, [], leb, length}
-use Rattle.lists.specs.Basics.{put}
-
--- the buffer `old` becomes `new`: the text stands from place `at` on, and r, in the buffer if `at` is, is the place after it
-pub record Put (text old : List ℕ) (at : ℕ) (new : List ℕ) (r : ℕ) : Type 0 where
-  pub buffer : new ≡ put at text old
-  pub next : r ≡ at + length text
-  pub within : at ≤ length old → r ≤ length old
+-- How much room a text needs in a lent buffer.
+use Rattle.std.specs.Prelude.{ℕ, ◌+◌, cond, List, [], leb}
 
 -- no head, refusal or turn of two bodies is longer: a head has 31 bytes of words, spaces and newline, and four numbers of at most 20 digits
 abbrev pub longest : ℕ

@@ -3,74 +3,71 @@ use Rattle.std.proofs.Common.{ℕ, zero, suc, ◌+◌, ◌-◌, ◌*◌, ◌≤�
 use Rattle.std.proofs.lemmas.Bool.{eqb-false}
 use Rattle.lists.specs.Basics.{one, over, put}
 use Rattle.lists.proofs.Laws.{by_cases}
-use Rattle.lists.proofs.Puts.{put-put, put_first}
+use Rattle.lists.proofs.Puts.{put_first}
 use Rattle.run_answer.specs.declared.Answer.{Answer}
 use Rattle.run_answer.specs.Answers.{run_report}
 use Rattle.frame.specs.Files.{second}
 use Rattle.schedules.specs.Print.{turn_lines, answer_to}
-use Rattle.print_fields.specs.Puts.{Put, longest, if_left, if_room}
+use Rattle.print_fields.specs.Puts.{longest, if_left, if_room}
 use Rattle.printing.specs.Turns.{Standing, Placed, gathered, turns_from, lines_of, Lines}
-use Rattle.print_fields.proofs.Puts.{put-nothing}
+use Rattle.writer.specs.declared.Writer.{Writer}
+use Rattle.writer.specs.Wrote.{Wrote}
+use Rattle.writer.proofs.Writes.{wrote_none, wrote_then}
 use Rattle.printing.proofs.Turns.{gathered-few}
 use Rattle.print_pieces.specs.declared.Piece.{Piece}
 use Rattle.print_pieces.specs.Pieces.{answer_line, InputAnswered, buffer_size, piece_text, PieceStands, turns_left, FirstPiece, NextPiece}
 use Rattle.print_pieces.proofs.Answers.{table_long}
 
 -- a line that has room is put
-pub put-line : (line text old new : List ℕ) (r : ℕ) → text ≡ line → longest ≤ length old → Put (if_room (length old) 0 text) old 0 new r → Put line old 0 new r
+pub put-line : (line text : List ℕ) (old new : Writer) → text ≡ line → old.at + longest ≤ length old.out.now → Wrote (if_room (length old.out.now) old.at text) old new → Wrote line old new
 unfolding if_left
-put-line line text old new r e room p = rw (← e) (rw (le-leb (0 + longest) (length old) (omega arith)) at p)
+put-line line text old new e room p = rw (← e) (rw (le-leb (old.at + longest) (length old.out.now) (omega arith)) at p)
 
 -- there are turns in the used part of a turn table only where the run has turns
 pub turns_placed : (bs table ps : List ℕ) (count : ℕ) → (0 < count → second bs ≡ true → Standing bs ps) → Placed bs (take (3 * count) table) ps
 turns_placed bs table ps zero h some = absurd (omega arith)
 turns_placed bs table ps (suc n) h some = h (omega arith)
 
-module _ (bs opening turns : List ℕ) (first : ℕ) (old mid new : List ℕ) (at : ℕ) (p : Piece) (long : length old ≡ buffer_size) (kept : length mid ≡ length old) where
+module _ (bs opening turns : List ℕ) (first : ℕ) (old mid new : Writer) (p : Piece) (start : old.at ≡ 0) (long : length old.out.now ≡ buffer_size) where
   -- the opening, then the lines
-  stands : Put opening old 0 mid at → Lines bs turns first mid at new (record { at = p.size; turn = p.next }) → PieceStands bs opening (turns_from turns first) first old new p
+  stands : Wrote opening old mid → Lines bs turns first mid new p.next → p.size ≡ new.at → PieceStands bs opening (turns_from turns first) first old.out.now new.out.now p
   unfolding piece_text
-  stands o l =
+  stands o l size =
       let rest = turns_from turns first in
-      let room : length mid ≡ buffer_size = kept ∙ long in
-      let here : at ≡ length opening = omega (arith, o.next) in
+      let room : length mid.out.now ≡ buffer_size = o.long ∙ long in
+      let here : mid.at ≡ length opening = omega (arith, o.next, start) in
       let lines = lines_of bs rest (gathered bs buffer_size (length opening) rest) in
-      let held : gathered bs (length mid) at rest ≡ gathered bs buffer_size (length opening) rest = ap₂ (λ (n i : ℕ). gathered bs n i rest) room here in
-      let same : lines_of bs rest (gathered bs (length mid) at rest) ≡ lines = ap (lines_of bs rest) held in
-      let began : at ≤ length old = o.within (omega arith) in
-      let ended : p.size ≤ length mid = l.put.within (omega arith) in
-      let end : p.size ≡ at + length lines = l.put.next ∙ ap (λ (t : List ℕ). at + length t) same in
-      let text : new ≡ over (opening ++ lines) old =
-      l.put.buffer
-      ∙ ap (λ (t : List ℕ). put at t mid) same
-      ∙ ap₂ (λ (i : ℕ) (m : List ℕ). put i lines m) o.next o.buffer
-      ∙ put-put 0 opening lines old (omega arith)
-      ∙ put_first (opening ++ lines) old in
+      let held : gathered bs (length mid.out.now) mid.at rest ≡ gathered bs buffer_size (length opening) rest = ap₂ (λ (n i : ℕ). gathered bs n i rest) room here in
+      let same : lines_of bs rest (gathered bs (length mid.out.now) mid.at rest) ≡ lines = ap (lines_of bs rest) held in
+      let began : mid.at ≤ length mid.out.now = o.within (omega (arith, start)) in
+      let ended : new.at ≤ length new.out.now = l.wrote.within began in
+      let behind : Wrote lines mid new = rw same at l.wrote in
+      let whole = wrote_then o behind (omega (arith, here, start, ended, behind.next, behind.long, o.long)) in
       record {
-        text = text;
-        long = omega (arith, ap length text, length-append (opening ++ lines) (drop (length (opening ++ lines)) old), length-drop (length (opening ++ lines)) old, length-append opening lines);
-        size = omega (arith, length-append opening lines);
+        text = whole.bytes ∙ ap (λ (i : ℕ). put i (opening ++ lines) old.out.now) start ∙ put_first (opening ++ lines) old.out.now;
+        long = whole.long;
+        size = size ∙ omega (arith, whole.next, start);
         next = l.turn ∙ ap (λ (n : ℕ). first + n) held;
       }
 
 -- the first piece, and the next one
-pub first_stands : (bs ts ts' old mid new : List ℕ) (r : Answer) (count at : ℕ) (p : Piece) → length old ≡ buffer_size → length mid ≡ length old
-    → InputAnswered bs ts ts' r → count ≡ (run_report r).turns → Put (answer_line r) old 0 mid at → p.turns ≡ count
-    → Lines bs (take (3 * count) ts') 0 mid at new (record { at = p.size; turn = p.next }) → FirstPiece bs ts old ts' new p
-first_stands bs ts ts' old mid new r count at p long kept a c o t l =
+pub first_stands : (bs ts ts' : List ℕ) (old mid new : Writer) (r : Answer) (count : ℕ) (p : Piece) → old.at ≡ 0 → length old.out.now ≡ buffer_size
+    → InputAnswered bs ts ts' r → count ≡ (run_report r).turns → Wrote (answer_line r) old mid → (p.size ≡ new.at) × (p.turns ≡ count)
+    → Lines bs (take (3 * count) ts') 0 mid new p.next → FirstPiece bs ts old.out.now ts' new.out.now p
+first_stands bs ts ts' old mid new r count p start long a c o t l =
     let n : count ≡ (answer_to bs).turns = c ∙ a.turns in
     let used : take (3 * count) ts' ≡ (answer_to bs).table = rw a.table (take_at (answer_to bs).table (drop (length (answer_to bs).table) ts) (3 * count) (table_long bs ∙ omega (arith, n))) in
     record {
       table = a.table;
-      turns = t ∙ n;
-      stands = rw (used, a.line) at (stands bs (answer_line r) (take (3 * count) ts') 0 old mid new at p long kept o l);
+      turns = t.1 ∙ n;
+      stands = rw (used, a.line) at (stands bs (answer_line r) (take (3 * count) ts') 0 old mid new p start long o l t.0);
     }
 
-pub next_stands : (bs table old new : List ℕ) (p q : Piece) → length old ≡ buffer_size → q.turns ≡ p.turns
-    → Lines bs (take (3 * p.turns) table) p.next old 0 new (record { at = q.size; turn = q.next }) → NextPiece bs table old p new q
-next_stands bs table old new p q long t l = record {
-  turns = t;
-  stands = stands bs [] (take (3 * p.turns) table) p.next old old new 0 q long refl (put-nothing old 0) l;
+pub next_stands : (bs table : List ℕ) (old new : Writer) (p q : Piece) → old.at ≡ 0 → length old.out.now ≡ buffer_size → (q.size ≡ new.at) × (q.turns ≡ p.turns)
+    → Lines bs (take (3 * p.turns) table) p.next old new q.next → NextPiece bs table old.out.now p new.out.now q
+next_stands bs table old new p q start long t l = record {
+  turns = t.1;
+  stands = stands bs [] (take (3 * p.turns) table) p.next old old new q start long (wrote_none old) l t.0;
 }
 
 -- ---- what a piece leaves

@@ -3,15 +3,17 @@
 // length is refused 3 before any question. The pieces from first to last are the whole print (`WholePrint` in specs/Pieces).
 #![tactic(auto)]
 
-ghost use Rattle.std.specs.Prelude.{◌*◌, ◌≤◌, ◌≡◌, true, length, take};
+ghost use Rattle.std.specs.Prelude.{◌+◌, ◌*◌, ◌≤◌, ◌≡◌, true, length, take};
 ghost use Rattle.frame.specs.Questions.{asked};
 ghost use Rattle.frame.specs.Files.{second, file_questions};
-ghost use Rattle.print_fields.specs.Puts.{Put, longest};
+ghost use Rattle.print_fields.specs.Puts.{longest};
 ghost use Rattle.printing.specs.Turns.{Standing, Placed, Lines};
+ghost use Rattle.writer.specs.Wrote.{Wrote, SameBytes};
 ghost use Rattle.print_pieces.specs.Pieces.{answer_line, InputAnswered, PiecePlaced, FirstPiece, NextPiece};
 
 use frame::Frame;
 use run_answer::Answer;
+use writer::Writer;
 
 // The program's buffers: the input, with one byte more than a frame can have; the turn table of the largest frame; the places of its
 // joints; the output.
@@ -67,16 +69,15 @@ fn place_joints(frame: &[u8], places: &mut [u16])
 }
 
 // The line that comes first for an answer.
-fn put_first_line(out: &mut [u8], answer: Answer) -> usize
-    requires { longest ≤ length out.old }
-    ensures { Put (answer_line answer) out.old 0 out.new result }
+fn put_first_line(text: &mut Writer<'_>, answer: Answer)
+    requires { text.old.at + longest ≤ length text.old.out.now }
+    ensures { Wrote (answer_line answer) text.old text.new }
 {
     match answer {
-        Answer::Refused(number) => printing::put_refusal(out, 0, number as usize),
+        Answer::Refused(number) => printing::put_refusal(text, number as usize),
         Answer::Ran(report) => {
             printing::put_head(
-                out,
-                0,
+                text,
                 report.islands,
                 report.turns,
                 report.takes,
@@ -96,24 +97,24 @@ fn used(turns: &[u16], count: usize) -> &[u16]
     turns
 }
 
-// Ends a piece whose first `at` bytes stand in the buffer with the lines from turn `first` on.
+// Ends a piece with the lines from turn `first` on.
 fn put_lines(
+    text: &mut Writer<'_>,
     frame: &[u8],
     turns: &[u16],
     places: &[u16],
     count: usize,
     first: usize,
-    out: &mut [u8],
-    at: usize,
 ) -> Piece
-    ensures turns { result.turns ≡ count }
-    ensures lines { Placed frame.now (take (3 * count) turns.now) places.now → Lines frame.now (take (3 * count) turns.now) first out.old at out.new (record { at = result.size; turn = result.next }) }
+    ensures same { SameBytes text.old text.new }
+    ensures size { (result.size ≡ text.new.at) × (result.turns ≡ count) }
+    ensures lines { Placed frame.now (take (3 * count) turns.now) places.now → Lines frame.now (take (3 * count) turns.now) first text.old text.new result.next }
 {
-    let done = printing::put_turns(out, at, used(turns, count), first, frame, places);
+    let next = printing::put_turns(text, used(turns, count), first, frame, places);
     Piece {
-        size: done.at,
+        size: text.at,
         turns: count,
-        next: done.turn,
+        next,
     }
 }
 
@@ -132,8 +133,9 @@ pub fn first_piece(
     if 0 < count {
         place_joints(frame, places);
     }
-    let line = put_first_line(out, answer);
-    put_lines(frame, turns, places, count, 0, out, line)
+    let mut text = Writer { out, at: 0 };
+    put_first_line(&mut text, answer);
+    put_lines(&mut text, frame, turns, places, count, 0)
 }
 
 // The piece after another one of the same print. Of a version 2 file nothing is promised unless `places` has its joints' places.
@@ -146,5 +148,6 @@ pub fn next_piece(
 ) -> Piece
     ensures { PiecePlaced frame.now piece places.now → NextPiece frame.now turns.now out.old piece out.new result }
 {
-    put_lines(frame, turns, places, piece.turns, piece.next, out, 0)
+    let mut text = Writer { out, at: 0 };
+    put_lines(&mut text, frame, turns, places, piece.turns, piece.next)
 }

@@ -4,9 +4,11 @@ use Rattle.lists.proofs.Laws.{by_cases}
 use Rattle.frame.specs.Files.{half, halves_from}
 use Rattle.frame.proofs.Walks.{halves_next, halves_long}
 use Rattle.schedules.specs.Print.{decimal, spaced, line, head_of, turn_line, refusal_line, islands_word, turns_word, takes_word, degree_word, refused_word}
-use Rattle.print_fields.specs.Puts.{Put, if_left}
+use Rattle.print_fields.specs.Puts.{if_left}
 use Rattle.printing.specs.Turns.{longest_turn}
-use Rattle.print_fields.proofs.Puts.{put-nothing, Wrote, wrote_none, wrote_then}
+use Rattle.writer.specs.declared.Writer.{Writer}
+use Rattle.writer.specs.Wrote.{Wrote}
+use Rattle.writer.proofs.Writes.{wrote_none, wrote_then}
 use Rattle.print_fields.proofs.Fields.{number, field, number_short}
 
 pub head_fields : (i t k d : ℕ) → field islands_word i 32 ++ field turns_word t 32 ++ field takes_word k 32 ++ field degree_word d 10 ≡ head_of i t k d
@@ -87,53 +89,57 @@ module _ (bs : List ℕ) (s c : ℕ) where
 
 -- ---- the endpoints put one after another: those that are put, and those still to be put, are all
 
-pub record Ending (bs : List ℕ) (s c : ℕ) (old : List ℕ) (at : ℕ) (out : List ℕ) (m from left : ℕ) : Type 0 where
+pub record Ending (bs : List ℕ) (s c : ℕ) (old new : Writer) (i : ℕ) : Type 0 where
   pub done : List ℕ
-  pub wrote : Wrote done old at out m (21 * left)
-  pub rest : done ++ ends_line bs from left ≡ ends_line bs s c
-  pub some : 1 ≤ left
-  pub near : from + 2 * left ≡ s + 2 * c
+  pub wrote : Wrote done old new
+  pub room : new.at + 21 * (c - i) ≤ length new.out.now
+  pub rest : done ++ ends_line bs (s + 2 * i) (c - i) ≡ ends_line bs s c
 
-module _ (bs : List ℕ) (s c : ℕ) (old : List ℕ) (at : ℕ) where
-  pub ends_begin : at + 21 * c ≤ length old → 1 ≤ c → Ending bs s c old at old at s c
-  ends_begin room h = record { done = []; wrote = wrote_none old at (21 * c) room; rest = refl; some = h; near = refl }
+pub ends_begin : (bs : List ℕ) (s c : ℕ) (old : Writer) → old.at + 21 * c ≤ length old.out.now → Ending bs s c old old 0
+ends_begin bs s c old room = record {
+  done = [];
+  wrote = wrote_none old;
+  room = omega (arith, room);
+  rest = let e : s + 2 * 0 ≡ s = omega arith in let f : c - 0 ≡ c = omega arith in rw (e, f) refl;
+}
 
-  module _ (out : List ℕ) (m from left : ℕ) (w : Ending bs s c old at out m from left) (x : ℕ) (new : List ℕ) (next : ℕ) (e : x ≡ half bs from) where
-    pub ends_turn : 1 < left → Put (number x 32) out m new next → Ending bs s c old at new next (from + 2) (left - 1)
-    ends_turn h p =
-        let more : 21 * left ≡ 21 + 21 * (left - 1) = omega arith in
-        record {
-          done = w.done ++ number x 32;
-          wrote = wrote_then w.done (number x 32) old out new at m next 21 (21 * (left - 1)) (rw more at w.wrote) p (number_short x 32);
-          rest =
-              append_assoc w.done (number x 32) (ends_line bs (from + 2) (left - 1))
-              ∙ ap (λ (y : ℕ). w.done ++ (number y 32 ++ ends_line bs (from + 2) (left - 1))) e
-              ∙ ap (λ (l : List ℕ). w.done ++ l) (ends_more bs from left (omega arith) h)
-              ∙ w.rest;
-          some = omega arith;
-          near = omega (arith, w.near);
-        }
+module _ (bs : List ℕ) (s c : ℕ) (old mid : Writer) (i : ℕ) (w : Ending bs s c old mid i) (x : ℕ) (new : Writer) (e : x ≡ half bs (s + 2 * i)) where
+  size : length w.done + old.at ≡ mid.at
+  size = omega (arith, w.wrote.next)
 
-    pub ends-end : left ≤ 1 → Put (number x 10) out m new next → Put (ends_line bs s c) old at new next
-    ends-end h p =
-        let one : left ≡ 1 = omega (arith, w.some) in
-        let more : 21 * left ≡ 21 + 0 = omega arith in
-        let whole = wrote_then w.done (number x 10) old out new at m next 21 0 (rw more at w.wrote) p (number_short x 10) in
-        subst (λ (l : List ℕ). Put l old at new next)
-        (ap (λ (y : ℕ). w.done ++ number y 10) e ∙ ap (λ (l : List ℕ). w.done ++ l) (ends_last bs from left one) ∙ w.rest)
-        whole.put
+  pub ends_turn : i < c - 1 → Wrote (number x 32) mid new → Ending bs s c old new (i + 1)
+  ends_turn h p =
+      let at : s + 2 * i + 2 ≡ s + 2 * (i + 1) = omega arith in
+      let left : c - i - 1 ≡ c - (i + 1) = omega arith in
+      record {
+        done = w.done ++ number x 32;
+        wrote = wrote_then w.wrote p (omega (arith, size, w.room, w.wrote.long, number_short x 32));
+        room = omega (arith, w.room, p.next, p.long, number_short x 32);
+        rest =
+            append_assoc w.done (number x 32) (ends_line bs (s + 2 * (i + 1)) (c - (i + 1)))
+            ∙ ap (λ (y : ℕ). w.done ++ (number y 32 ++ ends_line bs (s + 2 * (i + 1)) (c - (i + 1)))) e
+            ∙ ap (λ (l : List ℕ). w.done ++ l) (rw (at, left) at (ends_more bs (s + 2 * i) (c - i) (omega arith) (omega arith)))
+            ∙ w.rest;
+      }
+
+  pub ends-end : i + 1 ≡ c → Wrote (number x 10) mid new → Wrote (ends_line bs s c) old new
+  ends-end h p =
+      let one : c - i ≡ 1 = omega arith in
+      let whole = wrote_then w.wrote p (omega (arith, size, w.room, w.wrote.long, number_short x 10)) in
+      subst (λ (l : List ℕ). Wrote l old new)
+      (ap (λ (y : ℕ). w.done ++ number y 10) e ∙ ap (λ (l : List ℕ). w.done ++ l) (ends_last bs (s + 2 * i) (c - i) one) ∙ w.rest)
+      whole
 
 pub refusal-field : (n : ℕ) → field refused_word n 10 ≡ refusal_line n
 unfolding refusal_line spaced
 refusal-field n = simp append_assoc
 
 -- without room nothing is put
-pub no_room : (most : ℕ) (text old : List ℕ) (at : ℕ) → leb (at + most) (length old) ≡ false → Put (if_left most (length old) at text) old at old at
+pub no_room : (most : ℕ) (text : List ℕ) (old : Writer) → leb (old.at + most) (length old.out.now) ≡ false → Wrote (if_left most (length old.out.now) old.at text) old old
 unfolding if_left
-no_room most text old at e = rw e (put-nothing old at)
+no_room most text old e = rw e (wrote_none old)
 
 -- with room the text is put
-pub with_room : (most : ℕ) (text line old : List ℕ) (at : ℕ) (new : List ℕ) (r : ℕ) → leb (at + most) (length old) ≡ true → text ≡ line → Put text old at new r
-    → Put (if_left most (length old) at line) old at new r
+pub with_room : (most : ℕ) (text line : List ℕ) (old new : Writer) → leb (old.at + most) (length old.out.now) ≡ true → text ≡ line → Wrote text old new → Wrote (if_left most (length old.out.now) old.at line) old new
 unfolding if_left
-with_room most text line old at new r e t p = rw e (subst (λ (l : List ℕ). Put l old at new r) t p)
+with_room most text line old new e t p = rw e (subst (λ (l : List ℕ). Wrote l old new) t p)

@@ -2,17 +2,18 @@
 -- A turn that is not ready puts nothing, and no line is empty, so a place that stays tells that the gathering ends.
 use Rattle.std.proofs.Common.{ℕ, zero, suc, ◌+◌, ◌-◌, ◌*◌, ◌/◌, ◌≤◌, ◌<◌, ◌≡◌, refl, sym, ap, subst, ◌∙◌, true, false, List, [], ◌∷◌, ◌++◌, map, append_assoc, append-nil, arith, leb, ltb, length, get_or, take, drop, length-append, length-drop, drop-cons, drop-drop, take-add, length-take-le, get_or-take, lt-ltb, le-ltb, ltb-true, ltb-false, leb-true}
 use Rattle.lists.proofs.Laws.{by_cases, and_left, and_right}
-use Rattle.lists.proofs.Puts.{put-none}
 use Rattle.frame.specs.Frames.{Frame, constraint_at}
 use Rattle.frame.specs.Questions.{asked}
 use Rattle.frame.specs.Files.{half, count_m, count_j, pairs_at, joints_at, ends_at, second, count_at, places_from, halves_from, decode, file_questions}
 use Rattle.frame.proofs.Walks.{Whole, halves_long}
 use Rattle.frame.proofs.Files.{file-entry, ends_manifold, ends-first, ends-second}
 use Rattle.schedules.specs.Print.{decimal, spaced, turn_line, turn_lines}
-use Rattle.print_fields.specs.Puts.{Put, if_left}
+use Rattle.print_fields.specs.Puts.{if_left}
 use Rattle.printing.specs.declared.Ends.{Ends}
 use Rattle.printing.specs.Turns.{Standing, EndsStand, longest_turn, longest_of, line_of, ready, if_ready, gathered, turns_from, lines_of, Lines}
-use Rattle.print_fields.proofs.Puts.{put-nothing, wrote_then}
+use Rattle.writer.specs.declared.Writer.{Writer}
+use Rattle.writer.specs.Wrote.{Wrote}
+use Rattle.writer.proofs.Writes.{wrote_none, wrote_then, wrote_also}
 use Rattle.printing.proofs.Lines.{turn_short}
 
 -- ---- one line
@@ -80,14 +81,14 @@ unfolding line_of turn_line
 line_some bs i k n = omega (arith, length-append (spaced (map decimal (i ∷ k ∷ n ∷ (constraint_at (decode bs) n).ends))) (10 ∷ []))
 
 -- no such constraint
-pub no_constraint : (bs old : List ℕ) (at i k n : ℕ) → count_m bs + count_j bs ≤ n → Put (if_ready bs (length old) at i k n) old at old at
+pub no_constraint : (bs : List ℕ) (old : Writer) (i k n : ℕ) → count_m bs + count_j bs ≤ n → Wrote (if_ready bs (length old.out.now) old.at i k n) old old
 unfolding if_ready ready
-no_constraint bs old at i k n h = rw (le-ltb n (count_m bs + count_j bs) h) (put-nothing old at)
+no_constraint bs old i k n h = rw (le-ltb n (count_m bs + count_j bs) h) (wrote_none old)
 
-pub with_ends : (bs old : List ℕ) (at i k n : ℕ) (e : Ends) (new : List ℕ) (r : ℕ) → n < count_m bs + count_j bs → EndsStand bs n e
-    → Put (if_left (longest_turn e.count) (length old) at (turn_line i k n (halves_from bs e.at e.count))) old at new r → Put (if_ready bs (length old) at i k n) old at new r
+pub with_ends : (bs : List ℕ) (old : Writer) (i k n : ℕ) (e : Ends) (new : Writer) → n < count_m bs + count_j bs → EndsStand bs n e
+    → Wrote (if_left (longest_turn e.count) (length old.out.now) old.at (turn_line i k n (halves_from bs e.at e.count))) old new → Wrote (if_ready bs (length old.out.now) old.at i k n) old new
 unfolding if_ready ready if_left
-with_ends bs old at i k n e new r h w p = rw (lt-ltb n (count_m bs + count_j bs) h) (rw (line_at bs i k n e w, count_is bs i k n e w) at p)
+with_ends bs old i k n e new h w p = rw (lt-ltb n (count_m bs + count_j bs) h) (rw (line_at bs i k n e w, count_is bs i k n e w) at p)
 
 -- a turn that is ready, and one that is not
 module _ (bs : List ℕ) (size at i k n : ℕ) where
@@ -162,68 +163,66 @@ lines_more bs turns d i k n r h e =
 
 -- ---- the loop
 
--- from turn `first` and place `at` on the lines up to turn t stand in the buffer, and place m is next
-pub record Gathering (bs turns : List ℕ) (first : ℕ) (old : List ℕ) (at : ℕ) (out : List ℕ) (m t : ℕ) : Type 0 where
+-- from turn `first` on the lines up to turn t are put
+pub record Gathering (bs turns : List ℕ) (first : ℕ) (old new : Writer) (t : ℕ) : Type 0 where
   pub past : first ≤ t
-  pub put : Put (lines_of bs (turns_from turns first) (t - first)) old at out m
-  pub kept : length out ≡ length old
-  pub count : gathered bs (length old) at (turns_from turns first) ≡ (t - first) + gathered bs (length old) m (turns_from turns t)
+  pub wrote : Wrote (lines_of bs (turns_from turns first) (t - first)) old new
+  pub count : gathered bs (length old.out.now) old.at (turns_from turns first) ≡ (t - first) + gathered bs (length old.out.now) new.at (turns_from turns t)
 
-pub gather_first : (bs turns : List ℕ) (first : ℕ) (old : List ℕ) (at : ℕ) → Gathering bs turns first old at old at first
+pub gather_first : (bs turns : List ℕ) (first : ℕ) (old : Writer) → Gathering bs turns first old old first
 unfolding lines_of turn_lines
-gather_first bs turns first old at =
+gather_first bs turns first old =
     let e : first - first ≡ 0 = omega arith in
     record {
       past = omega arith;
-      put = rw e (put-nothing old at);
-      kept = refl;
+      wrote = rw e (wrote_none old);
       count = omega arith;
     }
 
-module _ (bs turns : List ℕ) (first : ℕ) (old : List ℕ) (at : ℕ) (out : List ℕ) (m t : ℕ) (g : Gathering bs turns first old at out m t) where
+module _ (bs turns : List ℕ) (first : ℕ) (old mid : Writer) (t : ℕ) (g : Gathering bs turns first old mid t) where
   -- nothing more is gathered
-  gather_end : gathered bs (length old) m (turns_from turns t) ≡ 0 → Lines bs turns first old at out (record { at = m; turn = t })
+  gather_end : gathered bs (length old.out.now) mid.at (turns_from turns t) ≡ 0 → Lines bs turns first old mid t
   gather_end e =
-      let c : gathered bs (length old) at (turns_from turns first) ≡ t - first = omega (arith, g.count) in
+      let c : gathered bs (length old.out.now) old.at (turns_from turns first) ≡ t - first = omega (arith, g.count) in
       record {
-        put = rw c g.put;
+        wrote = rw c g.wrote;
         turn = omega (arith, g.past);
       }
 
   -- all turns are gathered
-  pub gather_all : length turns / 3 ≤ t → Lines bs turns first old at out (record { at = m; turn = t })
-  gather_all h = gather_end (no_turn bs (length old) m (turns_from turns t) (omega (arith, length-drop (3 * t) turns)))
+  pub gather_all : length turns / 3 ≤ t → Lines bs turns first old mid t
+  gather_all h = gather_end (no_turn bs (length old.out.now) mid.at (turns_from turns t) (omega (arith, length-drop (3 * t) turns)))
 
   -- the next turn, with its line put or nothing
   module _ (h : t < length turns / 3) (i k n : ℕ) (ei : i ≡ get_or turns (3 * t) 0) (ek : k ≡ get_or turns (3 * t + 1) 0) (en : n ≡ get_or turns (3 * t + 2) 0)
-      (new : List ℕ) (next : ℕ) (p : Put (if_ready bs (length out) m i k n) out m new next) where
+      (new : Writer) (p : Wrote (if_ready bs (length mid.out.now) mid.at i k n) mid new) where
     here : turns_from turns t ≡ i ∷ k ∷ n ∷ turns_from turns (t + 1)
     here = next_turn turns t h ∙ rw (ei, ek, en)
 
     -- what was put: the line, or nothing
-    was : ready bs (length old) m n ≡ true → Put (line_of bs i k n) out m new next
+    was : ready bs (length old.out.now) mid.at n ≡ true → Wrote (line_of bs i k n) mid new
     was e =
-        subst (λ (l : List ℕ). Put l out m new next) (ready_text bs (length old) m i k n e)
-        (subst (λ (s : ℕ). Put (if_ready bs s m i k n) out m new next) g.kept p)
+        subst (λ (l : List ℕ). Wrote l mid new) (ready_text bs (length old.out.now) mid.at i k n e)
+        (subst (λ (s : ℕ). Wrote (if_ready bs s mid.at i k n) mid new) g.wrote.long p)
 
-    was_not : ready bs (length old) m n ≡ false → Put [] out m new next
+    was_not : ready bs (length old.out.now) mid.at n ≡ false → Wrote [] mid new
     was_not e =
-        subst (λ (l : List ℕ). Put l out m new next) (unready_text bs (length old) m i k n e)
-        (subst (λ (s : ℕ). Put (if_ready bs s m i k n) out m new next) g.kept p)
+        subst (λ (l : List ℕ). Wrote l mid new) (unready_text bs (length old.out.now) mid.at i k n e)
+        (subst (λ (s : ℕ). Wrote (if_ready bs s mid.at i k n) mid new) g.wrote.long p)
 
     -- it was not ready
-    pub gather_stop : next ≡ m → Lines bs turns first old at new (record { at = m; turn = t })
+    pub gather_stop : new.at ≡ mid.at → Lines bs turns first old new t
     gather_stop e =
-        by_cases (ready bs (length old) m n)
+        by_cases (ready bs (length old.out.now) mid.at n)
         (λ y. absurd (omega (arith, (was y).next, line_some bs i k n)))
         (λ y.
-        subst (λ (o : List ℕ). Lines bs turns first old at o (record { at = m; turn = t })) (sym ((was_not y).buffer ∙ put-none m out))
-        (gather_end (ap (gathered bs (length old) m) here ∙ unready_count bs (length old) m i k n (turns_from turns (t + 1)) y)))
+        let l = gather_end (ap (gathered bs (length old.out.now) mid.at) here ∙ unready_count bs (length old.out.now) mid.at i k n (turns_from turns (t + 1)) y) in
+        record { wrote = wrote_also l.wrote (was_not y); turn = l.turn })
 
     -- it was ready
-    pub gather_turn : (second bs ≡ true → asked (file_questions bs) ≡ 0) → (next ≡ m → ⊥) → Gathering bs turns first old at new next (t + 1)
+    pub gather_turn : (second bs ≡ true → asked (file_questions bs) ≡ 0) → (new.at ≡ mid.at → ⊥) → Gathering bs turns first old new (t + 1)
     gather_turn file e =
-        by_cases (ready bs (length old) m n)
+        by_cases (ready bs (length old.out.now) mid.at n)
         (λ y.
         let d = t - first in
         let rest = turns_from turns first in
@@ -232,18 +231,16 @@ module _ (bs turns : List ℕ) (first : ℕ) (old : List ℕ) (at : ℕ) (out : 
         let f : drop (3 * d) rest ≡ i ∷ k ∷ n ∷ turns_from turns (t + 1) = drop-drop (3 * d) (3 * first) turns ∙ ap (λ (j : ℕ). drop j turns) s ∙ here in
         let l : lines_of bs rest (d + 1) ≡ lines_of bs rest d ++ line_of bs i k n =
         lines_more bs rest d i k n (turns_from turns (t + 1)) (omega (arith, g.past, length-drop (3 * first) turns)) f in
-        let w =
-        wrote_then (lines_of bs rest d) (line_of bs i k n) old out new at m next (longest_of bs n) 0
-        (record { put = g.put; kept = g.kept; left = omega (arith, ready_room bs (length old) m i k n y) }) (was y) (line_short bs i k n file (ready_pair bs (length old) m i k n y)) in
+        let room = ready_room bs (length old.out.now) mid.at i k n y in
+        let short = line_short bs i k n file (ready_pair bs (length old.out.now) mid.at i k n y) in
         record {
           past = omega (arith, g.past);
-          put = rw (q, l) w.put;
-          kept = w.kept;
+          wrote = rw (q, l) (wrote_then g.wrote (was y) (omega (arith, g.wrote.next, room, short)));
           count =
               g.count
-              ∙ ap (λ (x : List ℕ). d + gathered bs (length old) m x) here
-              ∙ ap (λ (x : ℕ). d + x) (ready_count bs (length old) m i k n (turns_from turns (t + 1)) y)
-              ∙ ap (λ (x : ℕ). d + suc (gathered bs (length old) x (turns_from turns (t + 1)))) (sym (was y).next)
+              ∙ ap (λ (x : List ℕ). d + gathered bs (length old.out.now) mid.at x) here
+              ∙ ap (λ (x : ℕ). d + x) (ready_count bs (length old.out.now) mid.at i k n (turns_from turns (t + 1)) y)
+              ∙ ap (λ (x : ℕ). d + suc (gathered bs (length old.out.now) x (turns_from turns (t + 1)))) (sym (was y).next)
               ∙ omega (arith, q);
         })
         (λ y. absurd (e (omega (arith, (was_not y).next))))

@@ -4,9 +4,10 @@ use Rattle.frame.specs.Frames.{constraint_at}
 use Rattle.frame.specs.Questions.{asked}
 use Rattle.frame.specs.Files.{count_m, count_j, joints_at, second, places_from, halves_from, decode, file_questions}
 use Rattle.schedules.specs.Print.{turn_line, turn_lines}
-use Rattle.print_fields.specs.Puts.{Put, longest}
+use Rattle.print_fields.specs.Puts.{longest}
 use Rattle.printing.specs.declared.Ends.{Ends}
-use Rattle.printing.specs.declared.Gathered.{Gathered}
+use Rattle.writer.specs.declared.Writer.{Writer}
+use Rattle.writer.specs.Wrote.{Wrote}
 
 -- ---- where a constraint's endpoints stand
 
@@ -62,7 +63,7 @@ turns_from turns t = drop (3 * t) turns
 unfoldable pub lines_of : List ℕ → List ℕ → ℕ → List ℕ
 lines_of bs turns d = turn_lines (decode bs) (take (3 * d) turns)
 
--- from the buffer `old` to `new`: from turn `first` on, the lines of as many turns as are ready
-pub record Lines (bs turns : List ℕ) (first : ℕ) (old : List ℕ) (at : ℕ) (new : List ℕ) (r : Gathered) : Type 0 where
-  pub put : Put (lines_of bs (turns_from turns first) (gathered bs (length old) at (turns_from turns first))) old at new r.at
-  pub turn : r.turn ≡ first + gathered bs (length old) at (turns_from turns first)
+-- written from turn `first` on: the lines of as many turns as are ready; r is the first turn that is left
+pub record Lines (bs turns : List ℕ) (first : ℕ) (old new : Writer) (r : ℕ) : Type 0 where
+  pub wrote : Wrote (lines_of bs (turns_from turns first) (gathered bs (length old.out.now) old.at (turns_from turns first))) old new
+  pub turn : r ≡ first + gathered bs (length old.out.now) old.at (turns_from turns first)

@@ -1,7 +1,7 @@
 // Writing into lent bytes, one text behind another. Internal: the caller has room.
 #![tactic(auto)]
 
-ghost use Rattle.std.specs.Prelude.{◌≡◌, ◌∷◌, [], ◌+◌, ◌≤◌, ◌<◌, length};
+ghost use Rattle.std.specs.Prelude.{◌≡◌, ◌∷◌, [], ◌+◌, ◌≤◌, ◌<◌, leb, length};
 ghost use Rattle.lists.specs.Basics.{put};
 ghost use Rattle.writer.specs.Wrote.{Wrote};
 
@@ -13,6 +13,13 @@ pub struct Writer<'a> {
 }
 
 impl Writer<'_> {
+    // Are `most` bytes left?
+    pub fn has_room(&self, most: usize) -> bool
+        ensures { result ≡ leb (self.now.at + most) (length self.now.out.now) }
+    {
+        most <= self.out.len() && self.at <= self.out.len() - most
+    }
+
     // One byte.
     pub fn put_byte(&mut self, byte: u8)
         requires { self.old.at < length self.old.out.now }

@@ -2,13 +2,12 @@
 use Rattle.lift_print.proofs.Prints.{frame_printed, refusal_printed}
 use Rattle.lift_print.proofs.put_lift.Goals as goal
 
-pub returns-in-Frame : goal.returns-in-Frame
-returns-in-Frame c =
-    let a = c.args in
-    frame_printed a.seed a.bodies a.manifolds a.joints a.out.now c.generate-answer.new.bytes c.requires c.in-Frame.length c.in-Frame.ensures
+pub returns-in-Ok : goal.returns-in-Ok
+returns-in-Ok c =
+    let s = c.args.wanted.sizes in
+    frame_printed c.args.wanted.seed s.bodies s.manifolds s.joints c.args.out.now c.generate.new.bytes c.requires c.in-Ok.length c.in-Ok.ensures
 
-pub returns-in-Refused : goal.returns-in-Refused
-returns-in-Refused c =
-    let a = c.args in
-    let p = c.put_refusal in
-    refusal_printed a.seed a.bodies a.manifolds a.joints a.out.now c.generate-answer.new.bytes c.requires c.in-Refused.number p.new.out p.result c.in-Refused.ensures p.ensures
+pub returns-in-Err : goal.returns-in-Err
+returns-in-Err c =
+    let s = c.args.wanted.sizes in
+    refusal_printed c.args.wanted.seed s.bodies s.manifolds s.joints c.args.out.now c.generate.new.bytes c.requires c.in-Err.refusal _ _ c.in-Err.ensures c.put_refusal.ensures
