@@ -11,7 +11,7 @@ pub mod refusal;
 
 ghost use Rattle.std.specs.Prelude.{◌≡◌, ◌&&◌, ◌||◌, map, ◌+◌, ◌-◌, ◌*◌, ◌/◌, ◌%◌, ◌≤◌, ◌<◌, leb, ltb, eqb, length, get_or, take, drop, replicate};
 ghost use Rattle.lists.specs.Basics.{all};
-ghost use Rattle.frame.specs.Frames.{constraint, constraints_of, sound, conflicts, flag_of};
+ghost use Rattle.frame.specs.Frames.{constraints_of, sound, conflicts, flag_of};
 ghost use Rattle.frame.specs.Questions.{asked, few_each, bits};
 ghost use Rattle.frame.specs.Files.{byte, half, word, second, pairs_from, enabled_from, count_m, count_j, joints_at, live_in, ends_at, head_questions};
 ghost use Rattle.frame.specs.Joints.{JointsRead, Passed};
@@ -398,16 +398,6 @@ pub fn live_at(enabled: &[u8], i: usize) -> bool
     ensures { result ≡ eqb (get_or enabled.now i 1) 1 }
 {
     enabled.get(i).copied().unwrap_or(1) == 1
-}
-
-// Question 7 of one constraint.
-pub fn sound_one(bodies: usize, live: bool, a: u16, b: u16) -> bool
-    ensures { result ≡ sound bodies (constraint live a b) }
-{
-    if !live {
-        return true;
-    }
-    ((a as usize) < bodies) & ((b as usize) < bodies) & (a != b)
 }
 
 // Question 7 of a list of endpoint pairs; those with an enabled byte 0 are not looked at.

@@ -57,16 +57,6 @@ pub fn ends_fit(bodies: usize, ends: &[u16]) -> bool
     distinct_below(ends, bodies)
 }
 
-// Question 7 of one constraint.
-pub fn sound_ends(bodies: usize, live: bool, ends: &[u16]) -> bool
-    ensures { result ≡ sound bodies (record { ends = ends.now; live = live }) }
-{
-    if !live {
-        return true;
-    }
-    ends_fit(bodies, ends)
-}
-
 // Question 7 of constraints by their counts; those with an enabled byte 0 are not looked at.
 pub fn all_fit(bodies: usize, ends: &[u16], counts: &[u8], enabled: &[u8]) -> bool
     requires { end_count counts.now ≤ length ends.now }
