@@ -1,9 +1,10 @@
 -- Answers as numbers: plans, positions, and the bodies that a take hands.
-use Rattle.std.specs.Prelude.{ℕ, List, [], ◌∷◌, get_or}
+use Rattle.std.specs.Prelude.{ℕ, List, [], ◌∷◌, get_or, Result}
+use Rattle.std.specs.Borrow.{Bor}
 use Rattle.lists.specs.Basics.{one}
+use Rattle.frame.specs.declared.refusal.Refusal.{Refusal}
 use Rattle.constraint_coloring.specs.declared.ConstraintColoring.{ConstraintColoring}
-use Rattle.constraint_coloring.specs.declared.Positions.{Positions}
-use Rattle.constraint_coloring.specs.declared.Positions.TheVariants as positions
+use Rattle.constraint_coloring.specs.Calls.{positions_values}
 use Rattle.multi_coloring.specs.declared.MultiColoring.{MultiColoring}
 use Rattle.colored_bodies.specs.declared.multi.TakenAt.{TakenAt}
 use Rattle.colored_bodies.specs.declared.Take.{Take}
@@ -17,9 +18,8 @@ abbrev pub plan_numbers : ConstraintColoring → List ℕ
 plan_numbers p = p.body_count ∷ p.constraint_count ∷ p.color_count ∷ p.max_color_constraint_count ∷ []
 
 -- the positions of a constraint; both 0 where they are refused
-abbrev pub position_numbers : Positions → List ℕ
-position_numbers (positions.At a b) = a ∷ b ∷ []
-position_numbers (positions.Refused n) = 0 ∷ 0 ∷ []
+abbrev pub position_numbers : Result (Bor (List ℕ)) Refusal → List ℕ
+position_numbers answer = get_or (positions_values answer) 0 0 ∷ get_or (positions_values answer) 1 0 ∷ []
 
 -- the bodies that a take hands: a body and 1 for "dynamic" or 0 for "read-only", twice; all 0 where it is refused
 abbrev pub handed_numbers : Take → List ℕ
@@ -29,10 +29,15 @@ handed_numbers (take.Refused n) = 0 ∷ 0 ∷ 0 ∷ 0 ∷ []
 -- ---- of constraints that have a count each
 
 abbrev pub multi_plan_of_numbers : List ℕ → MultiColoring
-multi_plan_of_numbers p = record { body_count = get_or p 0 0; constraint_count = get_or p 1 0; color_count = get_or p 2 0; max_color_constraint_count = get_or p 3 0 }
+multi_plan_of_numbers p = record { plan = plan_of_numbers p }
 
 abbrev pub multi_plan_numbers : MultiColoring → List ℕ
-multi_plan_numbers p = p.body_count ∷ p.constraint_count ∷ p.color_count ∷ p.max_color_constraint_count ∷ []
+multi_plan_numbers p = plan_numbers p.plan
+
+-- two to four positions in four places; those past them are 0, and all are where they are refused
+abbrev pub places_numbers : Result (Bor (List ℕ)) Refusal → List ℕ
+places_numbers answer =
+    get_or (positions_values answer) 0 0 ∷ get_or (positions_values answer) 1 0 ∷ get_or (positions_values answer) 2 0 ∷ get_or (positions_values answer) 3 0 ∷ []
 
 -- the bodies that a take of two to four positions hands: four times a body and 1 for "dynamic" or 0 for "read-only"; 0 past the last
 abbrev pub taken_numbers : TakenAt → List ℕ

@@ -1,17 +1,16 @@
 // Answers as numbers, for the calls of C. Internal to the boundary.
 #![tactic(auto)]
 
-ghost use Rattle.std.specs.Prelude.{◌≡◌, cond, eqb, get_or};
+ghost use Rattle.std.specs.Prelude.{◌≡◌, cond, eqb, length, get_or};
 ghost use Rattle.colored_bodies.specs.Answers.{take_number, with_bodies, Placed};
-ghost use Rattle.constraint_coloring.specs.Calls.{positions_number};
-ghost use Rattle.multi_coloring.specs.Calls.{places_number, places_values, places_count};
-ghost use Rattle.answer_numbers.specs.Numbers.{plan_of_numbers, multi_plan_of_numbers, position_numbers, handed_numbers, taken_numbers};
+ghost use Rattle.frame.specs.Refusals.{refused_by};
+ghost use Rattle.constraint_coloring.specs.Calls.{positions_values};
+ghost use Rattle.answer_numbers.specs.Numbers.{plan_of_numbers, plan_numbers, position_numbers, places_numbers, handed_numbers, taken_numbers};
 
 use colored_bodies::Marked;
 use colored_bodies::multi::TakenAt;
-use constraint_coloring::{ConstraintColoring, Positions};
-use frame::Frame;
-use multi_coloring::{MultiColoring, MultiPositions};
+use constraint_coloring::ConstraintColoring;
+use frame::{Frame, Refusal};
 
 // The plan that four numbers give.
 pub fn plan_from(plan: &[usize; 4]) -> ConstraintColoring
@@ -23,6 +22,18 @@ pub fn plan_from(plan: &[usize; 4]) -> ConstraintColoring
         color_count: plan[2],
         max_color_constraint_count: plan[3],
     }
+}
+
+// And its four numbers.
+pub fn numbers_from(plan: ConstraintColoring) -> [usize; 4]
+    ensures { result ≡ plan_numbers plan }
+{
+    [
+        plan.body_count,
+        plan.constraint_count,
+        plan.color_count,
+        plan.max_color_constraint_count,
+    ]
 }
 
 // Where the part of a group starts, if it is not empty.
@@ -38,18 +49,25 @@ pub fn part_start(offsets: &[u16], group: usize, size: usize) -> usize
     offsets[group] as usize
 }
 
-// The answer of a lookup of positions as numbers.
-pub fn locate(answer: Positions, places: &mut [u16; 2]) -> u8
-    ensures { (result ≡ positions_number answer) × (places.new ≡ position_numbers answer) }
+// A position that was handed back, 0 past the last.
+fn place_at(places: &[u16], place: usize) -> u16
+    ensures { result ≡ get_or places.now place 0 }
+{
+    places.get(place).copied().unwrap_or(0)
+}
+
+// The answer of a lookup of two positions as numbers.
+pub fn locate(answer: Result<&[u16], Refusal>, places: &mut [u16; 2]) -> u8
+    ensures { (result ≡ refused_by answer) × (places.new ≡ position_numbers answer) }
 {
     match answer {
-        Positions::At(a, b) => {
-            *places = [a, b];
+        Ok(found) => {
+            *places = [place_at(found, 0), place_at(found, 1)];
             0
         }
-        Positions::Refused(n) => {
+        Err(refusal) => {
             *places = [0, 0];
-            n
+            refusal.number()
         }
     }
 }
@@ -85,33 +103,29 @@ pub fn hand(
     }
 }
 
-// The plan with counts that four numbers give.
-pub fn multi_plan_from(plan: &[usize; 4]) -> MultiColoring
-    ensures { result ≡ multi_plan_of_numbers plan.now }
-{
-    MultiColoring {
-        body_count: plan[0],
-        constraint_count: plan[1],
-        color_count: plan[2],
-        max_color_constraint_count: plan[3],
-    }
-}
-
-// The answer of a lookup of two to four positions as numbers.
-pub fn locate_places(answer: MultiPositions, places: &mut [u16; 4], count: &mut usize) -> u8
-    ensures { (result ≡ places_number answer) × (places.new ≡ places_values answer) × (count.new ≡ places_count answer) }
+// The answer of a lookup of two to four positions as numbers, and how many they are.
+pub fn locate_places(
+    answer: Result<&[u16], Refusal>,
+    places: &mut [u16; 4],
+    count: &mut usize,
+) -> u8
+    ensures { (result ≡ refused_by answer) × (places.new ≡ places_numbers answer) × (count.new ≡ length (positions_values answer)) }
 {
     match answer {
-        MultiPositions::At(found) => {
-            let numbers = found.places;
-            *places = numbers;
-            *count = found.count;
+        Ok(found) => {
+            *places = [
+                place_at(found, 0),
+                place_at(found, 1),
+                place_at(found, 2),
+                place_at(found, 3),
+            ];
+            *count = found.len();
             0
         }
-        MultiPositions::Refused(n) => {
+        Err(refusal) => {
             *places = [0, 0, 0, 0];
             *count = 0;
-            n
+            refusal.number()
         }
     }
 }

@@ -1,17 +1,19 @@
 -- What the exported calls answer: each cites the contract of the call it wraps, and gives that call's answer as numbers.
-use Rattle.std.specs.Prelude.{ℕ, ◌≡◌, cond, List, [], ◌∷◌, eqb, length, get_or, take, drop}
-use Rattle.lists.specs.Basics.{one}
+use Rattle.std.specs.Prelude.{ℕ, ◌≡◌, cond, List, [], ◌∷◌, eqb, length, get_or, take, drop, Result}
+use Rattle.std.specs.Borrow.{Bor}
+use Rattle.lists.specs.Basics.{one, four}
+use Rattle.frame.specs.declared.refusal.Refusal.{Refusal}
+use Rattle.frame.specs.Refusals.{refused_by}
 use Rattle.constraint_coloring.specs.declared.Update.{Update}
-use Rattle.constraint_coloring.specs.declared.Positions.{Positions}
+use Rattle.constraint_coloring.specs.declared.ConstraintColoring.{ConstraintColoring}
 use Rattle.plan_questions.specs.Plans.{Tables, group_part}
-use Rattle.constraint_coloring.specs.Calls.{update_number, update_changed, plan_after, Updated, positions_number, Located}
+use Rattle.constraint_coloring.specs.Calls.{update_number, update_changed, plan_after, Updated, positions_values, Located}
 use Rattle.colored_bodies.specs.declared.BodyBinding.{BodyBinding}
 use Rattle.colored_bodies.specs.declared.Take.{Take}
 use Rattle.colored_bodies.specs.declared.multi.TakenAt.{TakenAt}
 use Rattle.colored_bodies.specs.Answers.{take_number, Takes, TakesAt}
-use Rattle.multi_coloring.specs.declared.MultiUpdate.{MultiUpdate}
-use Rattle.multi_coloring.specs.declared.MultiPositions.{MultiPositions}
-use Rattle.multi_coloring.specs.Calls.{multi_number, multi_changed, multi_plan_after, MultiUpdated, places_number, places_values, places_count, MultiLocated}
+use Rattle.multi_coloring.specs.declared.MultiColoring.{MultiColoring}
+use Rattle.multi_coloring.specs.Calls.{MultiUpdated, MultiLocated}
 use Rattle.answer_numbers.specs.Numbers.{plan_of_numbers, plan_numbers, multi_plan_of_numbers, multi_plan_numbers, position_numbers, handed_numbers, taken_numbers}
 use Rattle.run_answer.specs.declared.Report.{Report}
 use Rattle.run_answer.specs.declared.Answer.{Answer}
@@ -22,7 +24,7 @@ use Rattle.frame_run.specs.Calls.{Lent, Ran}
 
 -- an update of a plan with the tables t, which are left as u
 pub record Updates (plan flags pairs : List ℕ) (t u : Tables) (number changed : ℕ) (left : List ℕ) : Type 0 where
-  pub answer : Update
+  pub answer : Update ConstraintColoring
   pub updated : Updated (plan_of_numbers plan) flags pairs t u answer
   pub refusal : number ≡ update_number answer
   pub change : changed ≡ one (update_changed answer)
@@ -36,28 +38,28 @@ pub record Found (n : ℕ) (offsets table : List ℕ) (k start size : ℕ) : Typ
 
 -- a lookup of the positions of constraint r of n
 pub record Locates (n : ℕ) (table : List ℕ) (r number : ℕ) (places : List ℕ) : Type 0 where
-  pub answer : Positions
+  pub answer : Result (Bor (List ℕ)) Refusal
   pub located : Located n table r answer
-  pub refusal : number ≡ positions_number answer
+  pub refusal : number ≡ refused_by answer
   pub numbers : places ≡ position_numbers answer
 
 -- ---- the same of a plan with counts
 
 -- an update of a plan with the tables t and the counts c, which are left as u and c'
 pub record MultiUpdates (plan flags ends counts : List ℕ) (t : Tables) (c : List ℕ) (u : Tables) (c' : List ℕ) (number changed : ℕ) (left : List ℕ) : Type 0 where
-  pub answer : MultiUpdate
+  pub answer : Update MultiColoring
   pub updated : MultiUpdated (multi_plan_of_numbers plan) flags ends counts t c u c' answer
-  pub refusal : number ≡ multi_number answer
-  pub change : changed ≡ one (multi_changed answer)
-  pub plan_left : left ≡ multi_plan_numbers (multi_plan_after (multi_plan_of_numbers plan) answer)
+  pub refusal : number ≡ update_number answer
+  pub change : changed ≡ one (update_changed answer)
+  pub plan_left : left ≡ multi_plan_numbers (plan_after (multi_plan_of_numbers plan) answer)
 
 -- a lookup of the positions of constraint r of n, and how many they are
 pub record MultiLocates (n : ℕ) (counts table : List ℕ) (r number : ℕ) (places : List ℕ) (count : ℕ) : Type 0 where
-  pub answer : MultiPositions
+  pub answer : Result (Bor (List ℕ)) Refusal
   pub located : MultiLocated n counts table r answer
-  pub refusal : number ≡ places_number answer
-  pub numbers : places ≡ places_values answer
-  pub counted : count ≡ places_count answer
+  pub refusal : number ≡ refused_by answer
+  pub numbers : places ≡ four (positions_values answer)
+  pub counted : count ≡ length (positions_values answer)
 
 -- ---- bindings
 

@@ -16,6 +16,7 @@ use colored_bodies::BodyBinding;
 use frame::Frame;
 use frame::refusal::refusal_number;
 use frame_file::Sizes;
+use plan_questions::PlanTables;
 
 // The islands of a frame, and how many; answers the refusal or 0.
 #[unsafe(no_mangle)]
@@ -85,9 +86,7 @@ pub extern "C" fn engkarupi_update(
         colored_constraints.new color_body_offsets.new color_bodies.new constraint_body_positions.new) result changed.new plan.new }
 {
     let before = answer_numbers::plan_from(plan);
-    let answer = before.update(
-        flags,
-        pairs,
+    let mut tables = PlanTables {
         dynamic_bodies,
         endpoints,
         body_offsets,
@@ -101,16 +100,11 @@ pub extern "C" fn engkarupi_update(
         color_body_offsets,
         color_bodies,
         constraint_body_positions,
-    );
-    let after = constraint_coloring::plan_after(before, answer);
-    *plan = [
-        after.body_count,
-        after.constraint_count,
-        after.color_count,
-        after.max_color_constraint_count,
-    ];
-    *changed = constraint_coloring::is_changed(answer);
-    constraint_coloring::refusal_of(answer)
+    };
+    let answer = before.update(flags, pairs, &mut tables);
+    *plan = answer_numbers::numbers_from(answer.plan_after(before));
+    *changed = answer.is_changed() as u8;
+    answer.refusal()
 }
 
 // The members of a group: where they start in their table; answers how many.

@@ -6,6 +6,8 @@ ghost use Rattle.plan_questions.specs.Plans.{tables_of};
 ghost use Rattle.boundary.specs.Exports.{MultiUpdates, MultiLocates, TookAt};
 
 use frame::Frame;
+use multi_coloring::MultiColoring;
+use plan_questions::PlanTables;
 
 // The islands of a frame whose joints have a count each, and how many; answers the refusal or 0.
 #[unsafe(no_mangle)]
@@ -78,14 +80,12 @@ pub extern "C" fn engkarupi_update_multi(
         color_stamps.new body_stamps.new color_offsets.new
         colored_constraints.new color_body_offsets.new color_bodies.new constraint_body_positions.new) counts.new result changed.new plan.new }
 {
-    let before = answer_numbers::multi_plan_from(plan);
-    let answer = before.update(
-        flags,
-        ends,
-        counts_in,
+    let before = MultiColoring {
+        plan: answer_numbers::plan_from(plan),
+    };
+    let mut tables = PlanTables {
         dynamic_bodies,
         endpoints,
-        counts,
         body_offsets,
         body_constraints,
         scratch_offsets,
@@ -97,16 +97,11 @@ pub extern "C" fn engkarupi_update_multi(
         color_body_offsets,
         color_bodies,
         constraint_body_positions,
-    );
-    let after = multi_coloring::plan_after(before, answer);
-    *plan = [
-        after.body_count,
-        after.constraint_count,
-        after.color_count,
-        after.max_color_constraint_count,
-    ];
-    *changed = multi_coloring::is_changed(answer);
-    multi_coloring::refusal_of(answer)
+    };
+    let answer = before.update(flags, ends, counts_in, counts, &mut tables);
+    *plan = answer_numbers::numbers_from(answer.plan_after(before).plan);
+    *changed = answer.is_changed() as u8;
+    answer.refusal()
 }
 
 // The positions of a constraint among its group's bodies, and how many; answers the refusal or 0.
@@ -121,7 +116,9 @@ pub extern "C" fn engkarupi_positions_multi(
 ) -> u8
     ensures { MultiLocates (get_or plan.now 1 0) counts.now constraint_body_positions.now constraint result places.new count.new }
 {
-    let planned = answer_numbers::multi_plan_from(plan);
+    let planned = MultiColoring {
+        plan: answer_numbers::plan_from(plan),
+    };
     let answer = planned.body_positions_for_constraint(
         counts,
         constraint_body_positions,

@@ -10,14 +10,13 @@ use Rattle.frame.specs.Frames.{end_count}
 use Rattle.groups.specs.Groups.{members, flatten}
 use Rattle.groups.proofs.Members.{members-few}
 use Rattle.plan_questions.specs.Plans.{Tables}
-use Rattle.plan_questions.specs.Lent.{lengths_of}
 use Rattle.island_numbers.specs.Numbers.{keys_of, leading, within, ends_among, counts_among}
 use Rattle.island_numbers.proofs.Sorting.{leading_taken, island_part, island_end, island_inside}
 use Rattle.island_numbers.proofs.Among.{ends-part, ends-next, ends_inside, counts-part, counts-next, counts_inside, ends_of_pairs, counts_of_pairs, ends_of-counted, counts_of_counted}
 use Rattle.group_run.proofs.Appends.{parts_next}
 use Rattle.one_island.specs.Island.{island_calls, Ready}
 use Rattle.island_run.specs.Islands.{calls_at, calls_of, Prepared}
-use Rattle.island_run.proofs.Rooms.{room_kept}
+use Rattle.island_run.proofs.Rooms.{SameLengths, room_kept}
 
 pub islands-first : (types flags counts ends labels : List ℕ) (n : ℕ) → join_map (calls_at types flags counts ends labels) (range_from 0 (n - 0)) ≡ calls_of types flags counts ends labels n
 unfolding calls_of
@@ -133,7 +132,7 @@ module _ {islands : ℕ} {flags counts ends labels numbers island_ends island_co
         ∙ ap (λ (k : ℕ). take (length (ends_among counts ends part)) (drop k (ends_among counts ends numbers))) fr
         ∙ ends-part counts ends numbers start (end - start)
 
-    pub ready : (u : Tables) (left : List ℕ) → lengths_of u ≡ lengths_of t → length left ≡ length plan_counts → Ready flags pc (take (from + m - from) (drop from es)) (length part) u left
+    pub ready : (u : Tables) (left : List ℕ) → SameLengths t u → length left ≡ length plan_counts → Ready flags pc (take (from + m - from) (drop from es)) (length part) u left
     ready u left s k = rw (ends_taken, part_counts, part_is) (record {
       accepted = p.accepted i inside;
       ranked = p.ranked i inside;

@@ -47,4 +47,4 @@ run_islands-tally-requires-clause-known c =
 pub returns : goal.returns
 returns c =
     let f = c.fill-filling in
-    ran c.args.frame.now c.requires.decodable.file f.new.types f.new.flags f.new.pairs f.new.counts f.new.enabled _ _ f.new.numbers f.result f.ensures c.args.manifolds c.requires.decodable.manifolds _ _ _ _ c.run_islands-tally.ensures c.answer_of.ensures
+    ran c.args.frame.now c.requires.decodable.file f.new.types f.new.flags f.new.pairs f.new.counts f.new.enabled _ _ f.new.numbers f.result f.ensures c.args.manifolds c.requires.decodable.manifolds _ _ _ _ c.run_islands-tally.ensures.appended c.answer_of.ensures

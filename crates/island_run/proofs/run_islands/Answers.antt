@@ -3,7 +3,7 @@ use Rattle.groups.proofs.Tables.{flatten-zero}
 use Rattle.group_run.proofs.Appends.{going_first, going_room, going_more}
 use Rattle.island_numbers.specs.Numbers.{counts_among}
 use Rattle.island_run.proofs.Loop.{islands-first, first-ends, part_count, next_start, part_inside, part-few, counts_there, counts_taken, counts-few, ends_next, ends_there, ready, island_next}
-use Rattle.island_run.proofs.Rooms.{same_twice}
+use Rattle.island_run.proofs.Rooms.{lengths_same, same_twice}
 use Rattle.island_run.proofs.run_islands.Goals as goal
 use Rattle.island_run.proofs.run_islands.Goals.{After-part_end-end, After-count_ends}
 
@@ -55,7 +55,7 @@ pub run_island-tally-requires-clause-ready : goal.run_island-tally-requires-clau
 run_island-tally-requires-clause-ready c =
     ready c.requires.prepared c.loop-island-test.true c.loop-island.invariant.1 c.part_end-end.ensures
     (counts (goal.at.run_island-tally-requires-clause-ready c).After-count_ends) c.collect.ensures.0 c.loop-island.invariant.2 c.count_ends.ensures _ _
-    c.loop-island.invariant.5 c.loop-island.auto.plan_counts
+    (lengths_same c.loop-island.invariant.5) c.loop-island.auto.plan_counts
 
 pub run_island-tally-requires-clause-room : goal.run_island-tally-requires-clause-room
 run_island-tally-requires-clause-room c =
