@@ -1,13 +1,13 @@
 -- Answers as numbers: plans, positions, and the bodies that a take hands.
-use Rattle.std.specs.Prelude.{ℕ, List, [], ◌∷◌, get_or}
+use Rattle.std.specs.Prelude.{ℕ, Result, Ok, Err, List, [], ◌∷◌, get_or}
 use Rattle.lists.specs.Basics.{one}
 use Rattle.constraint_coloring.specs.declared.ConstraintColoring.{ConstraintColoring}
 use Rattle.constraint_coloring.specs.declared.Positions.{Positions}
 use Rattle.constraint_coloring.specs.declared.Positions.TheVariants as positions
 use Rattle.multi_coloring.specs.declared.MultiColoring.{MultiColoring}
 use Rattle.colored_bodies.specs.declared.multi.TakenAt.{TakenAt}
-use Rattle.colored_bodies.specs.declared.Take.{Take}
-use Rattle.colored_bodies.specs.declared.Take.TheVariants as take
+use Rattle.colored_bodies.specs.declared.Taken.{Taken}
+use Rattle.frame.specs.declared.refusal.Refusal.{Refusal}
 
 -- a plan as four numbers: bodies, constraints, groups, and the constraints of the largest group
 abbrev pub plan_of_numbers : List ℕ → ConstraintColoring
@@ -22,9 +22,9 @@ position_numbers (positions.At a b) = a ∷ b ∷ []
 position_numbers (positions.Refused n) = 0 ∷ 0 ∷ []
 
 -- the bodies that a take hands: a body and 1 for "dynamic" or 0 for "read-only", twice; all 0 where it is refused
-abbrev pub handed_numbers : Take → List ℕ
-handed_numbers (take.Taken x p y q) = x ∷ one p ∷ y ∷ one q ∷ []
-handed_numbers (take.Refused n) = 0 ∷ 0 ∷ 0 ∷ 0 ∷ []
+abbrev pub handed_numbers : Result Taken Refusal → List ℕ
+handed_numbers (Ok t) = t.first ∷ one t.first_dynamic ∷ t.second ∷ one t.second_dynamic ∷ []
+handed_numbers (Err r) = 0 ∷ 0 ∷ 0 ∷ 0 ∷ []
 
 -- ---- of constraints that have a count each
 
@@ -34,8 +34,10 @@ multi_plan_of_numbers p = record { body_count = get_or p 0 0; constraint_count =
 abbrev pub multi_plan_numbers : MultiColoring → List ℕ
 multi_plan_numbers p = p.body_count ∷ p.constraint_count ∷ p.color_count ∷ p.max_color_constraint_count ∷ []
 
--- the bodies that a take of two to four positions hands: four times a body and 1 for "dynamic" or 0 for "read-only"; 0 past the last
-abbrev pub taken_numbers : TakenAt → List ℕ
-taken_numbers t =
+-- the bodies that a take of two to four positions hands: four times a body and 1 for "dynamic" or 0 for "read-only"; 0 past the last, and
+-- all 0 where it is refused
+abbrev pub taken_numbers : Result TakenAt Refusal → List ℕ
+taken_numbers (Err r) = 0 ∷ 0 ∷ 0 ∷ 0 ∷ 0 ∷ 0 ∷ 0 ∷ 0 ∷ []
+taken_numbers (Ok t) =
     get_or t.bodies 0 0 ∷ get_or t.dynamic 0 0 ∷ get_or t.bodies 1 0 ∷ get_or t.dynamic 1 0
     ∷ get_or t.bodies 2 0 ∷ get_or t.dynamic 2 0 ∷ get_or t.bodies 3 0 ∷ get_or t.dynamic 3 0 ∷ []

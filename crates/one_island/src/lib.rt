@@ -11,6 +11,7 @@ ghost use Rattle.one_island.specs.Island.{island_calls, ranks, Ready, Colored};
 
 use constraint_coloring::ConstraintColoring;
 use multi_coloring::MultiColoring;
+use group_run::PlannedIsland;
 use turn_table::Tally;
 
 // The groups of a plan with counts are found as those of a plan of pairs with the same numbers.
@@ -257,7 +258,7 @@ pub fn run_island(
     // What an update leaves in this table is not promised, so the bounds of the constraints are filled again.
     let bounds = &mut body_constraints[..2 * counts.len()];
     parts::bound_counts(counts, bounds);
-    group_run::run_groups(
+    let planned = PlannedIsland {
         island,
         numbers,
         types,
@@ -268,8 +269,7 @@ pub fn run_island(
         colored_constraints,
         color_body_offsets,
         color_bodies,
-        constraint_body_positions,
-        turns,
-        tally,
-    )
+        positions: constraint_body_positions,
+    };
+    group_run::run_groups(planned, turns, tally)
 }

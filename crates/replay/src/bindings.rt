@@ -2,25 +2,21 @@
 ghost use Rattle.std.specs.Prelude.{◌≤◌};
 
 use crate::questions::{bytes_at, copy_numbers};
-use colored_bodies::{BodyBinding, Take};
-use frame::Frame;
+use colored_bodies::{BodyBinding, Taken};
+use frame::refusal::refusal_number;
+use frame::{Frame, Refusal};
 use records::{after, least, number_at, put, put_half};
 
-fn put_take(take: Take, out: &mut [u8], at: usize) -> usize {
+fn put_take(take: Result<Taken, Refusal>, out: &mut [u8], at: usize) -> usize {
     match take {
-        Take::Taken {
-            first,
-            first_dynamic,
-            second,
-            second_dynamic,
-        } => {
+        Ok(taken) => {
             let number = put(out, at, 0);
-            let one = put_half(out, number, first);
-            let marked = put(out, one, first_dynamic as u8);
-            let two = put_half(out, marked, second);
-            put(out, two, second_dynamic as u8)
+            let one = put_half(out, number, taken.first);
+            let marked = put(out, one, taken.first_dynamic as u8);
+            let two = put_half(out, marked, taken.second);
+            put(out, two, taken.second_dynamic as u8)
         }
-        Take::Refused(n) => put(out, at, n),
+        Err(refusal) => put(out, at, refusal.number()),
     }
 }
 
@@ -69,8 +65,7 @@ fn take_all(
         let a = number_at(question, place);
         let b = number_at(question, after(question, place, 1));
         let step = binding.pair_at(a, b);
-        let take = step.take;
-        next = put_take(take, out, next);
+        next = put_take(step.taken, out, next);
         binding = step.binding;
         next = put_binding(&binding, out, next);
         place = after(question, place, 2);
@@ -85,7 +80,7 @@ fn bind_and_take(question: &[u8], list: &mut [u16], out: &mut [u8]) -> usize {
     copy_numbers(question, listed, list);
     let bound = BodyBinding::bind(types, list);
     let binding = bound.binding;
-    let refused = put(out, 0, bound.refusal);
+    let refused = put(out, 0, refusal_number(&bound.asked));
     let shown = put_binding(&binding, out, refused);
     take_all(
         binding,
