@@ -1,5 +1,5 @@
 -- Answers as numbers: plans, positions, and the bodies that a take hands.
-use Rattle.std.specs.Prelude.{ℕ, List, [], ◌∷◌, get_or, Result}
+use Rattle.std.specs.Prelude.{ℕ, Result, Ok, Err, List, [], ◌∷◌, get_or}
 use Rattle.std.specs.Borrow.{Bor}
 use Rattle.lists.specs.Basics.{one}
 use Rattle.frame.specs.declared.refusal.Refusal.{Refusal}
@@ -7,8 +7,7 @@ use Rattle.constraint_coloring.specs.declared.ConstraintColoring.{ConstraintColo
 use Rattle.constraint_coloring.specs.Calls.{positions_values}
 use Rattle.multi_coloring.specs.declared.MultiColoring.{MultiColoring}
 use Rattle.colored_bodies.specs.declared.multi.TakenAt.{TakenAt}
-use Rattle.colored_bodies.specs.declared.Take.{Take}
-use Rattle.colored_bodies.specs.declared.Take.TheVariants as take
+use Rattle.colored_bodies.specs.declared.Taken.{Taken}
 
 -- a plan as four numbers: bodies, constraints, groups, and the constraints of the largest group
 abbrev pub plan_of_numbers : List ℕ → ConstraintColoring
@@ -22,9 +21,9 @@ abbrev pub position_numbers : Result (Bor (List ℕ)) Refusal → List ℕ
 position_numbers answer = get_or (positions_values answer) 0 0 ∷ get_or (positions_values answer) 1 0 ∷ []
 
 -- the bodies that a take hands: a body and 1 for "dynamic" or 0 for "read-only", twice; all 0 where it is refused
-abbrev pub handed_numbers : Take → List ℕ
-handed_numbers (take.Taken x p y q) = x ∷ one p ∷ y ∷ one q ∷ []
-handed_numbers (take.Refused n) = 0 ∷ 0 ∷ 0 ∷ 0 ∷ []
+abbrev pub handed_numbers : Result Taken Refusal → List ℕ
+handed_numbers (Ok t) = t.first ∷ one t.first_dynamic ∷ t.second ∷ one t.second_dynamic ∷ []
+handed_numbers (Err r) = 0 ∷ 0 ∷ 0 ∷ 0 ∷ []
 
 -- ---- of constraints that have a count each
 
@@ -39,8 +38,10 @@ abbrev pub places_numbers : Result (Bor (List ℕ)) Refusal → List ℕ
 places_numbers answer =
     get_or (positions_values answer) 0 0 ∷ get_or (positions_values answer) 1 0 ∷ get_or (positions_values answer) 2 0 ∷ get_or (positions_values answer) 3 0 ∷ []
 
--- the bodies that a take of two to four positions hands: four times a body and 1 for "dynamic" or 0 for "read-only"; 0 past the last
-abbrev pub taken_numbers : TakenAt → List ℕ
-taken_numbers t =
+-- the bodies that a take of two to four positions hands: four times a body and 1 for "dynamic" or 0 for "read-only"; 0 past the last, and
+-- all 0 where it is refused
+abbrev pub taken_numbers : Result TakenAt Refusal → List ℕ
+taken_numbers (Err r) = 0 ∷ 0 ∷ 0 ∷ 0 ∷ 0 ∷ 0 ∷ 0 ∷ 0 ∷ []
+taken_numbers (Ok t) =
     get_or t.bodies 0 0 ∷ get_or t.dynamic 0 0 ∷ get_or t.bodies 1 0 ∷ get_or t.dynamic 1 0
     ∷ get_or t.bodies 2 0 ∷ get_or t.dynamic 2 0 ∷ get_or t.bodies 3 0 ∷ get_or t.dynamic 3 0 ∷ []

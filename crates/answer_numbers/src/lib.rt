@@ -2,15 +2,14 @@
 #![tactic(auto)]
 
 ghost use Rattle.std.specs.Prelude.{◌≡◌, cond, eqb, length, get_or};
-ghost use Rattle.colored_bodies.specs.Answers.{take_number, with_bodies, Placed};
 ghost use Rattle.frame.specs.Refusals.{refused_by};
 ghost use Rattle.constraint_coloring.specs.Calls.{positions_values};
 ghost use Rattle.answer_numbers.specs.Numbers.{plan_of_numbers, plan_numbers, position_numbers, places_numbers, handed_numbers, taken_numbers};
 
-use colored_bodies::Marked;
+use colored_bodies::Taken;
 use colored_bodies::multi::TakenAt;
 use constraint_coloring::ConstraintColoring;
-use frame::{Frame, Refusal};
+use frame::Refusal;
 
 // The plan that four numbers give.
 pub fn plan_from(plan: &[usize; 4]) -> ConstraintColoring
@@ -72,33 +71,23 @@ pub fn locate(answer: Result<&[u16], Refusal>, places: &mut [u16; 2]) -> u8
     }
 }
 
-// The answer of a take of marks as numbers, with the bodies' numbers.
-pub fn hand(
-    bodies: &[u16; Frame::MAX_BODIES],
-    a: usize,
-    b: usize,
-    marked: Marked,
-    handed: &mut [u16; 4],
-) -> u8
-    requires { Placed a b marked }
-    ensures { (result ≡ take_number (with_bodies bodies.now a b marked)) × (handed.new ≡ handed_numbers (with_bodies bodies.now a b marked)) }
+// The answer of a take as numbers.
+pub fn hand(taken: Result<Taken, Refusal>, handed: &mut [u16; 4]) -> u8
+    ensures { (result ≡ refused_by taken) × (handed.new ≡ handed_numbers taken) }
 {
-    match marked {
-        Marked::Taken {
-            first_dynamic,
-            second_dynamic,
-        } => {
+    match taken {
+        Ok(taken) => {
             *handed = [
-                bodies[a],
-                first_dynamic as u16,
-                bodies[b],
-                second_dynamic as u16,
+                taken.first,
+                taken.first_dynamic as u16,
+                taken.second,
+                taken.second_dynamic as u16,
             ];
             0
         }
-        Marked::Refused(n) => {
+        Err(refusal) => {
             *handed = [0, 0, 0, 0];
-            n
+            refusal.number()
         }
     }
 }
@@ -131,20 +120,28 @@ pub fn locate_places(
 }
 
 // The answer of a take of two to four positions as numbers.
-pub fn hand_taken(taken: TakenAt, handed: &mut [u16; 8]) -> u8
-    ensures { (result ≡ taken.refusal) × (handed.new ≡ taken_numbers taken) }
+pub fn hand_taken(taken: Result<TakenAt, Refusal>, handed: &mut [u16; 8]) -> u8
+    ensures { (result ≡ refused_by taken) × (handed.new ≡ taken_numbers taken) }
 {
-    let bodies = taken.bodies;
-    let dynamic = taken.dynamic;
-    *handed = [
-        bodies[0],
-        dynamic[0] as u16,
-        bodies[1],
-        dynamic[1] as u16,
-        bodies[2],
-        dynamic[2] as u16,
-        bodies[3],
-        dynamic[3] as u16,
-    ];
-    taken.refusal
+    match taken {
+        Ok(taken) => {
+            let bodies = taken.bodies;
+            let dynamic = taken.dynamic;
+            *handed = [
+                bodies[0],
+                dynamic[0] as u16,
+                bodies[1],
+                dynamic[1] as u16,
+                bodies[2],
+                dynamic[2] as u16,
+                bodies[3],
+                dynamic[3] as u16,
+            ];
+            0
+        }
+        Err(refusal) => {
+            *handed = [0, 0, 0, 0, 0, 0, 0, 0];
+            refusal.number()
+        }
+    }
 }

@@ -7,8 +7,10 @@
 ghost use Rattle.std.specs.Prelude.{◌≡◌, [], ◌∷◌, length};
 ghost use Rattle.colored_bodies.specs.Answers.{Takes, TakesAt};
 
-use colored_bodies::multi::{MultiStep, TakenAt};
-use colored_bodies::{BodyBinding, Step, Take};
+use colored_bodies::multi::TakenAt;
+use colored_bodies::{BodyBinding, Step, Taken};
+use frame::Refusal;
+use frame::refusal::refusal_number;
 
 fn put(n: u64) {
     io::write_all(1, b" ");
@@ -21,34 +23,29 @@ fn show_bind(types: &[u8], indices: &[u16]) -> BodyBinding {
     io::write_all(1, b"bind");
     put(types.len() as u64);
     put(indices.len() as u64);
-    put(bound.refusal as u64);
+    put(refusal_number(&bound.asked) as u64);
     put(binding.count as u64);
     io::write_all(1, b"\n");
     binding
 }
 
-fn show_answer(take: Take) {
-    match take {
-        Take::Taken {
-            first,
-            first_dynamic,
-            second,
-            second_dynamic,
-        } => {
+fn show_answer(answer: Result<Taken, Refusal>) {
+    match answer {
+        Ok(taken) => {
             put(0);
-            put(first as u64);
-            put(first_dynamic as u64);
-            put(second as u64);
-            put(second_dynamic as u64);
+            put(taken.first as u64);
+            put(taken.first_dynamic as u64);
+            put(taken.second as u64);
+            put(taken.second_dynamic as u64);
         }
-        Take::Refused(n) => {
-            put(n as u64);
+        Err(refusal) => {
+            put(refusal.number() as u64);
         }
     }
 }
 
-fn show_step(step: Step, a: usize, b: usize) -> BodyBinding {
-    let answer = step.take;
+fn show_step(step: Step<Result<Taken, Refusal>>, a: usize, b: usize) -> BodyBinding {
+    let answer = step.taken;
     put(a as u64);
     put(b as u64);
     show_answer(answer);
@@ -62,14 +59,11 @@ fn show_take(binding: BodyBinding, a: usize, b: usize) -> BodyBinding {
 }
 
 // A take over a binding that this function keeps, and lends.
-fn take_kept(mut binding: BodyBinding, a: usize, b: usize) -> Step
-    ensures { Takes binding (a ∷ b ∷ []) result.take result.binding }
+fn take_kept(mut binding: BodyBinding, a: usize, b: usize) -> Step<Result<Taken, Refusal>>
+    ensures { Takes binding (a ∷ b ∷ []) result.taken result.binding }
 {
-    let take = colored_bodies::take_at(&mut binding, a, b);
-    Step {
-        binding: binding,
-        take: take,
-    }
+    let taken = colored_bodies::take_at(&mut binding, a, b);
+    Step { binding, taken }
 }
 
 fn show_take_at(binding: BodyBinding, a: usize, b: usize) -> BodyBinding {
@@ -78,19 +72,21 @@ fn show_take_at(binding: BodyBinding, a: usize, b: usize) -> BodyBinding {
 }
 
 // The refusal of a take of several positions, and the bodies that it hands.
-fn show_taken(taken: TakenAt) {
-    let bodies = taken.bodies;
-    let dynamic = taken.dynamic;
-    put(taken.refusal as u64);
-    for i in 0..4 {
-        if i < taken.count {
-            put(bodies[i] as u64);
-            put(dynamic[i] as u64);
+fn show_taken(answer: Result<TakenAt, Refusal>) {
+    put(refusal_number(&answer) as u64);
+    if let Ok(taken) = answer {
+        let bodies = taken.bodies;
+        let dynamic = taken.dynamic;
+        for i in 0..4 {
+            if i < taken.count {
+                put(bodies[i] as u64);
+                put(dynamic[i] as u64);
+            }
         }
     }
 }
 
-fn show_several(step: MultiStep, positions: &[u16]) -> BodyBinding {
+fn show_several(step: Step<Result<TakenAt, Refusal>>, positions: &[u16]) -> BodyBinding {
     put(positions.len() as u64);
     for p in positions {
         put(*p as u64);
@@ -105,14 +101,11 @@ fn show_bodies_at(binding: BodyBinding, positions: &[u16]) -> BodyBinding {
     show_several(binding.bodies_at(positions), positions)
 }
 
-fn several_kept(mut binding: BodyBinding, positions: &[u16]) -> MultiStep
+fn several_kept(mut binding: BodyBinding, positions: &[u16]) -> Step<Result<TakenAt, Refusal>>
     ensures { TakesAt binding positions.now result.taken result.binding }
 {
     let taken = colored_bodies::multi::take_bodies_at(&mut binding, positions);
-    MultiStep {
-        binding: binding,
-        taken: taken,
-    }
+    Step { binding, taken }
 }
 
 fn show_take_bodies_at(binding: BodyBinding, positions: &[u16]) -> BodyBinding {

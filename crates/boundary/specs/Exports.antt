@@ -1,17 +1,17 @@
 -- What the exported calls answer: each cites the contract of the call it wraps, and gives that call's answer as numbers.
-use Rattle.std.specs.Prelude.{ℕ, ◌≡◌, cond, List, [], ◌∷◌, eqb, length, get_or, take, drop, Result}
+use Rattle.std.specs.Prelude.{ℕ, ◌≡◌, cond, Result, List, [], ◌∷◌, eqb, length, get_or, take, drop}
 use Rattle.std.specs.Borrow.{Bor}
 use Rattle.lists.specs.Basics.{one, four}
-use Rattle.frame.specs.declared.refusal.Refusal.{Refusal}
-use Rattle.frame.specs.Refusals.{refused_by}
 use Rattle.constraint_coloring.specs.declared.Update.{Update}
 use Rattle.constraint_coloring.specs.declared.ConstraintColoring.{ConstraintColoring}
 use Rattle.plan_questions.specs.Plans.{Tables, group_part}
 use Rattle.constraint_coloring.specs.Calls.{update_number, update_changed, plan_after, Updated, positions_values, Located}
 use Rattle.colored_bodies.specs.declared.BodyBinding.{BodyBinding}
-use Rattle.colored_bodies.specs.declared.Take.{Take}
+use Rattle.colored_bodies.specs.declared.Taken.{Taken}
+use Rattle.frame.specs.declared.refusal.Refusal.{Refusal}
+use Rattle.frame.specs.Refusals.{refused_by}
 use Rattle.colored_bodies.specs.declared.multi.TakenAt.{TakenAt}
-use Rattle.colored_bodies.specs.Answers.{take_number, Takes, TakesAt}
+use Rattle.colored_bodies.specs.Answers.{Takes, TakesAt}
 use Rattle.multi_coloring.specs.declared.MultiColoring.{MultiColoring}
 use Rattle.multi_coloring.specs.Calls.{MultiUpdated, MultiLocated}
 use Rattle.answer_numbers.specs.Numbers.{plan_of_numbers, plan_numbers, multi_plan_of_numbers, multi_plan_numbers, position_numbers, handed_numbers, taken_numbers}
@@ -65,16 +65,16 @@ pub record MultiLocates (n : ℕ) (counts table : List ℕ) (r number : ℕ) (pl
 
 -- a take of the positions ps from the binding b, which is left so
 pub record Took (b : BodyBinding) (ps : List ℕ) (left : BodyBinding) (number : ℕ) (handed : List ℕ) : Type 0 where
-  pub answer : Take
+  pub answer : Result Taken Refusal
   pub takes : Takes b ps answer left
-  pub refusal : number ≡ take_number answer
+  pub refusal : number ≡ refused_by answer
   pub numbers : handed ≡ handed_numbers answer
 
 -- a take of two to four positions
 pub record TookAt (b : BodyBinding) (ps : List ℕ) (left : BodyBinding) (number : ℕ) (handed : List ℕ) : Type 0 where
-  pub answer : TakenAt
+  pub answer : Result TakenAt Refusal
   pub takes : TakesAt b ps answer left
-  pub refusal : number ≡ answer.refusal
+  pub refusal : number ≡ refused_by answer
   pub numbers : handed ≡ taken_numbers answer
 
 -- ---- the run

@@ -167,7 +167,7 @@ pub extern "C" fn engkarupi_bind(
     marks: &mut [u8; Frame::MAX_BODIES],
     count: &mut usize,
 ) -> u8
-    ensures { Binds types.now indices.now (record { refusal = result; binding = record { bodies = bodies.new; marks = marks.new; count = count.new } }) }
+    ensures { Binds types.now indices.now result (record { bodies = bodies.new; marks = marks.new; count = count.new }) }
 {
     let bound = BodyBinding::bind(types, indices);
     let binding = bound.binding;
@@ -176,7 +176,7 @@ pub extern "C" fn engkarupi_bind(
     *bodies = bound_bodies;
     *marks = bound_marks;
     *count = binding.count;
-    bound.refusal
+    frame::refusal::refusal_number(&bound.asked)
 }
 
 // A take from a binding: two bodies in the order asked, each with 1 for "dynamic"; answers the refusal or 0.
@@ -191,8 +191,8 @@ pub extern "C" fn engkarupi_take(
 ) -> u8
     ensures { Took (record { bodies = bodies.now; marks = marks.old; count = count }) (a ∷ b ∷ []) (record { bodies = bodies.now; marks = marks.new; count = count }) result handed.new }
 {
-    let marked = colored_bodies::take_marks(marks, count, a, b);
-    answer_numbers::hand(bodies, a, b, marked, handed)
+    let taken = colored_bodies::take_from(bodies, marks, count, a, b);
+    answer_numbers::hand(taken, handed)
 }
 
 // The frame of a seed with these sizes, and its length; answers the refusal or 0.

@@ -1,5 +1,5 @@
 -- What is proved: each claim, and the proof that it cites. To believe a claim, read it and the definitions that it names, all under specs/.
-use Rattle.std.specs.Prelude.{ℕ, ◌^◌, ◌≤◌, ◌<◌, ◌≡◌, refl, Bool, true, false, ◌&&◌, ltb, length, get_or, take}
+use Rattle.std.specs.Prelude.{ℕ, ◌^◌, ◌≤◌, ◌<◌, ◌≡◌, refl, Bool, Result, true, false, ◌&&◌, ltb, length, get_or, take}
 use mathlib.Core.List.{List, [], ◌∷◌, ◌++◌, map, Memᴰ}
 use Rattle.lists.specs.Basics.{any, mem}
 use Rattle.frame.specs.Frames.{Constraint, Frame, logged, constraints, constraint_at, dynamic, conflicting, on, touches, frame_of}
@@ -32,7 +32,7 @@ use Rattle.multi_history.specs.History.{MultiHistory, multi_memory_after, MultiS
 use Rattle.multi_history.proofs.History.{multi_memory}
 use Rattle.colored_bodies.specs.declared.BodyBinding.{BodyBinding}
 use Rattle.colored_bodies.specs.declared.Marked.{Marked}
-use Rattle.colored_bodies.specs.declared.multi.MarkedAt.{MarkedAt}
+use Rattle.frame.specs.declared.refusal.Refusal.{Refusal}
 use Rattle.colored_bodies.specs.Answers.{Marks, MarksAt}
 use Rattle.schedules.specs.Runs.{Call, Plans, Orders, calls_from, schedule, rising, run_calls}
 use Rattle.schedules.specs.Condition.{Schedule, Condition3, Permuted, Roomy, Scheduled}
@@ -202,11 +202,11 @@ rising_is_run = rising_runs
 -- ---- takes by marks
 
 -- The run takes by marks alone; each such take is the take by value, and adds the same turn and takes.
-pub take_by_marks : (b : BodyBinding) (x y : ℕ) (r : Marked) (left : List ℕ) → Marks b (x ∷ y ∷ []) r left → ByValue b x y r left
+pub take_by_marks : (b : BodyBinding) (x y : ℕ) (r : Result Marked Refusal) (left : List ℕ) → Marks b (x ∷ y ∷ []) r left → ByValue b x y r left
 take_by_marks = marks_are_takes
 
 -- The same of two to four positions.
-pub counted_take_by_marks : (b : BodyBinding) (ps : List ℕ) (r : MarkedAt) (left : List ℕ) → MarksAt b ps r left → ByValueAt b ps r left
+pub counted_take_by_marks : (b : BodyBinding) (ps : List ℕ) (r : Result (List ℕ) Refusal) (left : List ℕ) → MarksAt b ps r left → ByValueAt b ps r left
 counted_take_by_marks = counted_marks_are_takes
 
 -- So a group's takes add the same from a binding and from its marks and count alone.

@@ -1,6 +1,6 @@
 -- A bind fills its tables from the front: the first bodies and their marks, padded. An accepted
 -- list is no longer than the types and stays below them, so each turn finds its type and its place.
-use Rattle.std.proofs.Common.{ℕ, zero, suc, ◌+◌, ◌-◌, ◌≤◌, ◌<◌, ◌≡◌, refl, sym, ap, ◌∙◌, Bool, true, false, ◌&&◌, cond, List, [], ◌∷◌, ◌++◌, map, add-one, arith, leb, eqb, length, get_or, set, take, drop, replicate, length-append, take-suc, take_all, length-take-le, leb-true, eqb-true}
+use Rattle.std.proofs.Common.{ℕ, zero, suc, ◌+◌, ◌-◌, ◌≤◌, ◌<◌, ◌≡◌, refl, sym, ap, ◌∙◌, Bool, true, false, ◌&&◌, cond, List, [], ◌∷◌, ◌++◌, map, add-one, arith, leb, eqb, length, get_or, set, take, drop, replicate, length-append, take-suc, length-take-le, leb-true, eqb-true}
 use mathlib.Core.List.{map-append}
 use Rattle.std.proofs.Math.ListN.{length-map}
 use Rattle.std.proofs.Math.Seq.{set_at, append_snoc}
@@ -40,35 +40,31 @@ accepted : (types indices : List ℕ) → bind_refusal types indices ≡ 0 → (
 unfolding bind_refusal
 accepted types indices h = accepted_by _ (types_known types) _ types indices refl refl h
 
--- a bind fills as many places as its list has bodies, and none if it is refused
-module _ (types indices : List ℕ) (refusal count : ℕ) (asked : refusal ≡ bind_refusal types indices) (counted : count ≡ cond (eqb refusal 0) (length indices) 0) where
-  fillable_by : (t : Bool) → eqb refusal 0 ≡ t → Fillable types indices count
+-- the bodies that a bind lists have places and types: none if it is refused
+module _ (types indices bound : List ℕ) (refusal : ℕ) (asked : refusal ≡ bind_refusal types indices) (listed : bound ≡ cond (eqb refusal 0) indices []) where
+  fillable_by : (t : Bool) → eqb refusal 0 ≡ t → Fillable types bound
   fillable_by true e =
-      let all : count ≡ length indices = counted ∙ rw e in
       let ok = accepted types indices (sym asked ∙ eqb-true refusal 0 e) in
-      record {
-        listed = omega arith;
+      let all : bound ≡ indices = listed ∙ rw e in
+      rw all (record {
         room = omega (arith, ok.0, rises-room 0 (length types) indices ok.1);
-        typed = λ i h. rises_under 0 (length types) indices i ok.1 (omega arith);
-      }
-  fillable_by false e =
-      let none : count ≡ 0 = counted ∙ rw e in
-      record { listed = omega arith; room = omega arith; typed = λ i h. absurd (omega arith) }
+        typed = λ i h. rises_under 0 (length types) indices i ok.1 h;
+      })
+  fillable_by false e = let none : bound ≡ [] = listed ∙ rw e in rw none (record { room = omega arith; typed = λ i h. absurd (omega arith) })
 
-  pub fillable : Fillable types indices count
+  pub fillable : Fillable types bound
   fillable = fillable_by (eqb refusal 0) refl
 
   abbrev filled : BodyBinding
-  filled = record { bodies = padded (take count indices); marks = padded (map (mark_of types) (take count indices)); count = count }
+  filled = record { bodies = padded bound; marks = padded (map (mark_of types) bound); count = length bound }
 
   bound_by : (t : Bool) → eqb refusal 0 ≡ t → filled ≡ bind_of types indices
   unfolding bind_of bound_of
   bound_by true e =
-      let all : count ≡ length indices = counted ∙ rw e in
-      let whole : take (length indices) indices ≡ indices = take_all (length indices) indices (omega arith) in
-      simp (← asked, e, all, whole)
+      let all : bound ≡ indices = listed ∙ rw e in
+      simp (← asked, e, all)
   bound_by false e =
-      let none : count ≡ 0 = counted ∙ rw e in
+      let none : bound ≡ [] = listed ∙ rw e in
       simp (← asked, e, none)
 
   pub bound_is : filled ≡ bind_of types indices
@@ -84,9 +80,9 @@ zeros (suc n) (suc m) h =
     let e : m - n ≡ suc m - suc n = omega arith in
     zeros n m (omega arith) ∙ ap (λ (k : ℕ). replicate k 0) e
 
-pub list_padded : (indices : List ℕ) (count : ℕ) → count ≤ length indices → count ≤ 4096 → take count indices ++ drop count (replicate 4096 0) ≡ padded (take count indices)
+pub list_padded : (xs : List ℕ) → length xs ≤ 4096 → xs ++ drop (length xs) (replicate 4096 0) ≡ padded xs
 unfolding padded
-list_padded indices count h room = rw (zeros count 4096 room, length-take-le count indices h)
+list_padded xs h = rw (zeros (length xs) 4096 h)
 
 -- one mark more
 pub mark_next : (types indices : List ℕ) (i : ℕ) → i < length indices → i < 4096

@@ -1,6 +1,6 @@
 -- Takes of two to four positions. Positions that pass questions 5 and 9 are at most four places; in rising order they are still places,
 -- and the take of each in turn is a clause of `refusal_from` and `marks_from`. The flags are read before anything is taken.
-use Rattle.std.proofs.Common.{ℕ, ◌+◌, ◌≤◌, ◌<◌, ◌≡◌, refl, sym, ap, ◌∙◌, Bool, true, false, ◌&&◌, cond, List, [], ◌∷◌, ◌++◌, map, arith, add-one, leb, ltb, eqb, length, get_or, set, take, drop, replicate, drop_of_length-le, drop-cons, length-take-le, take_all, take_at, ltb-true, le-leb, leb-true, eqb-true, eq-eqb, ne_eqb}
+use Rattle.std.proofs.Common.{ℕ, ◌+◌, ◌≤◌, ◌<◌, ◌≡◌, refl, sym, ap, ◌∙◌, Bool, true, false, ◌&&◌, cond, Result, Ok, Err, List, [], ◌∷◌, ◌++◌, map, arith, add-one, leb, ltb, eqb, length, get_or, set, take, drop, replicate, drop_of_length-le, drop-cons, length-take-le, take_at, ltb-true, le-leb, leb-true, eq-eqb, ne_eqb}
 use mathlib.Core.List.{map-append, map-map}
 use Rattle.std.proofs.Math.ListN.{length-map}
 use mir.Val.{bool_byte}
@@ -8,16 +8,18 @@ use Rattle.std.proofs.lemmas.Bool.{lt-leb}
 use Rattle.std.proofs.lemmas.Bool.Decides.{nat_tests}
 use Rattle.lists.specs.Basics.{all, one, distinct, sorted, four}
 use Rattle.lists.proofs.Bits.{byte_one}
-use Rattle.lists.proofs.Laws.{and_right, by_cases, all_weaken, all_in, all_intro, all-get_or}
+use Rattle.lists.proofs.Laws.{and_right, all_weaken, all_in, all_intro, all-get_or}
 use Rattle.frame.specs.Frames.{counted}
 use Rattle.frame.proofs.Questions.{passed, zero-cond}
 use Rattle.colored_bodies.specs.Bindings.{placed, ask_refusal, spend, refusal_from, marks_from, take_refusal, take_marks, handed_at, take_of}
-use Rattle.colored_bodies.specs.Answers.{Handable, MarksAt, TakesAt}
+use Rattle.colored_bodies.specs.Answers.{Handable, MarksAt, TakesAt, with_bodies_at}
 use Rattle.colored_bodies.specs.declared.BodyBinding.{BodyBinding}
-use Rattle.colored_bodies.specs.declared.multi.MarkedAt.{MarkedAt}
 use Rattle.ordering.proofs.Sorting.{length-sorted}
 use Rattle.colored_bodies.proofs.Fills.{pad_to, taken_more}
 use Rattle.colored_bodies.proofs.Takes.{mem-sorted}
+use Rattle.colored_bodies.proofs.Pairs.{numbered}
+use Rattle.frame.specs.declared.refusal.Refusal.{Refusal}
+use Rattle.frame.specs.Refusals.{number_of}
 
 -- ---- questions 5 and 9
 abbrev pub Places : List ℕ → Type 0
@@ -44,10 +46,10 @@ module _ (ps : List ℕ) (count limit : ℕ) (t : Bool) (k : 2 ≤ length ps) (h
   pub ask_none : t ≡ true → 0 ≡ ask_refusal count ps
   ask_none f = rw (le-leb 2 (length ps) k, le-leb (length ps) 4 h, sym found ∙ f)
 
-pub ask_passed : (ps : List ℕ) (count : ℕ) → ask_refusal count ps ≡ 0 → (length ps ≤ 4) × Places ps
+pub ask_passed : (ps : List ℕ) (count : ℕ) → 0 ≡ ask_refusal count ps → (length ps ≤ 4) × Places ps
 unfolding placed
 ask_passed ps count e =
-    let q5 = passed (counted (length ps)) _ 4 e in
+    let q5 = passed (counted (length ps)) _ 4 (sym e) in
     let q9 = passed (placed count ps) 0 8 q5.1 in
     (leb-true (length ps) 4 (and_right (leb 2 (length ps)) (leb (length ps) 4) q5.0), all_weaken _ (λ p. ltb p 4096) ps (λ p. and_right (ltb p count) (ltb p 4096)) (and_right (distinct ps) (all (λ p. ltb p count && ltb p 4096) ps) q9.0))
 
@@ -55,18 +57,16 @@ ask_passed ps count e =
 sorted_places : (ps : List ℕ) → Places ps → Places (sorted ps)
 sorted_places ps h = all_intro (λ p. ltb p 4096) (sorted ps) (λ q m. all_in (λ p. ltb p 4096) q ps (sym (mem-sorted q ps) ∙ m) h)
 
--- four places, of which the first hold the positions; and those sorted
-module _ (ps out inner : List ℕ) (few : length ps ≤ 4) (e : out ≡ take (length ps) ps ++ drop (length ps) (0 ∷ 0 ∷ 0 ∷ 0 ∷ [])) (s : inner ≡ sorted (take (length ps) out)) where
-  copied_first : take (length ps) out ≡ ps
-  copied_first =
-      let zeros : List ℕ = drop (length ps) (0 ∷ 0 ∷ 0 ∷ 0 ∷ []) in
-      ap (take (length ps)) (e ∙ ap (λ (l : List ℕ). l ++ zeros) (take_all (length ps) ps (omega arith))) ∙ take_at ps zeros (length ps) refl
+-- places of which the first are the positions; and those sorted
+module _ (ps first rest inner : List ℕ) (e : first ≡ ps) (s : inner ≡ sorted (take (length ps) (first ++ rest))) where
+  copied_first : take (length ps) (first ++ rest) ≡ ps
+  copied_first = ap (λ (l : List ℕ). take (length ps) (l ++ rest)) e ∙ take_at ps rest (length ps) refl
 
   inner_is : inner ≡ sorted ps
   inner_is = s ∙ ap sorted copied_first
 
-  pub rising_places : Places ps → Places (take (length ps) (inner ++ drop (length ps) out))
-  rising_places h = ap (all (λ p. ltb p 4096)) (take_at inner (drop (length ps) out) (length ps) (ap length inner_is ∙ length-sorted ps) ∙ inner_is) ∙ sorted_places ps h
+  pub rising_places : Places ps → Places (take (length ps) (inner ++ drop (length ps) (first ++ rest)))
+  rising_places h = ap (all (λ p. ltb p 4096)) (take_at inner (drop (length ps) (first ++ rest)) (length ps) (ap length inner_is ∙ length-sorted ps) ∙ inner_is) ∙ sorted_places ps h
 
 -- ---- place after place
 abbrev pub gone : ℕ → ℕ
@@ -113,66 +113,72 @@ pub four_none : replicate 4 0 ≡ four []
 unfolding four
 four_none = refl
 
+pub handable : (ps : List ℕ) (count : ℕ) → 0 ≡ ask_refusal count ps → Handable ps
+handable ps count e =
+    let q = ask_passed ps count e in
+    record { room = q.0; within = λ i h. place_below ps i q.1 }
+
 -- ---- the whole take
 module _ (bodies marks ps : List ℕ) (count : ℕ) where
   abbrev binding : BodyBinding
   binding = record { bodies = bodies; marks = marks; count = count }
 
-  pub at_refused : (k : ℕ) → k ≡ ask_refusal count ps → (k ≡ 0 → ⊥) → MarksAt binding ps (record { refusal = k; dynamic = replicate 4 0 }) marks
+  pub at_refused : (r : Refusal) → number_of r ≡ ask_refusal count ps → MarksAt binding ps (Err r) marks
   unfolding take_of take_refusal take_marks four
-  at_refused k e z =
-      let n : eqb (ask_refusal count ps) 0 ≡ false = ne_eqb (ask_refusal count ps) 0 (λ h. z (e ∙ h)) in
+  at_refused r e =
+      let n : eqb (ask_refusal count ps) 0 ≡ false = ne_eqb (ask_refusal count ps) 0 (λ h. numbered r (e ∙ h)) in
       record { refusal = rw n e; dynamic = rw (n, n); marks = rw n }
 
-  module _ (n : ℕ) (left : List ℕ) (a : ask_refusal count ps ≡ 0) (two : (n ≡ refusal_from 10 marks (sorted ps)) × (left ≡ marks_from marks (sorted ps))) where
+  module _ (n : ℕ) (left : List ℕ) (a : 0 ≡ ask_refusal count ps) (two : (n ≡ refusal_from 10 marks (sorted ps)) × (left ≡ marks_from marks (sorted ps))) where
     number : n ≡ take_refusal binding ps
     unfolding take_refusal
-    number = two.0 ∙ rw a
+    number = two.0 ∙ rw (sym a)
 
     after : left ≡ take_marks binding ps
     unfolding take_marks
-    after = two.1 ∙ rw a
+    after = two.1 ∙ rw (sym a)
 
-    pub at_gone : (n ≡ 0 → ⊥) → MarksAt binding ps (record { refusal = n; dynamic = replicate 4 0 }) left
+    pub at_gone : (r : Refusal) → number_of r ≡ n → MarksAt binding ps (Err r) left
     unfolding take_of four
-    at_gone z = record { refusal = number; dynamic = rw (ne_eqb (take_refusal binding ps) 0 (λ e. z (number ∙ e))); marks = after }
+    at_gone r e = record { refusal = e ∙ number; dynamic = rw (ne_eqb (take_refusal binding ps) 0 (λ z. numbered r (e ∙ number ∙ z))); marks = after }
 
-    pub at_taken : (flags : List ℕ) → n ≡ 0 → flags ≡ four (map (flag_at marks) ps) → MarksAt binding ps (record { refusal = 0; dynamic = flags }) left
+    pub at_taken : (flags : List ℕ) → 0 ≡ n → flags ≡ four (map (flag_at marks) ps) → MarksAt binding ps (Ok flags) left
     unfolding take_of
-    at_taken flags z e = record { refusal = sym z ∙ number; dynamic = e ∙ rw (eq-eqb (take_refusal binding ps) 0 (sym number ∙ z)) (ap four (sym (map-map (λ h. one h.dynamic) (handed_at binding) ps))); marks = after }
+    at_taken flags z e = record { refusal = z ∙ number; dynamic = e ∙ rw (eq-eqb (take_refusal binding ps) 0 (sym (z ∙ number))) (ap four (sym (map-map (λ h. one h.dynamic) (handed_at binding) ps))); marks = after }
 
 -- ---- from a take of marks to the whole take
-module _ (b : BodyBinding) (ps : List ℕ) (m : MarkedAt) (left : List ℕ) (k : MarksAt b ps m left) (count : ℕ) (e : count ≡ cond (eqb m.refusal 0) (length ps) 0) where
-  counts : (t : Bool) → eqb (take_of b ps).refusal 0 ≡ t → count ≡ cond t (length ps) 0
-  counts t f = e ∙ ap (λ (n : ℕ). cond (eqb n 0) (length ps) 0) k.refusal ∙ ap (λ (u : Bool). cond u (length ps) 0) f
-
+module _ (b : BodyBinding) (ps left : List ℕ) where
   -- a take that is not refused passed questions 5 and 9
-  pub handable : Handable ps count
+  pub taken_handable : (flags : List ℕ) → MarksAt b ps (Ok flags) left → Handable ps
   unfolding take_of take_refusal
-  handable = by_cases (eqb (take_of b ps).refusal 0)
-      (λ f.
-      let q = ask_passed ps b.count (zero-cond (ask_refusal b.count ps) _ (eqb-true (take_refusal b ps) 0 f)).0 in
-      let n : count ≡ length ps = counts true f in
-      record { listed = omega arith; room = omega (arith, q.0); within = λ i h. place_below ps i q.1 })
-      (λ f.
-      let n : count ≡ 0 = counts false f in
-      record { listed = omega arith; room = omega arith; within = λ i h. absurd (omega arith) })
+  taken_handable flags k = handable ps b.count (sym (zero-cond (ask_refusal b.count ps) _ (sym k.refusal)).0)
 
-  hands : (t : Bool) → eqb (take_refusal b ps) 0 ≡ t → count ≡ cond t (length ps) 0
-      → (count ≡ length (take_of b ps).handed) × (four (map (λ p. get_or b.bodies p 0) (take count ps)) ≡ four (map (λ h. h.body) (take_of b ps).handed))
+  pub takes_refused : (r : Refusal) → MarksAt b ps (Err r) left → TakesAt b ps (Err r) (record { bodies = b.bodies; marks = left; count = b.count })
   unfolding take_of
-  hands true f n = (n ∙ rw f (sym (length-map ps (handed_at b))), rw (f, n, take_all (length ps) ps (omega arith)) (ap four (sym (map-map (λ h. h.body) (handed_at b) ps))))
-  hands false f n = (n ∙ rw f, rw (f, n))
-
-  pub takes_at : (bs : List ℕ) → bs ≡ four (map (λ p. get_or b.bodies p 0) (take count ps))
-      → TakesAt b ps (record { refusal = m.refusal; count = count; bodies = bs; dynamic = m.dynamic }) (record { bodies = b.bodies; marks = left; count = b.count })
-  unfolding take_of
-  takes_at bs f =
-      let h = hands (eqb (take_refusal b ps) 0) refl (counts (eqb (take_refusal b ps) 0) refl) in
+  takes_refused r k =
+      let none : eqb (take_refusal b ps) 0 ≡ false = ne_eqb (take_refusal b ps) 0 (λ z. numbered r (k.refusal ∙ z)) in
       record {
         refusal = k.refusal;
-        count = h.0;
-        bodies = f ∙ h.1;
+        count = rw none;
+        bodies = rw none;
         dynamic = k.dynamic;
         after = ap (λ (l : List ℕ). record { bodies = b.bodies; marks = l; count = b.count }) k.marks;
       }
+
+  pub takes_taken : (flags bs : List ℕ) → MarksAt b ps (Ok flags) left → bs ≡ four (map (λ p. get_or b.bodies p 0) ps)
+      → TakesAt b ps (Ok (record { count = length ps; bodies = bs; dynamic = flags })) (record { bodies = b.bodies; marks = left; count = b.count })
+  unfolding take_of
+  takes_taken flags bs k f =
+      let all : eqb (take_refusal b ps) 0 ≡ true = eq-eqb (take_refusal b ps) 0 (sym k.refusal) in
+      record {
+        refusal = k.refusal;
+        count = rw all (sym (length-map ps (handed_at b)));
+        bodies = f ∙ rw all (ap four (sym (map-map (λ h. h.body) (handed_at b) ps)));
+        dynamic = k.dynamic;
+        after = ap (λ (l : List ℕ). record { bodies = b.bodies; marks = l; count = b.count }) k.marks;
+      }
+
+-- the whole take that a take of marks becomes once the bodies at its positions are read
+pub takes_at : (b : BodyBinding) (ps : List ℕ) (m : Result (List ℕ) Refusal) (left : List ℕ) → MarksAt b ps m left → TakesAt b ps (with_bodies_at b.bodies ps m) (record { bodies = b.bodies; marks = left; count = b.count })
+takes_at b ps (Ok flags) left k = takes_taken b ps left flags _ k refl
+takes_at b ps (Err r) left k = takes_refused b ps left r k

@@ -6,16 +6,24 @@
 // Takes of two to four bodies are in the module `multi`.
 #![tactic(auto)]
 
-ghost use Rattle.std.specs.Prelude.{◌≡◌, ◌&&◌, cond, List, [], ◌∷◌, map, ℕ, ◌<◌, leb, eqb, take, replicate};
+ghost use Rattle.std.specs.Prelude.{◌≡◌, ◌&&◌, cond, List, [], ◌∷◌, map, ℕ, ◌<◌, ◌≤◌, eqb, length, replicate};
 ghost use Rattle.lists.specs.Basics.{rises};
+ghost use Rattle.frame.specs.Refusals.{refused_by};
 ghost use Rattle.colored_bodies.specs.Bindings.{last_below, bind_refusal, Known, mark_of, padded, bind_of, placed, spend, refusal_from, marks_from};
-ghost use Rattle.colored_bodies.specs.Answers.{with_bodies, Placed, Fillable, Binds, Takes, Marks};
+ghost use Rattle.colored_bodies.specs.Answers.{Fillable, Binds, Takes, Marks};
 
-use frame::Frame;
+use frame::{Frame, Refusal};
 
 pub mod multi;
 
-// For each place a body number and a mark: 0 read-only, 1 held, and any other number taken.
+// The marks of a place. Any number above these is a taken body's mark, too: marks are lent by C.
+pub const READ_ONLY: u8 = 0;
+
+pub const HELD: u8 = 1;
+
+pub const TAKEN: u8 = 2;
+
+// For each place a body number and a mark.
 #[derive(Drop)]
 pub struct BodyBinding {
     pub bodies: [u16; Frame::MAX_BODIES],
@@ -23,102 +31,98 @@ pub struct BodyBinding {
     pub count: usize,
 }
 
-// What bind answers: 0 and the binding, or the refusal's number and an empty one.
+// What bind answers: whether it is refused, and the binding, an empty one after a refusal.
 #[derive(Drop)]
 pub struct Bound {
-    pub refusal: u8,
+    pub asked: Result<(), Refusal>,
     pub binding: BodyBinding,
 }
 
-// What a take answers: the two bodies in the order asked, each "dynamic" or "read-only", or the refusal's number.
-#[derive(Clone, Copy)]
-pub enum Take {
-    Taken {
-        first: u16,
-        first_dynamic: bool,
-        second: u16,
-        second_dynamic: bool,
-    },
-    Refused(u8),
+// What a take of marks hands: for each body, in the order asked, whether it is "dynamic" or "read-only".
+#[derive(Clone, Copy, Debug, PartialEq, Eq)]
+pub struct Marked {
+    pub first_dynamic: bool,
+    pub second_dynamic: bool,
+}
+
+// What a take hands: besides, the bodies' numbers.
+#[derive(Clone, Copy, Debug, PartialEq, Eq)]
+pub struct Taken {
+    pub first: u16,
+    pub first_dynamic: bool,
+    pub second: u16,
+    pub second_dynamic: bool,
 }
 
 // A take by value: the binding after it, and its answer.
 #[derive(Drop)]
-pub struct Step {
+pub struct Step<T> {
     pub binding: BodyBinding,
-    pub take: Take,
+    pub taken: T,
 }
 
-// What a take of marks answers: a take's answer without the bodies' numbers.
-#[derive(Clone, Copy)]
-pub enum Marked {
-    Taken {
-        first_dynamic: bool,
-        second_dynamic: bool,
-    },
-    Refused(u8),
-}
-
-// Question 8: the list rises strictly, and its last entry is below n. `low` is the least that the next entry may be.
+// Question 8: the list rises strictly, and its last entry is below n.
 fn rises_below(indices: &[u16], n: usize) -> bool
     ensures { result ≡ (rises indices.now && last_below n indices.now) }
 {
     let mut low: usize = 0;
-    let mut i = 0;
     // `low` is the least that the next entry may be: one more than the entry before.
-    while i < indices.len() {
-        let x = indices[i] as usize;
-        if x < low {
+    for &x in indices {
+        if (x as usize) < low {
             return false;
         }
-        low = x + 1;
-        i += 1;
+        low = x as usize + 1;
     }
     low <= n
 }
 
 // Question 8, the only one left of known types.
-fn known_refusal(types: &[u8], indices: &[u16]) -> u8
+fn known_refusal(types: &[u8], indices: &[u16]) -> Result<(), Refusal>
     requires { Known types.now }
-    ensures { result ≡ bind_refusal types.now indices.now }
+    ensures { refused_by result ≡ bind_refusal types.now indices.now }
 {
     if !rises_below(indices, types.len()) {
-        return 8;
+        return Err(Refusal::BodyList);
     }
-    0
+    Ok(())
 }
 
 // Questions 3, 5 and 8, in that order.
-fn bind_refusal(types: &[u8], indices: &[u16]) -> u8
-    ensures { result ≡ bind_refusal types.now indices.now }
+fn bind_refusal(types: &[u8], indices: &[u16]) -> Result<(), Refusal>
+    ensures { refused_by result ≡ bind_refusal types.now indices.now }
 {
     if Frame::MAX_BODIES < types.len() {
-        return 3;
+        return Err(Refusal::TooMany);
     }
     if !frame::at_most(types, Frame::MAX_TYPE) {
-        return 5;
+        return Err(Refusal::Values);
     }
     known_refusal(types, indices)
 }
 
-// How many places a bind fills: none if it is refused.
-fn bound_count(refusal: u8, listed: usize) -> usize
-    ensures { result ≡ cond (eqb refusal 0) listed 0 }
+// The bodies that a bind lists: none if it is refused.
+fn listed(asked: Result<(), Refusal>, indices: &[u16]) -> &[u16]
+    ensures { result.now ≡ cond (eqb (refused_by asked) 0) indices.now [] }
 {
-    if refusal == 0 { listed } else { 0 }
+    if asked.is_ok() { indices } else { &[] }
 }
 
-// The marks of the first bodies of a list, into a table of zeros: dynamic and logged bodies are held, others read-only.
-fn mark_bodies(types: &[u8], indices: &[u16], count: usize, marks: &mut [u8; Frame::MAX_BODIES])
-    requires { Fillable types.now indices.now count × (marks.old ≡ replicate 4096 0) }
-    ensures { marks.new ≡ padded (map (mark_of types.now) (take count indices.now)) }
+// The numbers of the bodies of a list, into a table of zeros.
+fn number_bodies(indices: &[u16], bodies: &mut [u16; Frame::MAX_BODIES])
+    requires { (length indices.now ≤ 4096) × (bodies.old ≡ replicate 4096 0) }
+    ensures { bodies.new ≡ padded indices.now }
 {
-    let mut i = 0;
+    bodies[..indices.len()].copy_from_slice(indices);
+}
+
+// The marks of the bodies of a list, into a table of zeros: dynamic and logged bodies are held, others read-only.
+fn mark_bodies(types: &[u8], indices: &[u16], marks: &mut [u8; Frame::MAX_BODIES])
+    requires { Fillable types.now indices.now × (marks.old ≡ replicate 4096 0) }
+    ensures { marks.new ≡ padded (map (mark_of types.now) indices.now) }
+{
     // The first i places have their bodies' marks, the others 0.
-    while i < count {
-        let x = indices[i] as usize;
-        marks[i] = frame::flag_of(types[x]);
-        i += 1;
+    for (i, &x) in indices.iter().enumerate() {
+        marks[i] = frame::flag_of(types[x as usize]);
     }
 }
 
@@ -128,31 +132,30 @@ pub fn bind_marks(types: &[u8], indices: &[u16], marks: &mut [u8; Frame::MAX_BOD
     requires { Known types.now }
     ensures { (result ≡ (bind_of types.now indices.now).count) × (marks.new ≡ (bind_of types.now indices.now).marks) }
 {
-    let count = bound_count(known_refusal(types, indices), indices.len());
-    *marks = [0u8; Frame::MAX_BODIES];
-    mark_bodies(types, indices, count, marks);
-    count
+    let bodies = listed(known_refusal(types, indices), indices);
+    *marks = [READ_ONLY; Frame::MAX_BODIES];
+    mark_bodies(types, bodies, marks);
+    bodies.len()
 }
 
 impl BodyBinding {
     // Binds the listed bodies: dynamic and logged ones are held, others read-only. A refused bind binds nothing.
     pub fn bind(types: &[u8], indices: &[u16]) -> Bound
-        ensures { Binds types.now indices.now result }
+        ensures { Binds types.now indices.now (refused_by result.asked) result.binding }
     {
-        let refusal = bind_refusal(types, indices);
-        let count = bound_count(refusal, indices.len());
+        let asked = bind_refusal(types, indices);
+        let bound = listed(asked, indices);
         let mut bodies = [0u16; Frame::MAX_BODIES];
-        let mut marks = [0u8; Frame::MAX_BODIES];
-        tables::copy(indices, count, &mut bodies);
-        mark_bodies(types, indices, count, &mut marks);
-        let binding = BodyBinding {
-            bodies: bodies,
-            marks: marks,
-            count: count,
-        };
+        let mut marks = [READ_ONLY; Frame::MAX_BODIES];
+        number_bodies(bound, &mut bodies);
+        mark_bodies(types, bound, &mut marks);
         Bound {
-            refusal: refusal,
-            binding: binding,
+            asked,
+            binding: BodyBinding {
+                bodies,
+                marks,
+                count: bound.len(),
+            },
         }
     }
 }
@@ -164,105 +167,90 @@ fn placed_in(count: usize, a: usize, b: usize) -> bool
     (a != b) & (a < count) & (a < Frame::MAX_BODIES) & (b < count) & (b < Frame::MAX_BODIES)
 }
 
-// The lower and the higher of two positions.
-fn lower(a: usize, b: usize) -> usize
-    ensures { result ≡ cond (leb a b) a b }
-{
-    if a <= b { a } else { b }
-}
-
-fn higher(a: usize, b: usize) -> usize
-    ensures { result ≡ cond (leb a b) b a }
-{
-    if a <= b { b } else { a }
-}
-
 // A held place becomes taken; any other keeps its mark.
 fn take_body(marks: &mut [u8; Frame::MAX_BODIES], p: usize)
     requires { p < 4096 }
     ensures { marks.new ≡ spend marks.old p }
 {
-    if marks[p] == 1 {
-        marks[p] = 2;
+    if marks[p] == HELD {
+        marks[p] = TAKEN;
     }
 }
 
 // Questions 10 and 11: the lower place is taken before the higher one is asked, and stays taken if that one is gone.
-fn take_both(marks: &mut [u8; Frame::MAX_BODIES], low: usize, high: usize) -> u8
+fn take_both(marks: &mut [u8; Frame::MAX_BODIES], low: usize, high: usize) -> Result<(), Refusal>
     requires { (low < 4096) × (high < 4096) }
-    ensures { (result ≡ refusal_from 10 marks.old (low ∷ high ∷ [])) × (marks.new ≡ marks_from marks.old (low ∷ high ∷ [])) }
+    ensures { (refused_by result ≡ refusal_from 10 marks.old (low ∷ high ∷ [])) × (marks.new ≡ marks_from marks.old (low ∷ high ∷ [])) }
 {
-    if 1 < marks[low] {
-        return 10;
+    if HELD < marks[low] {
+        return Err(Refusal::LowerTaken);
     }
     take_body(marks, low);
-    if 1 < marks[high] {
-        return 11;
+    if HELD < marks[high] {
+        return Err(Refusal::HigherTaken);
     }
     take_body(marks, high);
-    0
+    Ok(())
 }
 
 // All that a take does to the marks, with no copy: what a loop over a local binding calls. Its promise holds whatever bodies
 // stand beside the marks.
-pub fn take_marks(marks: &mut [u8; Frame::MAX_BODIES], count: usize, a: usize, b: usize) -> Marked
+pub fn take_marks(
+    marks: &mut [u8; Frame::MAX_BODIES],
+    count: usize,
+    a: usize,
+    b: usize,
+) -> Result<Marked, Refusal>
     ensures { (bodies : List ℕ) → Marks (record { bodies = bodies; marks = marks.old; count = count }) (a ∷ b ∷ []) result marks.new }
 {
     if !placed_in(count, a, b) {
-        return Marked::Refused(9);
+        return Err(Refusal::Positions);
     }
-    let first_dynamic = marks[a] == 1;
-    let second_dynamic = marks[b] == 1;
-    let refusal = take_both(marks, lower(a, b), higher(a, b));
-    if refusal == 0 {
-        Marked::Taken {
-            first_dynamic: first_dynamic,
-            second_dynamic: second_dynamic,
-        }
-    } else {
-        Marked::Refused(refusal)
-    }
+    let first_dynamic = marks[a] == HELD;
+    let second_dynamic = marks[b] == HELD;
+    take_both(marks, a.min(b), a.max(b))?;
+    Ok(Marked {
+        first_dynamic,
+        second_dynamic,
+    })
 }
 
-// The answer of a take of marks, with the bodies' numbers.
-fn with_bodies(bodies: &[u16; Frame::MAX_BODIES], a: usize, b: usize, marked: Marked) -> Take
-    requires { Placed a b marked }
-    ensures { result ≡ with_bodies bodies.now a b marked }
+// Takes the bodies at positions a and b, the lower position first, from the parts of a binding: what the calls for C are lent.
+pub fn take_from(
+    bodies: &[u16; Frame::MAX_BODIES],
+    marks: &mut [u8; Frame::MAX_BODIES],
+    count: usize,
+    a: usize,
+    b: usize,
+) -> Result<Taken, Refusal>
+    ensures { Takes (record { bodies = bodies.now; marks = marks.old; count = count }) (a ∷ b ∷ []) result (record { bodies = bodies.now; marks = marks.new; count = count }) }
 {
-    match marked {
-        Marked::Taken {
-            first_dynamic,
-            second_dynamic,
-        } => Take::Taken {
-            first: bodies[a],
-            first_dynamic: first_dynamic,
-            second: bodies[b],
-            second_dynamic: second_dynamic,
-        },
-        Marked::Refused(n) => Take::Refused(n),
-    }
-}
-
-impl BodyBinding {
-    // Takes the bodies at positions a and b, the lower position first.
-    pub fn pair_at(mut self, a: usize, b: usize) -> Step
-        ensures { Takes self (a ∷ b ∷ []) result.take result.binding }
-    {
-        let count = self.count;
-        let marked = take_marks(&mut self.marks, count, a, b);
-        let take = with_bodies(&self.bodies, a, b, marked);
-        Step {
-            binding: self,
-            take: take,
-        }
-    }
+    let marked = take_marks(marks, count, a, b)?;
+    Ok(Taken {
+        first: bodies[a],
+        first_dynamic: marked.first_dynamic,
+        second: bodies[b],
+        second_dynamic: marked.second_dynamic,
+    })
 }
 
 // The same take where the caller keeps the binding, with no copy.
-pub fn take_at(binding: &mut BodyBinding, a: usize, b: usize) -> Take
+pub fn take_at(binding: &mut BodyBinding, a: usize, b: usize) -> Result<Taken, Refusal>
     ensures { Takes binding.old (a ∷ b ∷ []) result binding.new }
 {
     let count = binding.count;
-    let marked = take_marks(&mut binding.marks, count, a, b);
-    with_bodies(&binding.bodies, a, b, marked)
+    take_from(&binding.bodies, &mut binding.marks, count, a, b)
+}
+
+impl BodyBinding {
+    // The same take by value.
+    pub fn pair_at(mut self, a: usize, b: usize) -> Step<Result<Taken, Refusal>>
+        ensures { Takes self (a ∷ b ∷ []) result.taken result.binding }
+    {
+        let taken = take_at(&mut self, a, b);
+        Step {
+            binding: self,
+            taken,
+        }
+    }
 }

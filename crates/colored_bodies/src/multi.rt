@@ -1,159 +1,122 @@
 // Takes of two to four bodies: the same take, over a list of positions. It refuses other lengths (5), bad positions (9), and bodies that
 // are gone, by rising place (10, 11).
-ghost use Rattle.std.specs.Prelude.{◌≡◌, ◌≤◌, ℕ, List, map, cond, true, eqb, ltb, length, get_or, take};
+ghost use Rattle.std.specs.Prelude.{◌≡◌, ◌≤◌, ℕ, List, map, cond, true, eqb, ltb, length, get_or};
 ghost use Rattle.lists.specs.Basics.{all, one, four, sorted};
+ghost use Rattle.frame.specs.Refusals.{number_of, refused_by};
 ghost use Rattle.colored_bodies.specs.Bindings.{ask_refusal, refusal_from, marks_from};
 ghost use Rattle.colored_bodies.specs.Answers.{Handable, MarksAt, TakesAt};
 
-use crate::{BodyBinding, bound_count, take_body};
-use frame::Frame;
+use crate::{BodyBinding, HELD, Step, take_body};
+use frame::{Frame, Refusal};
 
-// What a take of marks answers: 0 and for each position, in the order asked, 1 ("dynamic") or 0 ("read-only"); or the refusal's number.
-// Places past the bodies are 0.
-#[derive(Clone, Copy)]
-pub struct MarkedAt {
-    pub refusal: u8,
-    pub dynamic: [u8; 4],
-}
-
-// What a take answers: besides, how many bodies it hands and their numbers, in the order asked. After a refusal it hands none.
-#[derive(Clone, Copy)]
+// What a take hands: how many bodies, their numbers in the order asked, and for each 1 ("dynamic") or 0 ("read-only"). Places past the
+// bodies are 0.
+#[derive(Clone, Copy, Debug, PartialEq, Eq)]
 pub struct TakenAt {
-    pub refusal: u8,
     pub count: usize,
-    pub bodies: [u16; 4],
-    pub dynamic: [u8; 4],
-}
-
-// A take by value: the binding after it, and its answer.
-#[derive(Drop)]
-pub struct MultiStep {
-    pub binding: BodyBinding,
-    pub taken: TakenAt,
+    pub bodies: [u16; Frame::MAX_ENDS],
+    pub dynamic: [u8; Frame::MAX_ENDS],
 }
 
 // The lower of a count and 4,096: positions below both are below this.
 fn limit_of(count: usize) -> usize
     ensures { result ≡ cond (ltb count 4096) count 4096 }
 {
-    if count < Frame::MAX_BODIES {
-        count
-    } else {
-        Frame::MAX_BODIES
-    }
+    count.min(Frame::MAX_BODIES)
 }
 
 // Questions 5 and 9.
-fn ask_refusal(count: usize, positions: &[u16]) -> u8
-    ensures { result ≡ ask_refusal count positions.now }
+fn ask_refusal(count: usize, positions: &[u16]) -> Result<(), Refusal>
+    ensures { refused_by result ≡ ask_refusal count positions.now }
 {
     if positions.len() < Frame::MIN_ENDS {
-        return 5;
+        return Err(Refusal::Values);
     }
     if Frame::MAX_ENDS < positions.len() {
-        return 5;
+        return Err(Refusal::Values);
     }
     if !frame::multi::distinct_below(positions, limit_of(count)) {
-        return 9;
+        return Err(Refusal::Positions);
     }
-    0
+    Ok(())
 }
 
 // The flags of the positions asked, by the marks as they stand.
-fn read_marks(marks: &[u8; Frame::MAX_BODIES], positions: &[u16]) -> [u8; 4]
-    requires { (length positions.now ≤ 4) × (all (λ p. ltb p 4096) positions.now ≡ true) }
+fn read_marks(marks: &[u8; Frame::MAX_BODIES], positions: &[u16]) -> [u8; Frame::MAX_ENDS]
+    requires { Handable positions.now }
     ensures { result ≡ four (map (λ p. one (eqb (get_or marks.now p 0) 1)) positions.now) }
 {
-    let mut flags = [0u8; 4];
-    let mut i = 0;
+    let mut flags = [0u8; Frame::MAX_ENDS];
     // The first i flags are those of their positions, the others 0.
-    while i < positions.len() {
-        let p = positions[i] as usize;
-        flags[i] = (marks[p] == 1) as u8;
-        i += 1;
+    for (i, &p) in positions.iter().enumerate() {
+        flags[i] = (marks[p as usize] == HELD) as u8;
     }
     flags
 }
 
-// The number that refuses at the first place, and at a later one.
-fn gone_at(i: usize) -> u8
-    ensures { result ≡ cond (eqb i 0) 10 11 }
+// What refuses at the first place, and at a later one.
+fn gone_at(i: usize) -> Refusal
+    ensures { number_of result ≡ cond (eqb i 0) 10 11 }
 {
-    if i == 0 { 10 } else { 11 }
+    if i == 0 {
+        Refusal::LowerTaken
+    } else {
+        Refusal::HigherTaken
+    }
 }
 
 // Questions 10 and 11, place after place: each is taken before the next is asked, and stays taken if that one is gone.
-fn take_each(marks: &mut [u8; Frame::MAX_BODIES], places: &[u16]) -> u8
+fn take_each(marks: &mut [u8; Frame::MAX_BODIES], places: &[u16]) -> Result<(), Refusal>
     requires { all (λ p. ltb p 4096) places.now ≡ true }
-    ensures { (result ≡ refusal_from 10 marks.old places.now) × (marks.new ≡ marks_from marks.old places.now) }
+    ensures { (refused_by result ≡ refusal_from 10 marks.old places.now) × (marks.new ≡ marks_from marks.old places.now) }
 {
-    let mut i = 0;
     // The first i places were free, and are taken.
-    while i < places.len() {
-        let p = places[i] as usize;
-        if 1 < marks[p] {
-            return gone_at(i);
+    for (i, &place) in places.iter().enumerate() {
+        if HELD < marks[place as usize] {
+            return Err(gone_at(i));
         }
-        take_body(marks, p);
-        i += 1;
+        take_body(marks, place as usize);
     }
-    0
+    Ok(())
 }
 
 // The same by rising place.
-fn take_rising(marks: &mut [u8; Frame::MAX_BODIES], positions: &[u16]) -> u8
+fn take_rising(marks: &mut [u8; Frame::MAX_BODIES], positions: &[u16]) -> Result<(), Refusal>
     requires { (length positions.now ≤ 4) × (all (λ p. ltb p 4096) positions.now ≡ true) }
-    ensures { (result ≡ refusal_from 10 marks.old (sorted positions.now)) × (marks.new ≡ marks_from marks.old (sorted positions.now)) }
+    ensures { (refused_by result ≡ refusal_from 10 marks.old (sorted positions.now)) × (marks.new ≡ marks_from marks.old (sorted positions.now)) }
 {
     let n = positions.len();
-    let mut places = [0u16; 4];
-    let mut scratch = [0u16; 4];
-    tables::copy(positions, n, &mut places);
+    let mut places = [0u16; Frame::MAX_ENDS];
+    let mut scratch = [0u16; Frame::MAX_ENDS];
+    places[..n].copy_from_slice(positions);
     ordering::sort(&mut places[..n], &mut scratch);
     take_each(marks, &places[..n])
 }
 
-// All that a take of two to four positions does to the marks. Its promise holds whatever bodies stand beside them.
+// All that a take of two to four positions does to the marks: it hands a flag for each position, in the order asked, and 0 past them.
+// Its promise holds whatever bodies stand beside the marks.
 pub fn take_marks_at(
     marks: &mut [u8; Frame::MAX_BODIES],
     count: usize,
     positions: &[u16],
-) -> MarkedAt
+) -> Result<[u8; Frame::MAX_ENDS], Refusal>
     ensures { (bodies : List ℕ) → MarksAt (record { bodies = bodies; marks = marks.old; count = count }) positions.now result marks.new }
 {
-    let asked = ask_refusal(count, positions);
-    if asked != 0 {
-        return MarkedAt {
-            refusal: asked,
-            dynamic: [0u8; 4],
-        };
-    }
-    let dynamic = read_marks(marks, positions);
-    let refusal = take_rising(marks, positions);
-    if refusal != 0 {
-        return MarkedAt {
-            refusal: refusal,
-            dynamic: [0u8; 4],
-        };
-    }
-    MarkedAt {
-        refusal: 0,
-        dynamic: dynamic,
-    }
+    ask_refusal(count, positions)?;
+    let flags = read_marks(marks, positions);
+    take_rising(marks, positions)?;
+    Ok(flags)
 }
 
-// The numbers of the bodies at the first positions.
-fn hand(bodies: &[u16; Frame::MAX_BODIES], positions: &[u16], count: usize) -> [u16; 4]
-    requires { Handable positions.now count }
-    ensures { result ≡ four (map (λ p. get_or bodies.now p 0) (take count positions.now)) }
+// The numbers of the bodies at the positions.
+fn hand(bodies: &[u16; Frame::MAX_BODIES], positions: &[u16]) -> [u16; Frame::MAX_ENDS]
+    requires { Handable positions.now }
+    ensures { result ≡ four (map (λ p. get_or bodies.now p 0) positions.now) }
 {
-    let mut handed = [0u16; 4];
-    let mut i = 0;
+    let mut handed = [0u16; Frame::MAX_ENDS];
     // The first i numbers are those at their positions, the others 0.
-    while i < count {
-        let p = positions[i] as usize;
-        handed[i] = bodies[p];
-        i += 1;
+    for (i, &p) in positions.iter().enumerate() {
+        handed[i] = bodies[p as usize];
     }
     handed
 }
@@ -164,24 +127,19 @@ pub fn take_from(
     marks: &mut [u8; Frame::MAX_BODIES],
     count: usize,
     positions: &[u16],
-) -> TakenAt
+) -> Result<TakenAt, Refusal>
     ensures { TakesAt (record { bodies = bodies.now; marks = marks.old; count = count }) positions.now result (record { bodies = bodies.now; marks = marks.new; count = count }) }
 {
-    let marked = take_marks_at(marks, count, positions);
-    let refusal = marked.refusal;
-    let dynamic = marked.dynamic;
-    let handed = bound_count(refusal, positions.len());
-    let numbers = hand(bodies, positions, handed);
-    TakenAt {
-        refusal: refusal,
-        count: handed,
-        bodies: numbers,
-        dynamic: dynamic,
-    }
+    let dynamic = take_marks_at(marks, count, positions)?;
+    Ok(TakenAt {
+        count: positions.len(),
+        bodies: hand(bodies, positions),
+        dynamic,
+    })
 }
 
 // The same take where the caller keeps the binding.
-pub fn take_bodies_at(binding: &mut BodyBinding, positions: &[u16]) -> TakenAt
+pub fn take_bodies_at(binding: &mut BodyBinding, positions: &[u16]) -> Result<TakenAt, Refusal>
     ensures { TakesAt binding.old positions.now result binding.new }
 {
     let count = binding.count;
@@ -190,13 +148,13 @@ pub fn take_bodies_at(binding: &mut BodyBinding, positions: &[u16]) -> TakenAt
 
 impl BodyBinding {
     // The same take by value.
-    pub fn bodies_at(mut self, positions: &[u16]) -> MultiStep
+    pub fn bodies_at(mut self, positions: &[u16]) -> Step<Result<TakenAt, Refusal>>
         ensures { TakesAt self positions.now result.taken result.binding }
     {
         let taken = take_bodies_at(&mut self, positions);
-        MultiStep {
+        Step {
             binding: self,
-            taken: taken,
+            taken,
         }
     }
 }

@@ -1,41 +1,39 @@
 -- What a take adds can be seen from its answer on the marks alone: the plan's other tables and the binding's bodies make no difference.
-use Rattle.std.proofs.Common.{Bor, Ok, Err, ℕ, zero, suc, ◌+◌, ◌-◌, ◌≤◌, ◌<◌, ◌≡◌, refl, sym, ap, ◌∙◌, Bool, cond, List, [], ◌∷◌, ◌++◌, map, arith, add-one, ltb, eqb, length, get_or, drop, replicate, drop_of_length-le, drop-cons, take_all, ne_eqb, le-leb, lt-ltb, le-ltb}
-use Rattle.std.proofs.lemmas.Bool.{eqb-false}
+use Rattle.std.proofs.Common.{Bor, Ok, Err, Result, ℕ, zero, suc, ◌+◌, ◌-◌, ◌≤◌, ◌<◌, ◌≡◌, refl, sym, ap, ◌∙◌, Bool, cond, List, [], ◌∷◌, ◌++◌, map, arith, add-one, ltb, eqb, length, get_or, drop, replicate, drop_of_length-le, drop-cons, take_all, ne_eqb, le-leb, lt-ltb, le-ltb}
 use Rattle.lists.specs.Basics.{one, count, sum_of, four, join_map, range_from}
 use Rattle.lists.proofs.Laws.{by_cases}
 use Rattle.lists.proofs.Fills.{whole}
 use Rattle.lists.proofs.Sums.{sum_append, sum_map}
 use Rattle.frame.specs.declared.refusal.Refusal.{Refusal}
 use Rattle.frame.specs.Frames.{end_count}
-use Rattle.frame.specs.Refusals.{number_of}
 use Rattle.groups.specs.Groups.{pair_at, Plan}
 use Rattle.parts.specs.Parts.{part_at, Present}
 use Rattle.parts.proofs.Bounds.{part-counted, counted_bounded}
 use Rattle.constraint_coloring.specs.declared.ConstraintColoring.{ConstraintColoring}
-use Rattle.plan_questions.specs.Plans.{group_part}
+use Rattle.plan_questions.specs.Plans.{positions_refusal}
 use Rattle.constraint_coloring.specs.Calls.{Located}
-use Rattle.constraint_coloring.proofs.Updates.{number_not-0}
 use Rattle.multi_coloring.specs.Counts.{count_read, counts_read, multi_positions_refusal}
 use Rattle.colored_bodies.specs.declared.BodyBinding.{BodyBinding}
 use Rattle.colored_bodies.specs.declared.Marked.{Marked}
-use Rattle.colored_bodies.specs.declared.multi.MarkedAt.{MarkedAt}
+use Rattle.colored_bodies.proofs.Pairs.{numbered}
+use Rattle.frame.specs.Refusals.{number_of, refused_by}
 use Rattle.colored_bodies.specs.Bindings.{Handed, bind_of, handed_at, take_of, take_refusal, take_marks}
-use Rattle.colored_bodies.specs.Answers.{marked_dynamic, Marks, flags_of, MarksAt}
+use Rattle.colored_bodies.specs.Answers.{marked_dynamic, Marks, marked_flags, flags_of, MarksAt}
 use Rattle.schedules.specs.Runs.{Call, members_in, bodies_in, lookup_refusal, lookup_of, take_rank, calls_from, turns_of, takes_of}
-use Rattle.schedules.proofs.Condition3.{same_calls}
 use Rattle.schedules.proofs.Places.{read-known}
-use Rattle.turn_table.specs.declared.Taken.{Taken}
+use Rattle.turn_table.specs.declared.Turn.{Turn}
 use Rattle.turn_table.specs.declared.Tally.{Tally}
 use Rattle.turn_table.specs.Turns.{Added, added_by_take, Room, Appended}
-use Rattle.group_run.specs.Appends.{seen, calls_in, plan_calls, added_by, marks_only, Countable, pair_taken, counted_taken, RankTaken, MemberTaken}
+use Rattle.group_run.specs.Appends.{seen, calls_in, plan_calls, added_by, marks_only, Countable, pair_taken, counted_taken, dynamic_taken, RankTaken, MemberTaken}
 use Rattle.group_run.proofs.Appends.{parts_next}
+use Rattle.frame.specs.declared.refusal.Refusal.TheVariants.{NoConstraint}
 
 -- ---- a take of a rank, from the answers of the lookup and of the take of marks
 module _ (p : Plan) (marks : List ℕ) (n r : ℕ) where
   abbrev b : BodyBinding
   b = marks_only marks n
 
-  rank_taken : (ps : List ℕ) (t : Taken) (left : List ℕ) → lookup_refusal p r ≡ 0 → lookup_of p r ≡ ps → t.refusal ≡ (take_of b ps).refusal → t.dynamic ≡ count (λ h. h.dynamic) (take_of b ps).handed → left ≡ (take_of b ps).after.marks → RankTaken p marks n r t left
+  rank_taken : (ps : List ℕ) (t : Result ℕ Refusal) (left : List ℕ) → lookup_refusal p r ≡ 0 → lookup_of p r ≡ ps → refused_by t ≡ (take_of b ps).refusal → dynamic_taken t ≡ count (λ h. h.dynamic) (take_of b ps).handed → left ≡ (take_of b ps).after.marks → RankTaken p marks n r t left
   unfolding take_rank take_of
   rank_taken ps t left z e q d m = record {
     refusal = rw (z, e) q;
@@ -43,17 +41,28 @@ module _ (p : Plan) (marks : List ℕ) (n r : ℕ) where
     after = rw (z, e) (ap (λ (ms : List ℕ). marks_only ms n) m);
   }
 
-  rank_refused : (k : ℕ) → lookup_refusal p r ≡ k → (k ≡ 0 → ⊥) → RankTaken p marks n r (record { refusal = k; dynamic = 0 }) marks
+  rank_refused : (k : Refusal) → lookup_refusal p r ≡ number_of k → RankTaken p marks n r (Err k) marks
   unfolding take_rank
-  rank_refused k e ne = record { refusal = rw (e, ne_eqb k 0 ne); dynamic = rw (e, ne_eqb k 0 ne); after = rw (e, ne_eqb k 0 ne) }
+  rank_refused k e =
+      let some : eqb (number_of k) 0 ≡ false = ne_eqb (number_of k) 0 (numbered k) in
+      record { refusal = rw (e, some); dynamic = rw (e, some); after = rw (e, some) }
 
 -- ---- of a pair
-pub dynamic-two : (hs : List Handed) (m : Marked) → marked_dynamic m ≡ map (λ h. h.dynamic) hs → (pair_taken m).dynamic ≡ count (λ h. h.dynamic) hs
-dynamic-two hs m e = ap (count (λ (d : Bool). d)) e ∙ sum_map one (λ (h : Handed). h.dynamic) hs
 
-module _ (plan : ConstraintColoring) (pos marks : List ℕ) (n r : ℕ) where
+pub same-pair_number : (m : Result Marked Refusal) → refused_by (pair_taken m) ≡ refused_by m
+same-pair_number (Ok m) = refl
+same-pair_number (Err r) = refl
+
+pair-dynamic : (m : Result Marked Refusal) → dynamic_taken (pair_taken m) ≡ count (λ (d : Bool). d) (marked_dynamic m)
+pair-dynamic (Ok m) = refl
+pair-dynamic (Err r) = refl
+
+pub dynamic-two : (hs : List Handed) (m : Result Marked Refusal) → marked_dynamic m ≡ map (λ h. h.dynamic) hs → dynamic_taken (pair_taken m) ≡ count (λ h. h.dynamic) hs
+dynamic-two hs m e = pair-dynamic m ∙ ap (count (λ (d : Bool). d)) e ∙ sum_map one (λ (h : Handed). h.dynamic) hs
+
+module _ (plan : ConstraintColoring) (counts co cc bo cb pos marks : List ℕ) (none : length counts ≡ 0) (n r : ℕ) where
   abbrev paired : Plan
-  paired = seen plan [] [] [] [] [] pos
+  paired = seen plan counts co cc bo cb pos
 
   abbrev two : BodyBinding
   two = marks_only marks n
@@ -62,18 +71,21 @@ module _ (plan : ConstraintColoring) (pos marks : List ℕ) (n r : ℕ) where
   pub pair_found : (places : Bor (List ℕ)) → Located plan.constraint_count pos r (Ok places) → places.now ≡ pair_at pos r
   pair_found places l = l.values ∙ ap (λ (j : ℕ). cond (eqb j 0) (pair_at pos r) []) (sym l.refusal)
 
-  pub pair_is_taken : (places : Bor (List ℕ)) → Located plan.constraint_count pos r (Ok places) → (m : Marked) (t : Taken) (left : List ℕ) → Marks two (get_or places.now 0 0 ∷ get_or places.now 1 0 ∷ []) m left → t ≡ pair_taken m → RankTaken paired marks n r t left
+  pub pair_is_taken : (places : Bor (List ℕ)) → Located plan.constraint_count pos r (Ok places) → (m : Result Marked Refusal) (left : List ℕ) → Marks two (get_or places.now 0 0 ∷ get_or places.now 1 0 ∷ []) m left → RankTaken paired marks n r (pair_taken m) left
   unfolding lookup_refusal lookup_of
-  pair_is_taken places l m t left h k =
+  pair_is_taken places l m left h =
+      let z : positions_refusal plan.constraint_count pos r ≡ 0 = sym l.refusal in
       let ps : get_or places.now 0 0 ∷ get_or places.now 1 0 ∷ [] ≡ pair_at pos r = rw (pair_found places l) in
-      rank_taken paired marks n r (get_or places.now 0 0 ∷ get_or places.now 1 0 ∷ []) t left (sym l.refusal) (sym ps)
-      (ap (λ (u : Taken). u.refusal) k ∙ h.refusal)
-      (ap (λ (u : Taken). u.dynamic) k ∙ dynamic-two (take_of two (get_or places.now 0 0 ∷ get_or places.now 1 0 ∷ [])).handed m h.dynamic)
+      rank_taken paired marks n r (get_or places.now 0 0 ∷ get_or places.now 1 0 ∷ []) (pair_taken m) left (rw none z) (rw none (sym ps))
+      (same-pair_number m ∙ h.refusal)
+      (dynamic-two (take_of two (get_or places.now 0 0 ∷ get_or places.now 1 0 ∷ [])).handed m h.dynamic)
       h.marks
 
-  pub pair_refused : (k : Refusal) → Located plan.constraint_count pos r (Err k) → RankTaken paired marks n r (record { refusal = number_of k; dynamic = 0 }) marks
+  pub pair_refused : (f : Refusal) → Located plan.constraint_count pos r (Err f) → RankTaken paired marks n r (Err f) marks
   unfolding lookup_refusal
-  pair_refused k l = rank_refused paired marks n r (number_of k) (sym l.refusal) (number_not-0 k)
+  pair_refused f l =
+      let z : positions_refusal plan.constraint_count pos r ≡ number_of f = sym l.refusal in
+      rank_refused paired marks n r f (rw none z)
 
 -- ---- of a constraint that has a count
 four-flags : (xs : List ℕ) → sum_of (λ f. f) (four xs) ≡ sum_of (λ f. f) xs
@@ -84,12 +96,21 @@ four-flags xs = omega (arith, sum_append (λ (f : ℕ). f) xs (replicate (4 - le
     sum_none zero = refl
     sum_none (suc n) = omega (arith, sum_none n)
 
-pub dynamic-several : (hs : List Handed) (m : MarkedAt) → m.dynamic ≡ flags_of hs → (counted_taken m).dynamic ≡ count (λ h. h.dynamic) hs
-dynamic-several hs m e = ap (sum_of (λ (f : ℕ). f)) e ∙ four-flags (map (λ h. one h.dynamic) hs) ∙ sum_map (λ (f : ℕ). f) (λ (h : Handed). one h.dynamic) hs
+pub same-counted_number : (m : Result (List ℕ) Refusal) → refused_by (counted_taken m) ≡ refused_by m
+same-counted_number (Ok m) = refl
+same-counted_number (Err r) = refl
 
-module _ {plan : ConstraintColoring} {counts bounds pos : List ℕ} (c : Countable plan counts bounds pos) (some : length counts ≡ 0 → ⊥) where
+counted-dynamic : (m : Result (List ℕ) Refusal) → dynamic_taken (counted_taken m) ≡ sum_of (λ (f : ℕ). f) (marked_flags m)
+unfolding four
+counted-dynamic (Ok m) = refl
+counted-dynamic (Err r) = refl
+
+pub dynamic-several : (hs : List Handed) (m : Result (List ℕ) Refusal) → marked_flags m ≡ flags_of hs → dynamic_taken (counted_taken m) ≡ count (λ h. h.dynamic) hs
+dynamic-several hs m e = counted-dynamic m ∙ ap (sum_of (λ (f : ℕ). f)) e ∙ four-flags (map (λ h. one h.dynamic) hs) ∙ sum_map (λ (f : ℕ). f) (λ (h : Handed). one h.dynamic) hs
+
+module _ {plan : ConstraintColoring} {counts bounds pos : List ℕ} (c : Countable plan counts bounds pos) (some : length counts ≡ 0 → ⊥) (co cc bo cb : List ℕ) where
   abbrev several : Plan
-  several = seen plan counts [] [] [] [] pos
+  several = seen plan counts co cc bo cb pos
 
   counts_are : counts_read plan.constraint_count counts ≡ counts
   counts_are = ap (map count_read) (take_all plan.constraint_count counts (omega (arith, c.constraints some))) ∙ read-known counts c.known
@@ -114,15 +135,15 @@ module _ {plan : ConstraintColoring} {counts bounds pos : List ℕ} (c : Countab
   located_at r h = rw (ne_eqb (length counts) 0 some, counts_are) (sym (part-counted c.bounds_of c.long pos r h))
 
   module _ (marks : List ℕ) (n r : ℕ) where
-    pub counted_is_taken : (ps : List ℕ) (m : MarkedAt) (t : Taken) (left : List ℕ) → r < length counts → ps ≡ part_at bounds pos r → MarksAt (marks_only marks n) ps m left → t ≡ counted_taken m → RankTaken several marks n r t left
-    counted_is_taken ps m t left h e k g =
-        rank_taken several marks n r ps t left (located_from r ∙ rw (lt-ltb r (length counts) h)) (located_at r h ∙ sym e)
-        (ap (λ (u : Taken). u.refusal) g ∙ k.refusal)
-        (ap (λ (u : Taken). u.dynamic) g ∙ dynamic-several (take_of (marks_only marks n) ps).handed m k.dynamic)
+    pub counted_is_taken : (ps : List ℕ) (m : Result (List ℕ) Refusal) (left : List ℕ) → r < length counts → ps ≡ part_at bounds pos r → MarksAt (marks_only marks n) ps m left → RankTaken several marks n r (counted_taken m) left
+    counted_is_taken ps m left h e k =
+        rank_taken several marks n r ps (counted_taken m) left (located_from r ∙ rw (lt-ltb r (length counts) h)) (located_at r h ∙ sym e)
+        (same-counted_number m ∙ k.refusal)
+        (dynamic-several (take_of (marks_only marks n) ps).handed m k.dynamic)
         k.marks
 
-    pub counted_past : length counts ≤ r → RankTaken several marks n r (record { refusal = 12; dynamic = 0 }) marks
-    counted_past h = rank_refused several marks n r 12 (located_from r ∙ rw (le-ltb r (length counts) h)) (λ z. omega arith)
+    pub counted_past : length counts ≤ r → RankTaken several marks n r (Err NoConstraint) marks
+    counted_past h = rank_refused several marks n r NoConstraint (located_from r ∙ rw (le-ltb r (length counts) h))
 
 -- ---- what it adds
 
@@ -136,28 +157,31 @@ unfolding take_rank
 none_handed p b r ne = by_cases (eqb (lookup_refusal p r) 0) (λ e. rw e (none_taken b (lookup_of p r) (rw e at ne))) (λ e. rw e)
 
 -- the same as its answer on the marks
-pub call_added : (c : Call) (t : Taken) → t.refusal ≡ c.refusal → t.dynamic ≡ count (λ h. h.dynamic) c.handed → ((c.refusal ≡ 0 → ⊥) → c.handed ≡ [])
-    → added_by (c ∷ []) ≡ added_by_take c.island c.group c.constraint t
+pub call_added : (c : Call) (turn : Turn) (t : Result ℕ Refusal) → refused_by t ≡ c.refusal → dynamic_taken t ≡ count (λ h. h.dynamic) c.handed → ((c.refusal ≡ 0 → ⊥) → c.handed ≡ [])
+    → turn.island ≡ c.island → turn.group ≡ c.group → turn.number ≡ c.constraint → added_by (c ∷ []) ≡ added_by_take turn t
 unfolding turns_of takes_of
-call_added c t e d none = by_cases (eqb c.refusal 0)
-    (λ z. let k : count (λ h. h.dynamic) c.handed + 0 ≡ t.dynamic = omega (arith, d) in rw (e, z, k))
-    (λ z. rw (e, z, none (eqb-false c.refusal 0 z)))
-
-pub rank_added : (p : Plan) (ns : List ℕ) (i k : ℕ) (marks left : List ℕ) (n r : ℕ) (t : Taken) → RankTaken p marks n r t left
-    → added_by (calls_from p ns i k (marks_only marks n) (r ∷ [])) ≡ added_by_take i k (get_or ns r 0) t
-unfolding calls_from
-rank_added p ns i k marks left n r t h = call_added _ t h.refusal h.dynamic (none_handed p (marks_only marks n) r)
+call_added c turn (Ok m) e d none i k n =
+    let z : eqb c.refusal 0 ≡ true = eq-eqb c.refusal 0 (sym e) in
+    let sum : count (λ h. h.dynamic) c.handed + 0 ≡ m = omega (arith, d) in
+    rw (z, i, k, n, sum)
+call_added c turn (Err r) e d none i k n =
+    let ne : c.refusal ≡ 0 → ⊥ = λ z. numbered r (e ∙ z) in
+    rw (ne_eqb c.refusal 0 ne, none ne)
 
 -- ---- a member, and the members one after another
 
-module _ (p : Plan) (ns : List ℕ) (i k : ℕ) (marks left : List ℕ) (n r : ℕ) (m : Taken) (x : ℕ) (t : List ℕ) (s : Tally) (taken : RankTaken p marks n r m left) (number : x ≡ get_or ns r 0) where
-  adds : added_by (calls_from p ns i k (marks_only marks n) (r ∷ [])) ≡ added_by_take i k x m
-  adds = rank_added p ns i k marks left n r m taken ∙ ap (λ (y : ℕ). added_by_take i k y m) (sym number)
+module _ (p : Plan) (ns : List ℕ) (i k : ℕ) (marks left : List ℕ) (n r : ℕ) (m : Result ℕ Refusal) (x : ℕ) (t : List ℕ) (s : Tally) (taken : RankTaken p marks n r m left) (number : x ≡ get_or ns r 0) where
+  abbrev turn : Turn
+  turn = record { island = i; group = k; number = x }
 
-  pub member_room : Room (added_by (calls_from p ns i k (marks_only marks n) (r ∷ []))) t s → Room (added_by_take i k x m) t s
+  adds : added_by (calls_from p ns i k (marks_only marks n) (r ∷ [])) ≡ added_by_take turn m
+  unfolding calls_from
+  adds = call_added _ turn m taken.refusal taken.dynamic (none_handed p (marks_only marks n) r) refl refl number
+
+  pub member_room : Room (added_by (calls_from p ns i k (marks_only marks n) (r ∷ []))) t s → Room (added_by_take turn m) t s
   member_room h = rw adds at h
 
-  pub member_taken : (t' : List ℕ) (s' : Tally) → Appended (added_by_take i k x m) t s t' s' → MemberTaken p ns i k marks n r t s left t' s'
+  pub member_taken : (t' : List ℕ) (s' : Tally) → Appended (added_by_take turn m) t s t' s' → MemberTaken p ns i k marks n r t s left t' s'
   member_taken t' s' h = record { added = rw adds h; after = taken.after }
 
 module _ (p : Plan) (ns : List ℕ) (i k : ℕ) (b : BodyBinding) (rs : List ℕ) (m : ℕ) where
@@ -234,16 +258,11 @@ unfolding plan_calls
 groups_first p types ns i = rw (whole p.groups)
 
 -- the calls of a group, by the parts of the tables that the lookups hand back
-module _ (plan : ConstraintColoring) (counts co cc bo cb pos types ns bodies members : List ℕ) (i k : ℕ) where
-  pub calls_in_lem : members ≡ group_part plan.color_count co cc k → bodies ≡ group_part plan.color_count bo cb k
-      → calls_in (seen plan counts co cc bo cb pos) types ns i k ≡ calls_from (seen plan counts [] [] [] [] pos) ns i k (bind_of types bodies) members
-  unfolding calls_in bodies_in members_in take_rank lookup_refusal lookup_of
-  calls_in_lem e f = rw (sym e, sym f) (same_calls (seen plan counts co cc bo cb pos) (seen plan counts [] [] [] [] pos) ns i k (λ b r. refl) (bind_of types bodies) members)
-
+module _ (p : Plan) (types ns bodies members : List ℕ) (i k : ℕ) where
   -- of the groups from k on: this one, and those after it
-  pub group_next : k < plan.color_count → members ≡ group_part plan.color_count co cc k → bodies ≡ group_part plan.color_count bo cb k
-      → join_map (calls_in (seen plan counts co cc bo cb pos) types ns i) (range_from k (plan.color_count - k))
-      ≡ calls_from (seen plan counts [] [] [] [] pos) ns i k (bind_of types bodies) members ++ join_map (calls_in (seen plan counts co cc bo cb pos) types ns i) (range_from (k + 1) (plan.color_count - (k + 1)))
+  pub group_next : k < p.groups → members ≡ members_in p k → bodies ≡ bodies_in p k
+      → join_map (calls_in p types ns i) (range_from k (p.groups - k))
+      ≡ calls_from p ns i k (bind_of types bodies) members ++ join_map (calls_in p types ns i) (range_from (k + 1) (p.groups - (k + 1)))
+  unfolding calls_in
   group_next h e f =
-      parts_next (calls_in (seen plan counts co cc bo cb pos) types ns i) k plan.color_count h
-      ∙ ap (λ (cs : List Call). cs ++ join_map (calls_in (seen plan counts co cc bo cb pos) types ns i) (range_from (k + 1) (plan.color_count - (k + 1)))) (calls_in_lem e f)
+      rw (e, f) (parts_next (calls_in p types ns i) k p.groups h)

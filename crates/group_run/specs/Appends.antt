@@ -1,5 +1,5 @@
 -- What a part of the run adds to the turn table and to the takes.
-use Rattle.std.specs.Prelude.{ℕ, ◌*◌, ◌≤◌, ◌≡◌, true, List, [], ◌∷◌, length}
+use Rattle.std.specs.Prelude.{ℕ, ◌*◌, ◌≤◌, ◌≡◌, true, Result, Ok, Err, List, [], ◌∷◌, length}
 use Rattle.lists.specs.Basics as lists
 use Rattle.lists.specs.Basics.{sum_of, join_map, range}
 use Rattle.frame.specs.Frames.{counts_known, end_count}
@@ -9,11 +9,11 @@ use Rattle.constraint_coloring.specs.Calls.{plan_with}
 use Rattle.colored_bodies.specs.declared.BodyBinding.{BodyBinding}
 use Rattle.parts.specs.Steps.{BoundsOf}
 use Rattle.colored_bodies.specs.declared.Marked.{Marked}
-use Rattle.colored_bodies.specs.declared.multi.MarkedAt.{MarkedAt}
+use Rattle.frame.specs.declared.refusal.Refusal.{Refusal}
+use Rattle.frame.specs.Refusals.{refused_by}
 use Rattle.colored_bodies.specs.Bindings.{bind_of}
-use Rattle.colored_bodies.specs.Answers.{marked_number, marked_dynamic}
+use Rattle.colored_bodies.specs.Answers.{marked_dynamic}
 use Rattle.schedules.specs.Runs.{Call, members_in, bodies_in, take_rank, calls_from, turn_of, turns_of, takes_of}
-use Rattle.turn_table.specs.declared.Taken.{Taken}
 use Rattle.turn_table.specs.declared.Tally.{Tally}
 use Rattle.turn_table.specs.Turns.{Added, Appended}
 
@@ -52,17 +52,24 @@ added_by cs = record { turns = join_map turn_of (turns_of cs); takes = takes_of 
 abbrev pub marks_only : List ℕ → ℕ → BodyBinding
 marks_only marks count = record { bodies = []; marks = marks; count = count }
 
--- what a take of two marks says to the turn table, and a take of two to four: its refusal or 0, and how many bodies it hands as dynamic
-abbrev pub pair_taken : Marked → Taken
-pair_taken m = record { refusal = marked_number m; dynamic = lists.count (λ d. d) (marked_dynamic m) }
+-- how many bodies a take of two marks hands as dynamic, and a take of two to four
+abbrev pub pair_taken : Result Marked Refusal → Result ℕ Refusal
+pair_taken (Ok m) = Ok (lists.count (λ d. d) (marked_dynamic (Ok m)))
+pair_taken (Err r) = Err r
 
-abbrev pub counted_taken : MarkedAt → Taken
-counted_taken m = record { refusal = m.refusal; dynamic = sum_of (λ f. f) m.dynamic }
+abbrev pub counted_taken : Result (List ℕ) Refusal → Result ℕ Refusal
+counted_taken (Ok flags) = Ok (sum_of (λ f. f) flags)
+counted_taken (Err r) = Err r
+
+-- of a take that is refused none
+abbrev pub dynamic_taken : Result ℕ Refusal → ℕ
+dynamic_taken (Ok n) = n
+dynamic_taken (Err r) = 0
 
 -- the take of a rank: its refusal or 0, how many bodies it hands as dynamic, and the marks that it leaves
-pub record RankTaken (p : Plan) (marks : List ℕ) (count rank : ℕ) (r : Taken) (left : List ℕ) : Type 0 where
-  pub refusal : r.refusal ≡ (take_rank p (marks_only marks count) rank).refusal
-  pub dynamic : r.dynamic ≡ lists.count (λ h. h.dynamic) (take_rank p (marks_only marks count) rank).handed
+pub record RankTaken (p : Plan) (marks : List ℕ) (count rank : ℕ) (r : Result ℕ Refusal) (left : List ℕ) : Type 0 where
+  pub refusal : refused_by r ≡ (take_rank p (marks_only marks count) rank).refusal
+  pub dynamic : dynamic_taken r ≡ lists.count (λ h. h.dynamic) (take_rank p (marks_only marks count) rank).handed
   pub after : marks_only left count ≡ (take_rank p (marks_only marks count) rank).after
 
 -- a member taken: what it adds, and the marks that it leaves

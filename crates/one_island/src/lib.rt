@@ -9,6 +9,7 @@ ghost use Rattle.group_run.specs.Appends.{seen, plan_calls, added_by};
 ghost use Rattle.one_island.specs.Island.{island_calls, ranks, Ready, Counted, Colored};
 
 use constraint_coloring::ConstraintColoring;
+use group_run::PlannedIsland;
 use multi_coloring::MultiColoring;
 use plan_questions::PlanTables;
 use turn_table::Tally;
@@ -89,7 +90,7 @@ fn run_colored(
 {
     let bounds = &mut body_constraints[..2 * counts.len()];
     parts::bound_counts(counts, bounds);
-    group_run::run_groups(
+    let planned = PlannedIsland {
         island,
         numbers,
         types,
@@ -100,10 +101,9 @@ fn run_colored(
         colored_constraints,
         color_body_offsets,
         color_bodies,
-        constraint_body_positions,
-        turns,
-        tally,
-    )
+        positions: constraint_body_positions,
+    };
+    group_run::run_groups(planned, turns, tally)
 }
 
 // One island, whose constraints are `numbers`, with these endpoints and counts; without counts they are pairs. The tables of the plan are free.

@@ -1,24 +1,20 @@
 // A binding with takes: types, a list, then pairs of positions, one byte each.
 use crate::Answer;
-use colored_bodies::{BodyBinding, Take};
-use frame::Frame;
+use colored_bodies::{BodyBinding, Taken};
+use frame::refusal::refusal_number;
+use frame::{Frame, Refusal};
 use records::{Reader, Writer};
 
-fn put_take(take: Take, out: &mut Answer) {
-    match take {
-        Take::Taken {
-            first,
-            first_dynamic,
-            second,
-            second_dynamic,
-        } => {
+fn put_take(taken: Result<Taken, Refusal>, out: &mut Answer) {
+    match taken {
+        Ok(taken) => {
             out.byte(0);
-            out.half(first);
-            out.byte(u8::from(first_dynamic));
-            out.half(second);
-            out.byte(u8::from(second_dynamic));
+            out.half(taken.first);
+            out.byte(u8::from(taken.first_dynamic));
+            out.half(taken.second);
+            out.byte(u8::from(taken.second_dynamic));
         }
-        Take::Refused(n) => out.byte(n),
+        Err(refusal) => out.byte(refusal.number()),
     }
 }
 
@@ -38,7 +34,7 @@ fn take_all(mut binding: BodyBinding, takes: u8, question: &mut Reader, out: &mu
         let a = question.byte();
         let b = question.byte();
         let step = binding.pair_at(usize::from(a), usize::from(b));
-        put_take(step.take, out);
+        put_take(step.taken, out);
         put_binding(&step.binding, out);
         binding = step.binding;
     }
@@ -55,7 +51,7 @@ pub fn answer(question: &[u8]) -> Answer {
     question.numbers(list);
     let bound = BodyBinding::bind(types, list);
     let mut out = Writer::new();
-    out.byte(bound.refusal);
+    out.byte(refusal_number(&bound.asked));
     put_binding(&bound.binding, &mut out);
     take_all(bound.binding, takes, &mut question, &mut out);
     out

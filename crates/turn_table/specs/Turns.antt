@@ -1,7 +1,8 @@
 -- What is added to the turn table and to the takes of dynamic bodies.
-use Rattle.std.specs.Prelude.{ℕ, ◌+◌, ◌*◌, ◌≤◌, ◌≡◌, cond, List, [], ◌∷◌, eqb, length}
+use Rattle.std.specs.Prelude.{ℕ, ◌+◌, ◌*◌, ◌≤◌, ◌≡◌, Result, Ok, Err, List, [], ◌∷◌, length}
 use Rattle.lists.specs.Basics.{put}
-use Rattle.turn_table.specs.declared.Taken.{Taken}
+use Rattle.frame.specs.declared.refusal.Refusal.{Refusal}
+use Rattle.turn_table.specs.declared.Turn.{Turn}
 use Rattle.turn_table.specs.declared.Tally.{Tally}
 
 -- entries of the turn table, and takes of dynamic bodies
@@ -9,9 +10,14 @@ pub record Added : Type 0 where
   pub turns : List ℕ
   pub takes : ℕ
 
+-- a turn as it stands in the table
+abbrev pub turn_numbers : Turn → List ℕ
+turn_numbers t = t.island ∷ t.group ∷ t.number ∷ []
+
 -- what one take adds: a turn and the bodies handed as dynamic, unless it is refused
-abbrev pub added_by_take : ℕ → ℕ → ℕ → Taken → Added
-added_by_take i k n t = cond (eqb t.refusal 0) (record { turns = i ∷ k ∷ n ∷ []; takes = t.dynamic }) (record { turns = []; takes = 0 })
+abbrev pub added_by_take : Turn → Result ℕ Refusal → Added
+added_by_take t (Ok dynamic) = record { turns = turn_numbers t; takes = dynamic }
+added_by_take t (Err r) = record { turns = []; takes = 0 }
 
 -- there is room for it: places of the turn table, and takes of 4,096 bodies by 8,192 constraints at most
 pub record Room (a : Added) (t : List ℕ) (s : Tally) : Type 0 where

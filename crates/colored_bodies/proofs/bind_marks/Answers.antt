@@ -5,9 +5,9 @@ use Rattle.colored_bodies.proofs.Fills.{fillable, bound_is}
 use Rattle.colored_bodies.proofs.bind_marks.Goals as goal
 
 pub mark_bodies-requires : goal.mark_bodies-requires
-mark_bodies-requires c = (fillable _ _ _ _ c.known_refusal.ensures c.bound_count-count.ensures, refl)
+mark_bodies-requires c = (fillable _ _ _ _ c.known_refusal.ensures c.listed-bodies.ensures, refl)
 
 pub returns : goal.returns
 returns c =
-    let bound = bound_is _ _ _ _ c.known_refusal.ensures c.bound_count-count.ensures in
+    let bound = bound_is _ _ _ _ c.known_refusal.ensures c.listed-bodies.ensures in
     (ap (λ (b : BodyBinding). b.count) bound, c.mark_bodies.ensures ∙ ap (λ (b : BodyBinding). b.marks) bound)

@@ -1,11 +1,7 @@
 -- The table is the marks of the bodies so far, padded.
-use Rattle.std.proofs.Common.{take, ◌-◌, ◌≤◌, ◌≡◌, map}
+use Rattle.std.proofs.Common.{take, ◌≡◌, map}
 use Rattle.colored_bodies.specs.Bindings.{mark_of, padded}
-use Rattle.colored_bodies.specs.Answers.{Fillable}
 use Rattle.colored_bodies.proofs.mark_bodies.Given as goal
 
 abbrev pub invariant-loop-i : goal.invariant-loop-i
-invariant-loop-i l = (l.i ≤ l.count) × Fillable l.types l.indices l.count × (l.marks ≡ padded (map (mark_of l.types) (take l.i l.indices)))
-
-abbrev pub decreases-loop-i : goal.decreases-loop-i
-decreases-loop-i l = l.count - l.i
+invariant-loop-i l = l.marks ≡ padded (map (mark_of l.types) (take l.i l.indices))

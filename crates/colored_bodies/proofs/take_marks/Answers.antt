@@ -1,6 +1,7 @@
 -- Positions that pass question 9 are places, and so are the lower and the higher of them; the rest is what `take_both` ensures.
-use Rattle.std.proofs.Common.{◌∙◌, sym}
-use Rattle.colored_bodies.proofs.Pairs.{placed-room, lower_room, higher_room, marks_unplaced, marks_taken, marks_refused}
+use Rattle.std.proofs.Common.{◌∙◌, sym, refl, arith}
+use Rattle.std.proofs.lemmas.Result.{err_from_is_err_and}
+use Rattle.colored_bodies.proofs.Pairs.{placed-room, marks_unplaced, marks_taken, marks_refused}
 use Rattle.colored_bodies.proofs.take_marks.Goals as goal
 
 pub returns-then-not-placed_in : goal.returns-then-not-placed_in
@@ -12,17 +13,15 @@ bounds-marks-a c = (placed-room _ _ _ (sym c.placed_in.ensures ∙ c.if-not-plac
 pub bounds-marks-b : goal.bounds-marks-b
 bounds-marks-b c = (placed-room _ _ _ (sym c.placed_in.ensures ∙ c.if-not-placed_in.false)).1
 
-pub take_both-refusal-requires : goal.take_both-refusal-requires
-take_both-refusal-requires c =
+pub take_both-requires : goal.take_both-requires
+take_both-requires c =
     let h = placed-room _ _ _ (sym c.placed_in.ensures ∙ c.if-not-placed_in.false) in
-    (lower_room _ _ _ _ c.lower.ensures h.0 h.1, higher_room _ _ _ _ c.higher.ensures h.0 h.1)
+    (omega (arith, h.0, h.1), omega (arith, h.0, h.1))
 
-pub returns-then-refusal-eq0 : goal.returns-then-refusal-eq0
-returns-then-refusal-eq0 c bodies =
-    marks_taken bodies _ _ _ _ _ _ _ _ (sym c.placed_in.ensures ∙ c.if-not-placed_in.false)
-    c.lower.ensures c.higher.ensures c.take_both-refusal.ensures c.if-refusal-eq0.true
+pub returns-in_err-take_both : goal.returns-in_err-take_both
+returns-in_err-take_both c bodies =
+    let p = err_from_is_err_and c.from_residual.result c.from_residual.ensures.1 in
+    rw (p.1, p.2) (marks_refused bodies _ _ _ _ _ _ _ _ (sym c.placed_in.ensures ∙ c.if-not-placed_in.false) c.min.ensures c.max.ensures c.in_err-take_both.ensures _ refl)
 
-pub returns-else-refusal-eq0 : goal.returns-else-refusal-eq0
-returns-else-refusal-eq0 c bodies =
-    marks_refused bodies _ _ _ _ _ _ _ _ (sym c.placed_in.ensures ∙ c.if-not-placed_in.false)
-    c.lower.ensures c.higher.ensures c.take_both-refusal.ensures c.if-refusal-eq0.false
+pub returns : goal.returns
+returns c bodies = marks_taken bodies _ _ _ _ _ _ _ _ (sym c.placed_in.ensures ∙ c.if-not-placed_in.false) c.min.ensures c.max.ensures c.in_ok-take_both.ensures refl

@@ -1,13 +1,19 @@
 -- `take_counted`: the positions of a constraint are its part of the table, and past the constraints the lookup refuses 12.
 use Rattle.std.proofs.Common.{[]}
+use Rattle.std.proofs.lemmas.Result.{err_from_is_err_and}
 use Rattle.group_run.proofs.Takes.{part_present, counted_is_taken, counted_past}
 use Rattle.group_run.proofs.take_counted.Goals as goal
 
-pub returns-then-counts-rank : goal.returns-then-counts-rank
-returns-then-counts-rank c = counted_past c.requires.countable c.requires.some _ _ _ c.if-counts-rank.true
+pub returns-then-planned-rank : goal.returns-then-planned-rank
+returns-then-planned-rank c = counted_past c.requires.countable c.requires.some _ _ _ _ _ _ _ c.if-planned-rank.true
 
 pub part-places-requires : goal.part-places-requires
-part-places-requires c = part_present c.requires.countable c.requires.some _ c.if-counts-rank.false
+part-places-requires c = part_present c.requires.countable c.requires.some [] [] [] [] _ c.if-planned-rank.false
+
+pub returns-in_err-flags : goal.returns-in_err-flags
+returns-in_err-flags c =
+    let p = err_from_is_err_and c.from_residual.result c.from_residual.ensures.1 in
+    rw (p.1, p.2) (counted_is_taken c.requires.countable c.requires.some _ _ _ _ _ _ _ _ _ _ c.if-planned-rank.false c.part-places.ensures (c.in_err-flags.ensures []))
 
 pub returns : goal.returns
-returns c = counted_is_taken c.requires.countable c.requires.some _ _ _ _ _ _ _ c.if-counts-rank.false c.part-places.ensures (c.take_marks_at.ensures []) c.counted_taken.ensures
+returns c = rw c.counted_taken.ensures (counted_is_taken c.requires.countable c.requires.some _ _ _ _ _ _ _ _ _ _ c.if-planned-rank.false c.part-places.ensures (c.in_ok-flags.ensures []))

@@ -1,19 +1,24 @@
 -- Questions 5 and 9 first; positions that pass are at most four places. The flags are read before `take_rising` marks anything.
-use Rattle.std.proofs.Common.{sym, ◌∙◌}
-use Rattle.colored_bodies.proofs.Positions.{ask_passed, at_refused, at_gone, at_taken}
+use Rattle.std.proofs.Common.{refl}
+use Rattle.std.proofs.lemmas.Result.{err_from_is_err_and}
+use Rattle.colored_bodies.proofs.Positions.{ask_passed, handable, at_refused, at_gone, at_taken}
 use Rattle.colored_bodies.proofs.multi.take_marks_at.Goals as goal
 
-pub returns-then-asked-ne0 : goal.returns-then-asked-ne0
-returns-then-asked-ne0 c bodies = at_refused bodies _ _ _ _ c.ask_refusal-asked.ensures c.if-asked-ne0.true
+pub returns-in_err-ask_refusal : goal.returns-in_err-ask_refusal
+returns-in_err-ask_refusal c bodies =
+    let p = err_from_is_err_and c.from_residual.result c.from_residual.ensures.1 in
+    rw (p.1, p.2) (at_refused bodies _ _ _ _ c.in_err-ask_refusal.ensures)
 
-pub read_marks-dynamic-requires : goal.read_marks-dynamic-requires
-read_marks-dynamic-requires c = ask_passed _ _ (sym c.ask_refusal-asked.ensures ∙ c.if-asked-ne0.false)
+pub read_marks-flags-requires : goal.read_marks-flags-requires
+read_marks-flags-requires c = handable _ _ c.in_ok-ask_refusal.ensures
 
-pub take_rising-refusal-requires : goal.take_rising-refusal-requires
-take_rising-refusal-requires c = ask_passed _ _ (sym c.ask_refusal-asked.ensures ∙ c.if-asked-ne0.false)
+pub take_rising-requires : goal.take_rising-requires
+take_rising-requires c = ask_passed _ _ c.in_ok-ask_refusal.ensures
 
-pub returns-then-refusal-ne0 : goal.returns-then-refusal-ne0
-returns-then-refusal-ne0 c bodies = at_gone bodies _ _ _ _ _ (sym c.ask_refusal-asked.ensures ∙ c.if-asked-ne0.false) c.take_rising-refusal.ensures c.if-refusal-ne0.true
+pub returns-in_err-take_rising : goal.returns-in_err-take_rising
+returns-in_err-take_rising c bodies =
+    let p = err_from_is_err_and c.from_residual-in_err-take_rising.result c.from_residual-in_err-take_rising.ensures.1 in
+    rw (p.1, p.2) (at_gone bodies _ _ _ _ _ c.in_ok-ask_refusal.ensures c.in_err-take_rising.ensures _ refl)
 
 pub returns : goal.returns
-returns c bodies = at_taken bodies _ _ _ _ _ (sym c.ask_refusal-asked.ensures ∙ c.if-asked-ne0.false) c.take_rising-refusal.ensures _ c.if-refusal-ne0.false c.read_marks-dynamic.ensures
+returns c bodies = at_taken bodies _ _ _ _ _ c.in_ok-ask_refusal.ensures c.in_ok-take_rising.ensures _ refl c.read_marks-flags.ensures

@@ -1,0 +1,6 @@
+use Rattle.schedules.specs.Runs.{bodies_in}
+use Rattle.group_run.proofs.PlannedIsland.bodies_of.Goals as goal
+
+pub returns : goal.returns
+unfolding bodies_in
+returns c = c.bodies_in_schedule_group.ensures
