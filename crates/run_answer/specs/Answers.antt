@@ -1,10 +1,13 @@
 -- What a run answers: document 01's number, 0 where accepted, and the four carried numbers, all 0 where refused.
-use Rattle.std.specs.Prelude.{ℕ, ◌+◌, ◌*◌, ◌/◌, ◌≡◌, Bool, true, false, not, cond, List, eqb, length}
+use Rattle.std.specs.Prelude.{ℕ, ◌+◌, ◌*◌, ◌/◌, ◌≡◌, Bool, true, false, not, cond, List, Result, eqb, length}
 use Rattle.frame.specs.Questions.{asked}
 use Rattle.frame.specs.Files.{second, count_b, count_m, count_j, joint_ends_in, file_questions}
 use Rattle.schedules.specs.Runs as runs
 use Rattle.turn_table.specs.declared.Tally.{Tally}
+use Rattle.frame.specs.declared.refusal.Refusal.{Refusal}
+use Rattle.frame.specs.Refusals.{refused_by}
 use Rattle.frame_tables.specs.declared.Filling.{Filling}
+use Rattle.frame_tables.specs.Filled.{islands_in, degree_in}
 use Rattle.run_answer.specs.declared.Report.{Report}
 use Rattle.run_answer.specs.declared.Answer.{Answer}
 use Rattle.run_answer.specs.declared.Asked.{Asked}
@@ -46,9 +49,9 @@ abbrev pub counts_room : Bool → ℕ → ℕ → ℕ
 counts_room counted m j = cond counted (m + j) 0
 
 -- the answer by a filling and a tally, three entries a turn
-pub record AnswerOf (f : Filling) (t : Tally) (r : Answer) : Type 0 where
-  pub refusal : run_number r ≡ f.refusal
-  pub refused : run_refused r ≡ not (eqb f.refusal 0)
-  pub report : run_report r ≡ cond (eqb f.refusal 0)
-      (record { islands = f.islands; turns = t.place / 3; takes = t.takes; degree = f.degree })
-      (reported (runs.refused f.refusal))
+pub record AnswerOf (f : Result Filling Refusal) (t : Tally) (r : Answer) : Type 0 where
+  pub refusal : run_number r ≡ refused_by f
+  pub refused : run_refused r ≡ not (eqb (refused_by f) 0)
+  pub report : run_report r ≡ cond (eqb (refused_by f) 0)
+      (record { islands = islands_in f; turns = t.place / 3; takes = t.takes; degree = degree_in f })
+      (reported (runs.refused (refused_by f)))

@@ -255,17 +255,17 @@ pub fn ask(
     }
 }
 
-// The report of a frame that was not refused.
-pub fn answer_of(filling: Filling, tally: Tally) -> Answer
+// The answer by what filling the tables answered, and by the tally of the turns.
+pub fn answer_of(filling: Result<Filling, Refusal>, tally: Tally) -> Answer
     ensures { AnswerOf filling tally result }
 {
-    if filling.refusal != 0 {
-        return Answer::Refused(filling.refusal);
+    match filling {
+        Ok(filled) => Answer::Ran(Report {
+            islands: filled.islands as usize,
+            turns: tally.place / 3,
+            takes: tally.takes,
+            degree: filled.degree,
+        }),
+        Err(refusal) => Answer::Refused(refusal.number()),
     }
-    Answer::Ran(Report {
-        islands: filling.islands as usize,
-        turns: tally.place / 3,
-        takes: tally.takes,
-        degree: filling.degree,
-    })
 }
