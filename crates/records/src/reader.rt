@@ -48,6 +48,13 @@ impl<'a> Reader<'a> {
         taken
     }
 
+    // All that is left.
+    pub fn rest(self) -> &'a [u8]
+        ensures { result.now ≡ self.entry.rest.now }
+    {
+        self.rest
+    }
+
     // Fills a list with the next bytes, each a number.
     pub fn numbers(&mut self, to: &mut [u16]) {
         for x in to.iter_mut() {

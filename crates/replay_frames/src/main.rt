@@ -6,61 +6,94 @@
 // the four numbers and the turn table in 16 bits each. The other tables have the largest frame's sizes.
 #![tactic(auto)]
 
-ghost use Rattle.std.specs.Prelude.{◌-◌, ◌≤◌};
-
-use records::{
-    Tally, counted, half_at, least, no_records, print, put, put_half, put_halves, read_record, same,
-};
+use records::{Reader, Writer};
 use run_answer::Report;
+use std::io;
+use std::io::ErrorKind;
 
-fn put_number(out: &mut [u8], at: usize, n: usize) -> usize {
-    put_half(out, at, (n % 65536) as u16)
+// The most bytes that a question and an answer have.
+const QUESTION: usize = 40974;
+
+const ANSWER: usize = 49161;
+
+// The most numbers that a turn table has.
+const TURNS: usize = 24576;
+
+// What the turn table holds before the run.
+const PATTERN: u16 = 43981;
+
+type Answer = Writer<ANSWER>;
+
+// The one kind of question: a frame to run.
+#[derive(Clone, Copy, Debug, PartialEq, Eq)]
+enum Kind {
+    Frame = 1,
 }
 
-fn put_report(out: &mut [u8], at: usize, report: Report) -> usize {
-    let islands = put_number(out, at, report.islands);
-    let turns = put_number(out, islands, report.turns);
-    let takes = put_number(out, turns, report.takes);
-    put_number(out, takes, report.degree)
-}
+impl TryFrom<u8> for Kind {
+    type Error = io::Error;
 
-fn answer_on(question: &[u8], turns: &mut [u16], out: &mut [u8]) -> usize {
-    let start = least(2, question.len());
-    let answer = standalone_run::run_file(&question[start..], turns);
-    let refused = put(out, 0, run_answer::refusal_of(answer));
-    let report_of = put_report(out, refused, run_answer::report_of(answer));
-    put_halves(out, report_of, turns)
-}
-
-fn answer_frame(question: &[u8], out: &mut [u8]) -> usize {
-    let mut turns = [43981u16; 24576];
-    let n = least(half_at(question, 0) as usize, 24576);
-    answer_on(question, &mut turns[0..n], out)
-}
-
-// The next record of the list.
-fn replay_next(tally: Tally) -> Tally
-    ensures { result.left ≤ tally.left - 1 }
-{
-    let mut question = [0u8; 40974];
-    let mut stored = [0u8; 49161];
-    let mut out = [0u8; 49161];
-    let record = read_record(tally, &mut question, &mut stored);
-    let q = least(record.question, 40974);
-    let n = answer_frame(&question[0..q], &mut out);
-    let agrees = same(&out, n, &stored, record.answer);
-    counted(tally, record, record.kind == 1, out[0] != 0, agrees)
-}
-
-fn replay_all() -> Tally {
-    let mut tally = no_records();
-    // `tally` counts the records read so far; at most `left` follow, and none after the end of the list.
-    while 0 < tally.left {
-        tally = replay_next(tally);
+    fn try_from(number: u8) -> io::Result<Kind> {
+        match number {
+            1 => Ok(Kind::Frame),
+            _ => Err(io::Error::new(ErrorKind::InvalidData, "no such kind")),
+        }
     }
-    tally
 }
 
-fn main() {
-    print(replay_all(), b"frames ", b"refused ");
+// How many frames there were, and how many of them are refused.
+#[derive(Clone, Copy, Debug, Default)]
+struct Counts {
+    frames: u32,
+    refused: u32,
+}
+
+impl Counts {
+    fn add(&mut self, refusal: u8) {
+        self.frames = self.frames.saturating_add(1);
+        if refusal != 0 {
+            self.refused = self.refused.saturating_add(1);
+        }
+    }
+}
+
+// What a run answers: the refusal's number or 0, and the four numbers.
+fn run(file: &[u8], turns: &mut [u16]) -> (u8, Report) {
+    let answer = standalone_run::run_file(file, turns);
+    (
+        run_answer::refusal_of(answer),
+        run_answer::report_of(answer),
+    )
+}
+
+// The run of a question's file, its answer, and the refusal.
+fn answer(question: &[u8], counts: &mut Counts) -> Answer {
+    let mut question = Reader::new(question);
+    let lent = usize::from(question.half());
+    let mut turns = [PATTERN; TURNS];
+    let turns = &mut turns[..lent.min(TURNS)];
+    let (refusal, report) = run(question.rest(), turns);
+    counts.add(refusal);
+    let mut out = Writer::new();
+    out.byte(refusal);
+    for number in [report.islands, report.turns, report.takes, report.degree] {
+        out.half((number % 65536) as u16);
+    }
+    out.halves(turns);
+    out
+}
+
+fn main(rt: HostRuntime) -> io::Result<()> {
+    let mut counts = Counts::default();
+    let tally = records::replay(
+        rt.reader(),
+        &mut [0; QUESTION],
+        &mut [0; ANSWER],
+        |kind, question| match kind {
+            Kind::Frame => answer(question, &mut counts),
+        },
+    )?;
+    println!(rt; "frames {}", counts.frames)?;
+    println!(rt; "refused {}", counts.refused)?;
+    println!(rt; "{tally}")
 }
