@@ -16,7 +16,7 @@ ghost use Rattle.frame.specs.Questions.{asked, few_each, bits};
 ghost use Rattle.frame.specs.Files.{byte, half, word, second, pairs_from, enabled_from, count_m, count_j, joints_at, live_in, ends_at, head_questions};
 ghost use Rattle.frame.specs.Joints.{JointsRead, Passed};
 ghost use Rattle.frame.specs.Decodes.{Decodable, Decoded};
-ghost use Rattle.frame.specs.Answers.{read_sizes, version_of, Read};
+ghost use Rattle.frame.specs.Answers.{version_of, Read};
 ghost use Rattle.frame.specs.Refusals.{refused_by};
 
 use crate::constraints::Pairs;
@@ -56,22 +56,6 @@ pub struct Lists<'a> {
     pub joint_ends: &'a [u16],
     pub joint_counts: &'a [u8],
     pub enabled: &'a [u8],
-}
-
-// The sizes that reading a file answered; all 0 where it was refused.
-pub fn sizes_of(reading: Result<Frame, Refusal>) -> Frame
-    ensures { result ≡ read_sizes reading }
-{
-    match reading {
-        Ok(sizes) => sizes,
-        Err(_) => Frame {
-            version: Version::First,
-            bodies: 0,
-            manifolds: 0,
-            joints: 0,
-            joint_ends: 0,
-        },
-    }
 }
 
 // A byte as a number that can be counted with.
