@@ -92,7 +92,7 @@ fn constrain(body_islands: &mut [u16], ends: &[u16])
     }
 }
 
-// One constraint is asked question 7; if it is live and passes, it constrains its bodies and joins them.
+// One constraint is asked question 7; if it is live and passes, it joins its bodies and constrains them.
 #[inline(always)]
 fn join_one(
     body_types: &[u8],
@@ -110,8 +110,8 @@ fn join_one(
     if !constraint.live {
         return true;
     }
-    constrain(body_islands, constraint.ends);
     join_ends(body_types, parents, sizes, constraint.ends);
+    constrain(body_islands, constraint.ends);
     true
 }
 
