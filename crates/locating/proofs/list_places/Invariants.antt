@@ -1,4 +1,4 @@
--- `list_places`: the first i bodies of the list have their places; the measure is the bodies left.
+-- `list_places`: the bodies passed have their places.
 use Rattle.locating.proofs.Places.{Placing}
 use Rattle.locating.proofs.list_places.Given as goal
 

@@ -1,4 +1,4 @@
--- `locate`: the constraints of the groups before `color` have their positions; the measure is the groups left.
+-- `locate`: the constraints of the groups before `color` have their positions.
 use Rattle.locating.proofs.Settles.{Settling}
 use Rattle.locating.proofs.locate.Given as goal
 

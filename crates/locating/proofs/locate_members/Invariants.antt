@@ -1,5 +1,5 @@
--- `locate_members`: few bodies are searched, and of more the table has the places once they are listed. The first i members have their
--- positions; the measure is the members left.
+-- `locate_members`: few bodies are searched, and of more the table has the places once they are listed. The members passed have their
+-- positions.
 use Rattle.locating.proofs.Locates.{Locating}
 use Rattle.locating.proofs.locate_members.Given as goal
 

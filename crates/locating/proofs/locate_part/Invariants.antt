@@ -1,4 +1,4 @@
--- `locate_part`: each body stands in the list, so `place_of` answers its place; the measure is the endpoints left.
+-- `locate_part`: each body stands in the list, so `place_of` answers its place, and the endpoints passed have their positions.
 use Rattle.lists.specs.Basics.{place}
 use Rattle.locating.proofs.Places.{Filling}
 use Rattle.locating.proofs.locate_part.Given as goal
