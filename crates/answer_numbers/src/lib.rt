@@ -57,7 +57,7 @@ fn place_at(places: &[u16], place: usize) -> u16
 
 // The answer of a lookup of two positions as numbers.
 pub fn locate(answer: Result<&[u16], Refusal>, places: &mut [u16; 2]) -> u8
-    ensures { (result ≡ refused_by answer) × (places.new ≡ position_numbers answer) }
+    ensures { (result ≡ refused_by answer.entry) × (places.new ≡ position_numbers answer.entry) }
 {
     match answer {
         Ok(found) => {
@@ -98,7 +98,7 @@ pub fn locate_places(
     places: &mut [u16; 4],
     count: &mut usize,
 ) -> u8
-    ensures { (result ≡ refused_by answer) × (places.new ≡ places_numbers answer) × (count.new ≡ length (positions_values answer)) }
+    ensures { (result ≡ refused_by answer.entry) × (places.new ≡ places_numbers answer.entry) × (count.new ≡ length (positions_values answer.entry)) }
 {
     match answer {
         Ok(found) => {

@@ -1,10 +1,18 @@
--- A part of a group is told by where it starts in its table and by its size; an empty part starts at 0.
-use Rattle.std.proofs.Common.{ℕ, ◌+◌, ◌-◌, ◌≤◌, ◌≡◌, refl, ap, ◌∙◌, Bool, true, false, ◌&&◌, cond, List, [], arith, leb, ltb, eqb, length, get_or, take, drop, length-drop, length-take-le, eqb-true, leb-true}
+-- A part of a group is told by where it starts in its table and by its size; an empty part starts at 0. Positions are told in four places.
+use Rattle.std.proofs.Common.{ℕ, zero, suc, subst, map, Result, Bor, ◌∷◌, length-take, ◌+◌, ◌-◌, ◌≤◌, ◌≡◌, refl, ap, ◌∙◌, Bool, true, false, ◌&&◌, cond, List, [], arith, leb, ltb, eqb, length, get_or, take, drop, length-drop, length-take-le, eqb-true, leb-true}
+use Rattle.lists.specs.Basics.{four}
 use Rattle.lists.proofs.Laws.{by_cases, and_left, and_right}
+use Rattle.frame.specs.Frames.{counted}
+use Rattle.frame.specs.declared.refusal.Refusal.{Refusal}
+use Rattle.frame.specs.Refusals.{refused_by}
+use Rattle.groups.specs.Groups.{counted_parts}
 use Rattle.constraint_coloring.specs.declared.ConstraintColoring.{ConstraintColoring}
 use Rattle.plan_questions.specs.Plans.{part, group_part}
-use Rattle.answer_numbers.specs.Numbers.{plan_of_numbers}
-use Rattle.boundary.specs.Exports.{Found}
+use Rattle.constraint_coloring.specs.Calls.{positions_values}
+use Rattle.multi_coloring.specs.Counts.{count_read, multi_positions_refusal, positions_in}
+use Rattle.multi_coloring.specs.Calls.{MultiLocated}
+use Rattle.answer_numbers.specs.Numbers.{plan_of_numbers, places_numbers}
+use Rattle.boundary.specs.Exports.{Found, MultiLocates}
 
 empty : (xs table : List ℕ) (start : ℕ) → xs ≡ [] → take (length xs) (drop start table) ≡ xs
 empty xs table start e = rw e refl
@@ -46,3 +54,41 @@ found_by {part} {p} {start} plan offsets table k e h from =
       as_long = ap length same;
       from_offset = from;
     }
+
+-- ---- two to four positions in four places
+
+read-most : (c : ℕ) → count_read c ≤ 4
+read-most c = by_cases (counted c) (λ e. rw e (leb-true c 4 (and_right (leb 2 c) (leb c 4) e))) (λ e. rw e (omega arith))
+
+few_read : (cs ends : List ℕ) (r : ℕ) → length (get_or (counted_parts (map count_read cs) ends) r []) ≤ 4
+few_read [] ends r = omega arith
+few_read (c ∷ cs) ends zero = omega (arith, read-most c, length-take (count_read c) ends)
+few_read (c ∷ cs) ends (suc r) = few_read cs (drop (count_read c) ends) r
+
+-- a lookup hands back at most four
+located_few : {n : ℕ} {counts table : List ℕ} {r : ℕ} {answer : Result (Bor (List ℕ)) Refusal} → MultiLocated n counts table r answer → length (positions_values answer) ≤ 4
+located_few {n} {counts} {table} {r} {answer} l =
+    let handed = λ (t : Bool). cond t (positions_in n counts table r) [] in
+    by_cases (eqb (multi_positions_refusal n counts table r) 0)
+    (λ e. let v : positions_values answer ≡ positions_in n counts table r = l.values ∙ ap handed e in omega (arith, ap length v, few_read (take n counts) table r))
+    (λ e. let v : positions_values answer ≡ [] = l.values ∙ ap handed e in omega (arith, ap length v))
+
+four_places : (xs : List ℕ) → length xs ≤ 4 → get_or xs 0 0 ∷ get_or xs 1 0 ∷ get_or xs 2 0 ∷ get_or xs 3 0 ∷ [] ≡ four xs
+unfolding four
+four_places [] h = refl
+four_places (a ∷ []) h = refl
+four_places (a ∷ b ∷ []) h = refl
+four_places (a ∷ b ∷ c ∷ []) h = refl
+four_places (a ∷ b ∷ c ∷ d ∷ []) h = refl
+four_places (a ∷ b ∷ c ∷ d ∷ e ∷ r) h = absurd (omega arith)
+
+pub located_by : {p : ConstraintColoring} (plan : List ℕ) {counts table : List ℕ} {r number count : ℕ} {places : List ℕ} (answer : Result (Bor (List ℕ)) Refusal)
+    → p ≡ plan_of_numbers plan → MultiLocated p.constraint_count counts table r answer → (number ≡ refused_by answer) × (places ≡ places_numbers answer) × (count ≡ length (positions_values answer))
+    → MultiLocates (get_or plan 1 0) counts table r number places count
+located_by plan {counts} {table} {r} answer e l h = record {
+  answer = answer;
+  located = subst (λ (x : ConstraintColoring). MultiLocated x.constraint_count counts table r answer) e l;
+  refusal = h.0;
+  numbers = h.1 ∙ four_places (positions_values answer) (located_few l);
+  counted = h.2;
+}

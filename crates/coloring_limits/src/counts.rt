@@ -2,21 +2,24 @@
 // tables of just the lengths that are asked for, and with each of them one place short; and the lookup of its positions, in tables that are
 // one place short and past the last constraint: the refusal, how many positions, and these.
 use crate::{checksum, cut, put, put_line};
-use multi_coloring::{MultiColoring, MultiPositions, MultiUpdate};
+use constraint_coloring::{ConstraintColoring, Update};
+use frame::Refusal;
+use multi_coloring::MultiColoring;
+use plan_questions::PlanTables;
 
 fn show(
     case: usize,
     before: MultiColoring,
-    answer: MultiUpdate,
+    answer: Update<MultiColoring>,
     positions: &[u16],
 ) -> MultiColoring {
-    let plan = multi_coloring::plan_after(before, answer);
+    let plan = answer.plan_after(before);
     put_line(
         case,
-        multi_coloring::refusal_of(answer) as usize,
-        multi_coloring::is_changed(answer) as usize,
-        plan.color_count,
-        plan.max_color_constraint_count,
+        answer.refusal() as usize,
+        answer.is_changed() as usize,
+        plan.plan.color_count,
+        plan.plan.max_color_constraint_count,
         checksum(positions, positions.len()),
     );
     plan
@@ -52,42 +55,45 @@ fn most() {
     // `plan` is the plan after the cases below `case`.
     while case < 3 {
         let constraints = if case < 2 { 8192 } else { 8193 };
+        let mut tables = PlanTables {
+            dynamic_bodies: &mut dynamic_bodies,
+            endpoints: &mut endpoints,
+            body_offsets: &mut body_offsets,
+            body_constraints: &mut body_constraints,
+            scratch_offsets: &mut scratch_offsets,
+            constraint_colors: &mut constraint_colors,
+            color_stamps: &mut color_stamps,
+            body_stamps: &mut body_stamps,
+            color_offsets: &mut color_offsets,
+            colored_constraints: &mut colored_constraints,
+            color_body_offsets: &mut color_body_offsets,
+            color_bodies: &mut color_bodies,
+            constraint_body_positions: &mut constraint_body_positions,
+        };
         let answer = plan.update(
             &[1, 1, 1, 1],
             &ends[..4 * constraints],
             &[4u8; 8193][..constraints],
-            &mut dynamic_bodies,
-            &mut endpoints,
             &mut counts,
-            &mut body_offsets,
-            &mut body_constraints,
-            &mut scratch_offsets,
-            &mut constraint_colors,
-            &mut color_stamps,
-            &mut body_stamps,
-            &mut color_offsets,
-            &mut colored_constraints,
-            &mut color_body_offsets,
-            &mut color_bodies,
-            &mut constraint_body_positions,
+            &mut tables,
         );
         plan = show(case, plan, answer, &constraint_body_positions);
         case += 1;
     }
 }
 
-fn put_positions(answer: MultiPositions) {
+// How many positions, and these in four places; those past them are 0.
+fn put_positions(answer: Result<&[u16], Refusal>) {
     match answer {
-        MultiPositions::At(at) => {
+        Ok(places) => {
             io::write_all(1, b"0");
-            put(at.count);
-            put(at.places[0] as usize);
-            put(at.places[1] as usize);
-            put(at.places[2] as usize);
-            put(at.places[3] as usize);
+            put(places.len());
+            for place in 0..4 {
+                put(places.get(place).copied().unwrap_or(0) as usize);
+            }
         }
-        MultiPositions::Refused(number) => {
-            io::print_decimal(1, number as u64);
+        Err(refusal) => {
+            io::print_decimal(1, refusal.number() as u64);
         }
     }
     io::write_all(1, b"\n");
@@ -110,24 +116,27 @@ fn exact(short: usize) {
     let mut color_bodies = [7u16; 3];
     let mut constraint_body_positions = [7u16; 3];
     let plan = MultiColoring::new();
+    let mut tables = PlanTables {
+        dynamic_bodies: &mut dynamic_bodies[0..cut(3, short, 0)],
+        endpoints: &mut endpoints[0..cut(3, short, 1)],
+        body_offsets: &mut body_offsets[0..cut(4, short, 3)],
+        body_constraints: &mut body_constraints[0..cut(3, short, 4)],
+        scratch_offsets: &mut scratch_offsets[0..cut(3, short, 5)],
+        constraint_colors: &mut constraint_colors[0..cut(1, short, 6)],
+        color_stamps: &mut color_stamps[0..cut(1, short, 7)],
+        body_stamps: &mut body_stamps[0..cut(3, short, 8)],
+        color_offsets: &mut color_offsets[0..cut(2, short, 9)],
+        colored_constraints: &mut colored_constraints[0..cut(1, short, 10)],
+        color_body_offsets: &mut color_body_offsets[0..cut(2, short, 11)],
+        color_bodies: &mut color_bodies[0..cut(3, short, 12)],
+        constraint_body_positions: &mut constraint_body_positions[0..cut(3, short, 13)],
+    };
     let answer = plan.update(
         &[1, 1, 1],
         &[2, 0, 1],
         &[3],
-        &mut dynamic_bodies[0..cut(3, short, 0)],
-        &mut endpoints[0..cut(3, short, 1)],
         &mut counts[0..cut(1, short, 2)],
-        &mut body_offsets[0..cut(4, short, 3)],
-        &mut body_constraints[0..cut(3, short, 4)],
-        &mut scratch_offsets[0..cut(3, short, 5)],
-        &mut constraint_colors[0..cut(1, short, 6)],
-        &mut color_stamps[0..cut(1, short, 7)],
-        &mut body_stamps[0..cut(3, short, 8)],
-        &mut color_offsets[0..cut(2, short, 9)],
-        &mut colored_constraints[0..cut(1, short, 10)],
-        &mut color_body_offsets[0..cut(2, short, 11)],
-        &mut color_bodies[0..cut(3, short, 12)],
-        &mut constraint_body_positions[0..cut(3, short, 13)],
+        &mut tables,
     );
     show(short, plan, answer, &constraint_body_positions);
 }
@@ -136,20 +145,24 @@ fn exact(short: usize) {
 // has more constraints than there may be.
 fn lookups() {
     let plan = MultiColoring {
-        body_count: 3,
-        constraint_count: 1,
-        color_count: 1,
-        max_color_constraint_count: 1,
+        plan: ConstraintColoring {
+            body_count: 3,
+            constraint_count: 1,
+            color_count: 1,
+            max_color_constraint_count: 1,
+        },
     };
     put_positions(plan.body_positions_for_constraint(&[3], &[2, 0, 1], 0));
     put_positions(plan.body_positions_for_constraint(&[], &[2, 0, 1], 0));
     put_positions(plan.body_positions_for_constraint(&[3], &[2, 0], 0));
     put_positions(plan.body_positions_for_constraint(&[3], &[2, 0, 1], 1));
     let many = MultiColoring {
-        body_count: 3,
-        constraint_count: 8193,
-        color_count: 1,
-        max_color_constraint_count: 1,
+        plan: ConstraintColoring {
+            body_count: 3,
+            constraint_count: 8193,
+            color_count: 1,
+            max_color_constraint_count: 1,
+        },
     };
     put_positions(many.body_positions_for_constraint(&[3], &[2, 0, 1], 0));
 }

@@ -8,6 +8,7 @@ ghost use Rattle.std.specs.Prelude.{◌≡◌, ◌+◌, ◌*◌, ◌≤◌, leng
 mod counts;
 
 use constraint_coloring::{ConstraintColoring, Update};
+use plan_questions::PlanTables;
 
 // The input of an update: body 0 has the flag `first` and all others 1; the pairs start at (0, `b`), and from pair to pair the
 // first body grows by `a_step` and the second by `b_step`. If `last` is not 0, it is the last entry.
@@ -47,22 +48,6 @@ fn input(
 pub fn put(n: usize) {
     io::write_all(1, b" ");
     io::print_decimal(1, n as u64);
-}
-
-fn number(answer: Update) -> usize {
-    match answer {
-        Update::Changed(plan) => 0,
-        Update::Unchanged => 0,
-        Update::Refused(n) => n as usize,
-    }
-}
-
-fn changed(answer: Update) -> usize {
-    match answer {
-        Update::Changed(plan) => 1,
-        Update::Unchanged => 0,
-        Update::Refused(n) => 0,
-    }
 }
 
 // A checksum of the first `count` places, as far as there are so many.
@@ -110,14 +95,14 @@ pub fn put_line(
 fn show(
     case: usize,
     before: ConstraintColoring,
-    answer: Update,
+    answer: Update<ConstraintColoring>,
     constraint_body_positions: &[u16],
 ) -> ConstraintColoring {
-    let plan = constraint_coloring::plan_after(before, answer);
+    let plan = answer.plan_after(before);
     put_line(
         case,
-        number(answer),
-        changed(answer),
+        answer.refusal() as usize,
+        answer.is_changed() as usize,
         plan.color_count,
         plan.max_color_constraint_count,
         positions_sum(plan, constraint_body_positions),
@@ -201,48 +186,6 @@ fn pairs_of(case: Case) -> [u16; 16386]
     pairs
 }
 
-fn step(
-    number: usize,
-    plan: ConstraintColoring,
-    dynamic_bodies: &mut [u8; 4096],
-    endpoints: &mut [u16; 16384],
-    body_offsets: &mut [u16; 4097],
-    body_constraints: &mut [u16; 16384],
-    scratch_offsets: &mut [u16; 8192],
-    constraint_colors: &mut [u16; 8192],
-    color_stamps: &mut [u16; 8192],
-    body_stamps: &mut [u16; 4096],
-    color_offsets: &mut [u16; 8193],
-    colored_constraints: &mut [u16; 8192],
-    color_body_offsets: &mut [u16; 8193],
-    color_bodies: &mut [u16; 16384],
-    constraint_body_positions: &mut [u16; 16384],
-) -> ConstraintColoring {
-    let case = case_at(number);
-    let bodies = case.bodies;
-    let entries = case.entries;
-    let flags = flags_of(case);
-    let pairs = pairs_of(case);
-    let answer = plan.update(
-        &flags[0..bodies],
-        &pairs[0..entries],
-        dynamic_bodies,
-        endpoints,
-        body_offsets,
-        body_constraints,
-        scratch_offsets,
-        constraint_colors,
-        color_stamps,
-        body_stamps,
-        color_offsets,
-        colored_constraints,
-        color_body_offsets,
-        color_bodies,
-        constraint_body_positions,
-    );
-    show(number, plan, answer, constraint_body_positions)
-}
-
 // A plan and its tables.
 #[derive(Clone, Copy)]
 struct Stage {
@@ -263,53 +206,28 @@ struct Stage {
 }
 
 fn next_stage(number: usize, stage: Stage) -> Stage {
-    let plan = stage.plan;
-    let mut dynamic_bodies = stage.dynamic_bodies;
-    let mut endpoints = stage.endpoints;
-    let mut body_offsets = stage.body_offsets;
-    let mut body_constraints = stage.body_constraints;
-    let mut scratch_offsets = stage.scratch_offsets;
-    let mut constraint_colors = stage.constraint_colors;
-    let mut color_stamps = stage.color_stamps;
-    let mut body_stamps = stage.body_stamps;
-    let mut color_offsets = stage.color_offsets;
-    let mut colored_constraints = stage.colored_constraints;
-    let mut color_body_offsets = stage.color_body_offsets;
-    let mut color_bodies = stage.color_bodies;
-    let mut constraint_body_positions = stage.constraint_body_positions;
-    let next = step(
-        number,
-        plan,
-        &mut dynamic_bodies,
-        &mut endpoints,
-        &mut body_offsets,
-        &mut body_constraints,
-        &mut scratch_offsets,
-        &mut constraint_colors,
-        &mut color_stamps,
-        &mut body_stamps,
-        &mut color_offsets,
-        &mut colored_constraints,
-        &mut color_body_offsets,
-        &mut color_bodies,
-        &mut constraint_body_positions,
-    );
-    Stage {
-        plan: next,
-        dynamic_bodies: dynamic_bodies,
-        endpoints: endpoints,
-        body_offsets: body_offsets,
-        body_constraints: body_constraints,
-        scratch_offsets: scratch_offsets,
-        constraint_colors: constraint_colors,
-        color_stamps: color_stamps,
-        body_stamps: body_stamps,
-        color_offsets: color_offsets,
-        colored_constraints: colored_constraints,
-        color_body_offsets: color_body_offsets,
-        color_bodies: color_bodies,
-        constraint_body_positions: constraint_body_positions,
-    }
+    let mut next = stage;
+    let case = case_at(number);
+    let flags = flags_of(case);
+    let pairs = pairs_of(case);
+    let mut tables = PlanTables {
+        dynamic_bodies: &mut next.dynamic_bodies,
+        endpoints: &mut next.endpoints,
+        body_offsets: &mut next.body_offsets,
+        body_constraints: &mut next.body_constraints,
+        scratch_offsets: &mut next.scratch_offsets,
+        constraint_colors: &mut next.constraint_colors,
+        color_stamps: &mut next.color_stamps,
+        body_stamps: &mut next.body_stamps,
+        color_offsets: &mut next.color_offsets,
+        colored_constraints: &mut next.colored_constraints,
+        color_body_offsets: &mut next.color_body_offsets,
+        color_bodies: &mut next.color_bodies,
+        constraint_body_positions: &mut next.constraint_body_positions,
+    };
+    let answer = stage.plan.update(&flags[0..case.bodies], &pairs[0..case.entries], &mut tables);
+    next.plan = show(number, stage.plan, answer, &next.constraint_body_positions);
+    next
 }
 
 // On tables that hold `mark` everywhere.
@@ -346,7 +264,12 @@ pub fn cut(length: usize, short: usize, table: usize) -> usize
     if short == table { length - 1 } else { length }
 }
 
-fn show_pair(short: usize, before: ConstraintColoring, answer: Update, positions: &[u16; 2]) {
+fn show_pair(
+    short: usize,
+    before: ConstraintColoring,
+    answer: Update<ConstraintColoring>,
+    positions: &[u16; 2],
+) {
     show(short, before, answer, positions);
 }
 
@@ -366,23 +289,22 @@ fn exact(short: usize) {
     let mut color_bodies = [7u16; 2];
     let mut constraint_body_positions = [7u16; 2];
     let plan = ConstraintColoring::new();
-    let answer = plan.update(
-        &[1, 1],
-        &[0, 1],
-        &mut dynamic_bodies[0..cut(2, short, 0)],
-        &mut endpoints[0..cut(2, short, 1)],
-        &mut body_offsets[0..cut(3, short, 2)],
-        &mut body_constraints[0..cut(2, short, 3)],
-        &mut scratch_offsets[0..cut(2, short, 4)],
-        &mut constraint_colors[0..cut(1, short, 5)],
-        &mut color_stamps[0..cut(1, short, 6)],
-        &mut body_stamps[0..cut(2, short, 7)],
-        &mut color_offsets[0..cut(2, short, 8)],
-        &mut colored_constraints[0..cut(1, short, 9)],
-        &mut color_body_offsets[0..cut(2, short, 10)],
-        &mut color_bodies[0..cut(2, short, 11)],
-        &mut constraint_body_positions[0..cut(2, short, 12)],
-    );
+    let mut tables = PlanTables {
+        dynamic_bodies: &mut dynamic_bodies[0..cut(2, short, 0)],
+        endpoints: &mut endpoints[0..cut(2, short, 1)],
+        body_offsets: &mut body_offsets[0..cut(3, short, 2)],
+        body_constraints: &mut body_constraints[0..cut(2, short, 3)],
+        scratch_offsets: &mut scratch_offsets[0..cut(2, short, 4)],
+        constraint_colors: &mut constraint_colors[0..cut(1, short, 5)],
+        color_stamps: &mut color_stamps[0..cut(1, short, 6)],
+        body_stamps: &mut body_stamps[0..cut(2, short, 7)],
+        color_offsets: &mut color_offsets[0..cut(2, short, 8)],
+        colored_constraints: &mut colored_constraints[0..cut(1, short, 9)],
+        color_body_offsets: &mut color_body_offsets[0..cut(2, short, 10)],
+        color_bodies: &mut color_bodies[0..cut(2, short, 11)],
+        constraint_body_positions: &mut constraint_body_positions[0..cut(2, short, 12)],
+    };
+    let answer = plan.update(&[1, 1], &[0, 1], &mut tables);
     show_pair(short, plan, answer, &constraint_body_positions);
 }
 

@@ -1,7 +1,10 @@
 // The samples of constraints that have a count each, updates of one plan on one set of tables: a line with the answer, the remembered
 // counts and, after a bar each, the positions of both constraints.
 use crate::{STDOUT, put};
-use multi_coloring::{MultiColoring, MultiPositions, MultiUpdate};
+use constraint_coloring::Update;
+use frame::Refusal;
+use multi_coloring::MultiColoring;
+use plan_questions::PlanTables;
 
 // A plan of two constraints on six bodies, with its tables.
 #[derive(Clone, Copy)]
@@ -44,39 +47,32 @@ fn fresh() -> Stage {
     }
 }
 
-fn put_answer(answer: MultiUpdate) {
+fn put_answer(answer: Update<MultiColoring>) {
     match answer {
-        MultiUpdate::Changed(_) => {
+        Update::Changed(_) => {
             io::write_all(STDOUT, b"changed");
         }
-        MultiUpdate::Unchanged => {
+        Update::Unchanged => {
             io::write_all(STDOUT, b"unchanged");
         }
-        MultiUpdate::Refused(number) => {
+        Update::Refused(refusal) => {
             io::write_all(STDOUT, b"refused");
-            put(number as u16);
+            put(refusal.number() as u16);
         }
     }
 }
 
-// The first `count` places, as far as there are so many.
-fn put_places(places: &[u16], count: usize) {
-    for place in 0..places.len() {
-        if place < count {
-            put(places[place]);
-        }
-    }
-}
-
-fn put_positions(answer: MultiPositions) {
+fn put_positions(answer: Result<&[u16], Refusal>) {
     io::write_all(STDOUT, b" |");
     match answer {
-        MultiPositions::At(at) => {
-            put_places(&at.places, at.count);
+        Ok(places) => {
+            for place in places {
+                put(*place);
+            }
         }
-        MultiPositions::Refused(number) => {
+        Err(refusal) => {
             io::write_all(STDOUT, b" refused");
-            put(number as u16);
+            put(refusal.number() as u16);
         }
     }
 }
@@ -95,26 +91,29 @@ fn put_stage(stage: Stage) {
 // Six dynamic bodies, and each of them once as an endpoint.
 fn update(stage: Stage, counts_in: &[u8]) -> Stage {
     let mut after = stage;
+    let mut tables = PlanTables {
+        dynamic_bodies: &mut after.dynamic_bodies,
+        endpoints: &mut after.endpoints,
+        body_offsets: &mut after.body_offsets,
+        body_constraints: &mut after.body_constraints,
+        scratch_offsets: &mut after.scratch_offsets,
+        constraint_colors: &mut after.constraint_colors,
+        color_stamps: &mut after.color_stamps,
+        body_stamps: &mut after.body_stamps,
+        color_offsets: &mut after.color_offsets,
+        colored_constraints: &mut after.colored_constraints,
+        color_body_offsets: &mut after.color_body_offsets,
+        color_bodies: &mut after.color_bodies,
+        constraint_body_positions: &mut after.constraint_body_positions,
+    };
     let answer = stage.plan.update(
         &[1, 1, 1, 1, 1, 1],
         &[0, 1, 2, 3, 4, 5],
         counts_in,
-        &mut after.dynamic_bodies,
-        &mut after.endpoints,
         &mut after.counts,
-        &mut after.body_offsets,
-        &mut after.body_constraints,
-        &mut after.scratch_offsets,
-        &mut after.constraint_colors,
-        &mut after.color_stamps,
-        &mut after.body_stamps,
-        &mut after.color_offsets,
-        &mut after.colored_constraints,
-        &mut after.color_body_offsets,
-        &mut after.color_bodies,
-        &mut after.constraint_body_positions,
+        &mut tables,
     );
-    after.plan = multi_coloring::plan_after(stage.plan, answer);
+    after.plan = answer.plan_after(stage.plan);
     put_answer(answer);
     put_stage(after);
     after

@@ -6,6 +6,7 @@
 mod counts;
 
 use constraint_coloring::{ConstraintColoring, Update};
+use plan_questions::PlanTables;
 
 // Standard output, by its file descriptor.
 const STDOUT: i32 = 1;
@@ -15,7 +16,7 @@ fn put(n: u16) {
     io::print_decimal(STDOUT, n as u64);
 }
 
-fn show(answer: Update, constraint_colors: &[u16; 6]) {
+fn show(answer: Update<ConstraintColoring>, constraint_colors: &[u16; 6]) {
     match answer {
         Update::Changed(plan) => {
             io::print_decimal(STDOUT, plan.color_count as u64);
@@ -23,9 +24,9 @@ fn show(answer: Update, constraint_colors: &[u16; 6]) {
         Update::Unchanged => {
             io::write_all(STDOUT, b"unchanged");
         }
-        Update::Refused(number) => {
+        Update::Refused(refusal) => {
             io::write_all(STDOUT, b"refused ");
-            io::print_decimal(STDOUT, number as u64);
+            io::print_decimal(STDOUT, refusal.number() as u64);
         }
     }
     put(constraint_colors[0]);
@@ -41,23 +42,22 @@ fn show(answer: Update, constraint_colors: &[u16; 6]) {
 fn sample(flags: &[u8], pairs: &[u16]) {
     let mut constraint_colors = [9u16; 6];
     let plan = ConstraintColoring::new();
-    let answer = plan.update(
-        flags,
-        pairs,
-        &mut [9u8; 5],
-        &mut [9u16; 12],
-        &mut [9u16; 6],
-        &mut [9u16; 12],
-        &mut [9u16; 6],
-        &mut constraint_colors,
-        &mut [9u16; 6],
-        &mut [1u16; 5],
-        &mut [9u16; 7],
-        &mut [9u16; 6],
-        &mut [9u16; 7],
-        &mut [9u16; 12],
-        &mut [9u16; 12],
-    );
+    let mut tables = PlanTables {
+        dynamic_bodies: &mut [9u8; 5],
+        endpoints: &mut [9u16; 12],
+        body_offsets: &mut [9u16; 6],
+        body_constraints: &mut [9u16; 12],
+        scratch_offsets: &mut [9u16; 6],
+        constraint_colors: &mut constraint_colors,
+        color_stamps: &mut [9u16; 6],
+        body_stamps: &mut [1u16; 5],
+        color_offsets: &mut [9u16; 7],
+        colored_constraints: &mut [9u16; 6],
+        color_body_offsets: &mut [9u16; 7],
+        color_bodies: &mut [9u16; 12],
+        constraint_body_positions: &mut [9u16; 12],
+    };
+    let answer = plan.update(flags, pairs, &mut tables);
     show(answer, &constraint_colors);
 }
 

@@ -1,7 +1,9 @@
 // A history: updates of one plan on one set of tables. An update is B, the number of pair entries, flags and entries, one byte each.
 use crate::questions::{bytes_at, copy_numbers};
-use constraint_coloring::{ConstraintColoring, Positions, Update};
-use records::places::{after, least, number_at, put, put_bytes, put_half, put_halves};
+use constraint_coloring::{ConstraintColoring, Update};
+use frame::Refusal;
+use plan_questions::PlanTables;
+use records::places::{after, least, number_at, put, put_bytes, put_halves};
 
 // Where the next update stands and the next answer goes; the plan, and its tables, which have room for 7 bodies and 7 constraints.
 #[derive(Clone, Copy)]
@@ -47,13 +49,13 @@ fn first_stage() -> Stage {
 }
 
 // 1 for "changed", 2 for "unchanged", else 0 and the refusal.
-fn put_update(answer: Update, out: &mut [u8], at: usize) -> usize {
+fn put_update(answer: Update<ConstraintColoring>, out: &mut [u8], at: usize) -> usize {
     match answer {
         Update::Changed(_) => put(out, at, 1),
         Update::Unchanged => put(out, at, 2),
-        Update::Refused(n) => {
+        Update::Refused(refusal) => {
             let next = put(out, at, 0);
-            put(out, next, n)
+            put(out, next, refusal.number())
         }
     }
 }
@@ -81,96 +83,28 @@ fn put_tables(stage: Stage, out: &mut [u8], at: usize) -> usize {
     put_halves(out, next, &stage.constraint_body_positions)
 }
 
-// The update with its tables as arrays, so that their lengths are known.
-fn update_arrays(
-    plan: ConstraintColoring,
-    flags: &[u8],
-    pairs: &[u16],
-    dynamic_bodies: &mut [u8; 7],
-    endpoints: &mut [u16; 15],
-    body_offsets: &mut [u16; 8],
-    body_constraints: &mut [u16; 15],
-    scratch_offsets: &mut [u16; 8],
-    constraint_colors: &mut [u16; 8],
-    color_stamps: &mut [u16; 8],
-    body_stamps: &mut [u16; 7],
-    color_offsets: &mut [u16; 9],
-    colored_constraints: &mut [u16; 8],
-    color_body_offsets: &mut [u16; 9],
-    color_bodies: &mut [u16; 15],
-    constraint_body_positions: &mut [u16; 15],
-) -> Update {
-    plan.update(
-        flags,
-        pairs,
-        dynamic_bodies,
-        endpoints,
-        body_offsets,
-        body_constraints,
-        scratch_offsets,
-        constraint_colors,
-        color_stamps,
-        body_stamps,
-        color_offsets,
-        colored_constraints,
-        color_body_offsets,
-        color_bodies,
-        constraint_body_positions,
-    )
-}
-
 // One update and its answer.
 fn update_once(stage: Stage, flags: &[u8], pairs: &[u16], out: &mut [u8]) -> Stage {
-    let plan = stage.plan;
-    let mut dynamic_bodies = stage.dynamic_bodies;
-    let mut endpoints = stage.endpoints;
-    let mut body_offsets = stage.body_offsets;
-    let mut body_constraints = stage.body_constraints;
-    let mut scratch_offsets = stage.scratch_offsets;
-    let mut constraint_colors = stage.constraint_colors;
-    let mut color_stamps = stage.color_stamps;
-    let mut body_stamps = stage.body_stamps;
-    let mut color_offsets = stage.color_offsets;
-    let mut colored_constraints = stage.colored_constraints;
-    let mut color_body_offsets = stage.color_body_offsets;
-    let mut color_bodies = stage.color_bodies;
-    let mut constraint_body_positions = stage.constraint_body_positions;
-    let answer = update_arrays(
-        plan,
-        flags,
-        pairs,
-        &mut dynamic_bodies,
-        &mut endpoints,
-        &mut body_offsets,
-        &mut body_constraints,
-        &mut scratch_offsets,
-        &mut constraint_colors,
-        &mut color_stamps,
-        &mut body_stamps,
-        &mut color_offsets,
-        &mut colored_constraints,
-        &mut color_body_offsets,
-        &mut color_bodies,
-        &mut constraint_body_positions,
-    );
-    Stage {
-        place: stage.place,
-        next: put_update(answer, out, stage.next),
-        plan: constraint_coloring::plan_after(plan, answer),
-        dynamic_bodies: dynamic_bodies,
-        endpoints: endpoints,
-        body_offsets: body_offsets,
-        body_constraints: body_constraints,
-        scratch_offsets: scratch_offsets,
-        constraint_colors: constraint_colors,
-        color_stamps: color_stamps,
-        body_stamps: body_stamps,
-        color_offsets: color_offsets,
-        colored_constraints: colored_constraints,
-        color_body_offsets: color_body_offsets,
-        color_bodies: color_bodies,
-        constraint_body_positions: constraint_body_positions,
-    }
+    let mut updated = stage;
+    let mut tables = PlanTables {
+        dynamic_bodies: &mut updated.dynamic_bodies,
+        endpoints: &mut updated.endpoints,
+        body_offsets: &mut updated.body_offsets,
+        body_constraints: &mut updated.body_constraints,
+        scratch_offsets: &mut updated.scratch_offsets,
+        constraint_colors: &mut updated.constraint_colors,
+        color_stamps: &mut updated.color_stamps,
+        body_stamps: &mut updated.body_stamps,
+        color_offsets: &mut updated.color_offsets,
+        colored_constraints: &mut updated.colored_constraints,
+        color_body_offsets: &mut updated.color_body_offsets,
+        color_bodies: &mut updated.color_bodies,
+        constraint_body_positions: &mut updated.constraint_body_positions,
+    };
+    let answer = stage.plan.update(flags, pairs, &mut tables);
+    updated.plan = answer.plan_after(stage.plan);
+    updated.next = put_update(answer, out, stage.next);
+    updated
 }
 
 // The update that stands at the stage's place, its answer, the plan after it and the tables.
@@ -232,13 +166,10 @@ fn put_group(stage: Stage, group: usize, out: &mut [u8], at: usize) -> usize {
     put_bodies(stage, group, out, listed)
 }
 
-fn put_positions(answer: Positions, out: &mut [u8], at: usize) -> usize {
+fn put_positions(answer: Result<&[u16], Refusal>, out: &mut [u8], at: usize) -> usize {
     match answer {
-        Positions::At(a, b) => {
-            let first = put_half(out, at, a);
-            put_half(out, first, b)
-        }
-        Positions::Refused(n) => put(out, at, n),
+        Ok(places) => put_halves(out, at, places),
+        Err(refusal) => put(out, at, refusal.number()),
     }
 }
 
