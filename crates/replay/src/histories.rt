@@ -1,13 +1,11 @@
 // A history: updates of one plan on one set of tables. An update is B, the number of pair entries, flags and entries, one byte each.
-use crate::questions::{bytes_at, copy_numbers};
+use crate::Answer;
 use constraint_coloring::{ConstraintColoring, Positions, Update};
-use records::places::{after, least, number_at, put, put_bytes, put_half, put_halves};
+use records::{Reader, Writer};
 
-// Where the next update stands and the next answer goes; the plan, and its tables, which have room for 7 bodies and 7 constraints.
+// The plan, and its tables, which have room for 7 bodies and 7 constraints.
 #[derive(Clone, Copy)]
 struct Stage {
-    place: usize,
-    next: usize,
     plan: ConstraintColoring,
     dynamic_bodies: [u8; 7],
     endpoints: [u16; 15],
@@ -24,11 +22,9 @@ struct Stage {
     constraint_body_positions: [u16; 15],
 }
 
-// A new plan on tables with a pattern in them, and the first update's place.
+// A new plan on tables with a pattern in them.
 fn first_stage() -> Stage {
     Stage {
-        place: 1,
-        next: 0,
         plan: ConstraintColoring::new(),
         dynamic_bodies: [171; 7],
         endpoints: [43981; 15],
@@ -47,38 +43,34 @@ fn first_stage() -> Stage {
 }
 
 // 1 for "changed", 2 for "unchanged", else 0 and the refusal.
-fn put_update(answer: Update, out: &mut [u8], at: usize) -> usize {
+fn put_update(answer: Update, out: &mut Answer) {
     match answer {
-        Update::Changed(_) => put(out, at, 1),
-        Update::Unchanged => put(out, at, 2),
+        Update::Changed(_) => out.byte(1),
+        Update::Unchanged => out.byte(2),
         Update::Refused(n) => {
-            let next = put(out, at, 0);
-            put(out, next, n)
+            out.byte(0);
+            out.byte(n);
         }
     }
 }
 
-fn put_plan(plan: ConstraintColoring, out: &mut [u8], at: usize) -> usize {
-    let bodies = put(out, at, (plan.body_count % 256) as u8);
-    let constraints = put(out, bodies, (plan.constraint_count % 256) as u8);
-    let colors = put(out, constraints, (plan.color_count % 256) as u8);
-    put(out, colors, (plan.max_color_constraint_count % 256) as u8)
-}
-
-fn put_first_tables(stage: Stage, out: &mut [u8], at: usize) -> usize {
-    let mut next = put_bytes(out, at, &stage.dynamic_bodies);
-    next = put_halves(out, next, &stage.endpoints);
-    next = put_halves(out, next, &stage.constraint_colors);
-    put_halves(out, next, &stage.color_offsets)
+fn put_plan(plan: ConstraintColoring, out: &mut Answer) {
+    out.byte((plan.body_count % 256) as u8);
+    out.byte((plan.constraint_count % 256) as u8);
+    out.byte((plan.color_count % 256) as u8);
+    out.byte((plan.max_color_constraint_count % 256) as u8);
 }
 
 // All tables that are not free.
-fn put_tables(stage: Stage, out: &mut [u8], at: usize) -> usize {
-    let mut next = put_first_tables(stage, out, at);
-    next = put_halves(out, next, &stage.colored_constraints);
-    next = put_halves(out, next, &stage.color_body_offsets);
-    next = put_halves(out, next, &stage.color_bodies);
-    put_halves(out, next, &stage.constraint_body_positions)
+fn put_tables(stage: Stage, out: &mut Answer) {
+    out.bytes(&stage.dynamic_bodies);
+    out.halves(&stage.endpoints);
+    out.halves(&stage.constraint_colors);
+    out.halves(&stage.color_offsets);
+    out.halves(&stage.colored_constraints);
+    out.halves(&stage.color_body_offsets);
+    out.halves(&stage.color_bodies);
+    out.halves(&stage.constraint_body_positions);
 }
 
 // The update with its tables as arrays, so that their lengths are known.
@@ -120,7 +112,7 @@ fn update_arrays(
 }
 
 // One update and its answer.
-fn update_once(stage: Stage, flags: &[u8], pairs: &[u16], out: &mut [u8]) -> Stage {
+fn update_once(stage: Stage, flags: &[u8], pairs: &[u16], out: &mut Answer) -> Stage {
     let plan = stage.plan;
     let mut dynamic_bodies = stage.dynamic_bodies;
     let mut endpoints = stage.endpoints;
@@ -153,9 +145,8 @@ fn update_once(stage: Stage, flags: &[u8], pairs: &[u16], out: &mut [u8]) -> Sta
         &mut color_bodies,
         &mut constraint_body_positions,
     );
+    put_update(answer, out);
     Stage {
-        place: stage.place,
-        next: put_update(answer, out, stage.next),
         plan: constraint_coloring::plan_after(plan, answer),
         dynamic_bodies: dynamic_bodies,
         endpoints: endpoints,
@@ -173,103 +164,69 @@ fn update_once(stage: Stage, flags: &[u8], pairs: &[u16], out: &mut [u8]) -> Sta
     }
 }
 
-// The update that stands at the stage's place, its answer, the plan after it and the tables.
-fn update_at(stage: Stage, question: &[u8], pairs: &mut [u16], out: &mut [u8]) -> Stage {
-    let place = stage.place;
-    let flagged = after(question, place, 2);
-    let flags = bytes_at(question, flagged, number_at(question, place));
-    let paired = after(question, flagged, flags.len());
-    copy_numbers(question, paired, pairs);
-    let mut updated = update_once(stage, flags, pairs, out);
-    let plan = updated.plan;
-    let planned = put_plan(plan, out, updated.next);
-    let next = put_tables(updated, out, planned);
-    let following = after(question, paired, pairs.len());
-    updated.next = next;
-    updated.place = following;
+// The question's next update, its answer, the plan after it and the tables. The number of pair entries is cut to what a question may hold.
+fn answer_update(stage: Stage, question: &mut Reader, out: &mut Answer) -> Stage {
+    let flags = question.byte();
+    let entries = question.byte();
+    let flags = question.bytes(usize::from(flags));
+    let mut pairs = [0u16; 24];
+    let pairs = &mut pairs[..usize::from(entries).min(24)];
+    question.numbers(pairs);
+    let updated = update_once(stage, flags, pairs, out);
+    put_plan(updated.plan, out);
+    put_tables(updated, out);
     updated
 }
 
-// The same: the number of pair entries is cut to what a question may hold.
-fn answer_update(stage: Stage, question: &[u8], out: &mut [u8]) -> Stage {
-    let mut pairs = [0u16; 24];
-    let e = least(number_at(question, after(question, stage.place, 1)), 24);
-    update_at(stage, question, &mut pairs[0..e], out)
+fn put_members(stage: Stage, group: usize, out: &mut Answer) {
+    let members = stage
+        .plan
+        .constraints_in_schedule_group(&stage.color_offsets, &stage.colored_constraints, group);
+    out.byte((members.len() % 256) as u8);
+    out.halves(members);
 }
 
-fn update_all(question: &[u8], out: &mut [u8]) -> Stage {
-    let mut stage = first_stage();
-    let mut left = number_at(question, 0);
-    // `stage` is the plan and its tables after the updates so far; `left` of them follow.
-    while 0 < left {
-        stage = answer_update(stage, question, out);
-        left -= 1;
-    }
-    stage
+fn put_bodies(stage: Stage, group: usize, out: &mut Answer) {
+    let bodies = stage
+        .plan
+        .bodies_in_schedule_group(&stage.color_body_offsets, &stage.color_bodies, group);
+    out.byte((bodies.len() % 256) as u8);
+    out.halves(bodies);
 }
 
-fn put_members(stage: Stage, group: usize, out: &mut [u8], at: usize) -> usize {
-    let plan = stage.plan;
-    let offsets = stage.color_offsets;
-    let constraints = stage.colored_constraints;
-    let members = plan.constraints_in_schedule_group(&offsets, &constraints, group);
-    let counted = put(out, at, (members.len() % 256) as u8);
-    put_halves(out, counted, members)
-}
-
-fn put_bodies(stage: Stage, group: usize, out: &mut [u8], at: usize) -> usize {
-    let plan = stage.plan;
-    let offsets = stage.color_body_offsets;
-    let color_bodies = stage.color_bodies;
-    let bodies = plan.bodies_in_schedule_group(&offsets, &color_bodies, group);
-    let counted = put(out, at, (bodies.len() % 256) as u8);
-    put_halves(out, counted, bodies)
-}
-
-// The members and bodies of a group, each with its number before it.
-fn put_group(stage: Stage, group: usize, out: &mut [u8], at: usize) -> usize {
-    let listed = put_members(stage, group, out, at);
-    put_bodies(stage, group, out, listed)
-}
-
-fn put_positions(answer: Positions, out: &mut [u8], at: usize) -> usize {
+fn put_positions(answer: Positions, out: &mut Answer) {
     match answer {
         Positions::At(a, b) => {
-            let first = put_half(out, at, a);
-            put_half(out, first, b)
+            out.half(a);
+            out.half(b);
         }
-        Positions::Refused(n) => put(out, at, n),
+        Positions::Refused(n) => out.byte(n),
     }
 }
 
-fn put_place_of(stage: Stage, constraint: usize, out: &mut [u8], at: usize) -> usize {
-    let plan = stage.plan;
+fn put_place_of(stage: Stage, constraint: usize, out: &mut Answer) {
     let positions = stage.constraint_body_positions;
-    let answer = plan.body_positions_for_constraint(&positions, constraint);
-    put_positions(answer, out, at)
+    let answer = stage
+        .plan
+        .body_positions_for_constraint(&positions, constraint);
+    put_positions(answer, out);
 }
 
-fn put_lookup(stage: Stage, k: usize, out: &mut [u8], at: usize) -> usize {
-    if k < 8 {
-        return put_group(stage, k, out, at);
+// The updates; then the members and bodies of the groups from 0 to 7, each with its number before it; then the positions of the
+// constraints from 0 to 7.
+pub fn answer(question: &[u8]) -> Answer {
+    let mut question = Reader::new(question);
+    let mut out = Writer::new();
+    let mut stage = first_stage();
+    for _ in 0..question.byte() {
+        stage = answer_update(stage, &mut question, &mut out);
     }
-    put_place_of(stage, k - 8, out, at)
-}
-
-// The groups from 0 to 7, then the positions of the constraints from 0 to 7.
-fn put_lookups(stage: Stage, out: &mut [u8]) -> usize {
-    let mut next = stage.next;
-    let mut k = 0;
-    // The first k lookups are written, and `next` is the place after them.
-    while k < 16 {
-        next = put_lookup(stage, k, out, next);
-        k += 1;
+    for group in 0..8 {
+        put_members(stage, group, &mut out);
+        put_bodies(stage, group, &mut out);
     }
-    next
-}
-
-// The updates, then the lookups.
-pub fn answer_history(question: &[u8], out: &mut [u8]) -> usize {
-    let stage = update_all(question, out);
-    put_lookups(stage, out)
+    for constraint in 0..8 {
+        put_place_of(stage, constraint, &mut out);
+    }
+    out
 }
