@@ -4,234 +4,247 @@
 // positions, and print first how many these are.
 #![tactic(auto)]
 
-ghost use Rattle.std.specs.Prelude.{◌≡◌, [], ◌∷◌, length};
+ghost use Rattle.std.specs.Prelude.{[], ◌∷◌};
 ghost use Rattle.colored_bodies.specs.Answers.{Takes, TakesAt};
 
-use colored_bodies::multi::TakenAt;
-use colored_bodies::{BodyBinding, Step, Taken};
-use frame::Refusal;
-use frame::refusal::refusal_number;
+use colored_bodies::multi::{MultiStep, TakenAt};
+use colored_bodies::{BodyBinding, Step, Take};
+use std::{array, io};
 
-fn put(n: u64) {
-    io::write_all(1, b" ");
-    io::print_decimal(1, n);
-}
-
-fn show_bind(types: &[u8], indices: &[u16]) -> BodyBinding {
+fn show_bind(rt: &impl Print, types: &[u8], indices: &[u16]) -> io::Result<BodyBinding> {
     let bound = BodyBinding::bind(types, indices);
+    let refusal = bound.refusal;
     let binding = bound.binding;
-    io::write_all(1, b"bind");
-    put(types.len() as u64);
-    put(indices.len() as u64);
-    put(refusal_number(&bound.asked) as u64);
-    put(binding.count as u64);
-    io::write_all(1, b"\n");
-    binding
+    let (given, listed, count) = (types.len(), indices.len(), binding.count);
+    println!(rt; "bind {given} {listed} {refusal} {count}")?;
+    Ok(binding)
 }
 
-fn show_answer(answer: Result<Taken, Refusal>) {
-    match answer {
-        Ok(taken) => {
-            put(0);
-            put(taken.first as u64);
-            put(taken.first_dynamic as u64);
-            put(taken.second as u64);
-            put(taken.second_dynamic as u64);
+fn print_take(rt: &impl Print, take: Take) -> io::Result<()> {
+    match take {
+        Take::Taken {
+            first,
+            first_dynamic,
+            second,
+            second_dynamic,
+        } => {
+            let first_mark = u8::from(first_dynamic);
+            let second_mark = u8::from(second_dynamic);
+            println!(rt; " 0 {first} {first_mark} {second} {second_mark}")
         }
-        Err(refusal) => {
-            put(refusal.number() as u64);
-        }
+        Take::Refused(n) => println!(rt; " {n}"),
     }
 }
 
-fn show_step(step: Step<Result<Taken, Refusal>>, a: usize, b: usize) -> BodyBinding {
-    let answer = step.taken;
-    put(a as u64);
-    put(b as u64);
-    show_answer(answer);
-    io::write_all(1, b"\n");
-    step.binding
+// Takes of two positions, each from the binding that the one before leaves; `take` is the call.
+fn show_takes<F>(
+    rt: &impl Print,
+    word: &str,
+    bound: BodyBinding,
+    pairs: &[(usize, usize)],
+    take: F,
+) -> io::Result<BodyBinding>
+where
+    F: Fn(BodyBinding, usize, usize) -> Step + Drop,
+    requires { F.IsAlwaysCallable take }
+{
+    let mut binding = bound;
+    for (a, b) in pairs {
+        let step = take(binding, *a, *b);
+        print!(rt; "{word} {a} {b}")?;
+        print_take(rt, step.take)?;
+        binding = step.binding;
+    }
+    Ok(binding)
 }
 
-fn show_take(binding: BodyBinding, a: usize, b: usize) -> BodyBinding {
-    io::write_all(1, b"take");
-    show_step(binding.pair_at(a, b), a, b)
+// Takes by value.
+fn take(
+    rt: &impl Print,
+    binding: BodyBinding,
+    pairs: &[(usize, usize)],
+) -> io::Result<BodyBinding> {
+    show_takes(rt, "take", binding, pairs, |binding, a, b| {
+        binding.pair_at(a, b)
+    })
+}
+
+// Takes over a binding that is lent.
+fn take_at(
+    rt: &impl Print,
+    binding: BodyBinding,
+    pairs: &[(usize, usize)],
+) -> io::Result<BodyBinding> {
+    show_takes(rt, "take_at", binding, pairs, take_kept)
 }
 
 // A take over a binding that this function keeps, and lends.
-fn take_kept(mut binding: BodyBinding, a: usize, b: usize) -> Step<Result<Taken, Refusal>>
-    ensures { Takes binding (a ∷ b ∷ []) result.taken result.binding }
+fn take_kept(mut binding: BodyBinding, a: usize, b: usize) -> Step
+    ensures { Takes binding (a ∷ b ∷ []) result.take result.binding }
 {
-    let taken = colored_bodies::take_at(&mut binding, a, b);
-    Step { binding, taken }
-}
-
-fn show_take_at(binding: BodyBinding, a: usize, b: usize) -> BodyBinding {
-    io::write_all(1, b"take_at");
-    show_step(take_kept(binding, a, b), a, b)
+    let take = colored_bodies::take_at(&mut binding, a, b);
+    Step { binding, take }
 }
 
 // The refusal of a take of several positions, and the bodies that it hands.
-fn show_taken(answer: Result<TakenAt, Refusal>) {
-    put(refusal_number(&answer) as u64);
-    if let Ok(taken) = answer {
-        let bodies = taken.bodies;
-        let dynamic = taken.dynamic;
-        for i in 0..4 {
-            if i < taken.count {
-                put(bodies[i] as u64);
-                put(dynamic[i] as u64);
-            }
-        }
+fn print_taken(rt: &impl Print, taken: TakenAt) -> io::Result<()> {
+    print!(rt; " {}", taken.refusal)?;
+    let bodies = taken.bodies;
+    let dynamic = taken.dynamic;
+    for (body, dynamic) in bodies.iter().zip(&dynamic).take(taken.count) {
+        print!(rt; " {body} {}", u8::from(*dynamic))?;
     }
+    println!(rt; "")
 }
 
-fn show_several(step: Step<Result<TakenAt, Refusal>>, positions: &[u16]) -> BodyBinding {
-    put(positions.len() as u64);
-    for p in positions {
-        put(*p as u64);
+// A take of several positions; `take` is the call.
+fn show_several<F>(
+    rt: &impl Print,
+    word: &str,
+    binding: BodyBinding,
+    positions: &[u16],
+    take: F,
+) -> io::Result<BodyBinding>
+where
+    F: FnOnce(BodyBinding, &[u16]) -> MultiStep + Drop,
+    requires { F.IsAlwaysCallable take }
+{
+    print!(rt; "{word} {}", positions.len())?;
+    for position in positions {
+        print!(rt; " {position}")?;
     }
-    show_taken(step.taken);
-    io::write_all(1, b"\n");
-    step.binding
+    let step = take(binding, positions);
+    print_taken(rt, step.taken)?;
+    Ok(step.binding)
 }
 
-fn show_bodies_at(binding: BodyBinding, positions: &[u16]) -> BodyBinding {
-    io::write_all(1, b"bodies_at");
-    show_several(binding.bodies_at(positions), positions)
+fn bodies_at(rt: &impl Print, binding: BodyBinding, positions: &[u16]) -> io::Result<BodyBinding> {
+    show_several(
+        rt,
+        "bodies_at",
+        binding,
+        positions,
+        |binding, positions| binding.bodies_at(positions),
+    )
 }
 
-fn several_kept(mut binding: BodyBinding, positions: &[u16]) -> Step<Result<TakenAt, Refusal>>
+fn several_kept(mut binding: BodyBinding, positions: &[u16]) -> MultiStep
     ensures { TakesAt binding positions.now result.taken result.binding }
 {
     let taken = colored_bodies::multi::take_bodies_at(&mut binding, positions);
-    Step { binding, taken }
+    MultiStep { binding, taken }
 }
 
-fn show_take_bodies_at(binding: BodyBinding, positions: &[u16]) -> BodyBinding {
-    io::write_all(1, b"take_bodies_at");
-    show_several(several_kept(binding, positions), positions)
+fn take_bodies_at(
+    rt: &impl Print,
+    binding: BodyBinding,
+    positions: &[u16],
+) -> io::Result<BodyBinding> {
+    show_several(rt, "take_bodies_at", binding, positions, several_kept)
 }
 
 // Places 0, 1, 2 dynamic: (1, 2), then (0, 2) gives 11, then (0, 1) gives 10.
-fn sample() {
-    let mut b = show_bind(&[2, 2, 2], &[0, 1, 2]);
-    b = show_take(b, 1, 2);
-    b = show_take(b, 0, 2);
-    show_take(b, 0, 1);
+fn sample(rt: &impl Print) -> io::Result<()> {
+    let b = show_bind(rt, &[2, 2, 2], &[0, 1, 2])?;
+    take(rt, b, &[(1, 2), (0, 2), (0, 1)])?;
+    Ok(())
 }
 
 // Read-only bodies may be taken again; the order asked is kept.
-fn read_only() {
-    let mut b = show_bind(&[0, 2, 1, 2], &[0, 1, 2, 3]);
-    b = show_take(b, 2, 0);
-    b = show_take(b, 3, 0);
-    b = show_take(b, 0, 2);
-    show_take(b, 3, 1);
+fn read_only(rt: &impl Print) -> io::Result<()> {
+    let b = show_bind(rt, &[0, 2, 1, 2], &[0, 1, 2, 3])?;
+    take(rt, b, &[(2, 0), (3, 0), (0, 2), (3, 1)])?;
+    Ok(())
 }
 
 // The sample by `take_at`, its places 0, 1, 2 being the bodies 1, 2, 3; then two read-only bodies, taken again.
-fn lent() {
-    let mut b = show_bind(&[0, 2, 2, 2, 1, 0], &[1, 2, 3, 4, 5]);
-    b = show_take_at(b, 1, 2);
-    b = show_take_at(b, 0, 2);
-    b = show_take_at(b, 0, 1);
-    b = show_take_at(b, 3, 4);
-    show_take_at(b, 4, 3);
+fn lent(rt: &impl Print) -> io::Result<()> {
+    let b = show_bind(rt, &[0, 2, 2, 2, 1, 0], &[1, 2, 3, 4, 5])?;
+    take_at(rt, b, &[(1, 2), (0, 2), (0, 1), (3, 4), (4, 3)])?;
+    Ok(())
 }
 
 // Request 6's sample: logged bodies (type 3) are held and handed as dynamic ones are. (1, 2) and (3, 2) are taken, then (0, 1) gives 11 and
 // (1, 3) gives 10.
-fn logged() {
-    let mut b = show_bind(&[2, 3, 1, 3], &[0, 1, 2, 3]);
-    b = show_take(b, 1, 2);
-    b = show_take(b, 3, 2);
-    b = show_take(b, 0, 1);
-    show_take(b, 1, 3);
+fn logged(rt: &impl Print) -> io::Result<()> {
+    let b = show_bind(rt, &[2, 3, 1, 3], &[0, 1, 2, 3])?;
+    take(rt, b, &[(1, 2), (3, 2), (0, 1), (1, 3)])?;
+    Ok(())
 }
 
 // Request 11's sample: takes of several positions, place 2 read-only and place 3 logged. The length is asked before the positions; (1, 2, 0)
 // gives 10 for place 0 and takes nothing, so that (4, 3, 1) takes place 1 before it gives 11 for place 3; then (1, 4, 2) gives 10 for place 1.
-fn several() {
-    let mut b = show_bind(&[2, 2, 0, 3, 2], &[0, 1, 2, 3, 4]);
-    b = show_bodies_at(b, &[4]);
-    b = show_bodies_at(b, &[0, 1, 2, 3, 4]);
-    b = show_take_bodies_at(b, &[2, 2, 2, 2, 2]);
-    b = show_bodies_at(b, &[3, 2, 0]);
-    b = show_bodies_at(b, &[4, 2, 4]);
-    b = show_take_bodies_at(b, &[1, 5]);
-    b = show_bodies_at(b, &[1, 2, 0]);
-    b = show_take_bodies_at(b, &[4, 3, 1]);
-    show_bodies_at(b, &[1, 4, 2]);
+fn several(rt: &impl Print) -> io::Result<()> {
+    let mut b = show_bind(rt, &[2, 2, 0, 3, 2], &[0, 1, 2, 3, 4])?;
+    b = bodies_at(rt, b, &[4])?;
+    b = bodies_at(rt, b, &[0, 1, 2, 3, 4])?;
+    b = take_bodies_at(rt, b, &[2, 2, 2, 2, 2])?;
+    b = bodies_at(rt, b, &[3, 2, 0])?;
+    b = bodies_at(rt, b, &[4, 2, 4])?;
+    b = take_bodies_at(rt, b, &[1, 5])?;
+    b = bodies_at(rt, b, &[1, 2, 0])?;
+    b = take_bodies_at(rt, b, &[4, 3, 1])?;
+    bodies_at(rt, b, &[1, 4, 2])?;
+    Ok(())
 }
 
 // Questions 3, 5 and 8, and a count of 0 and of 1.
-fn small() {
-    let none = show_bind(&[], &[]);
-    show_take(none, 0, 1);
-    let one = show_bind(&[2, 2], &[1]);
-    let again = show_take(one, 0, 0);
-    show_take(again, 0, 1);
-    show_bind(&[2, 2], &[2]);
-    show_bind(&[2, 2], &[1, 1]);
-    show_bind(&[2, 4], &[0, 1]);
+fn small(rt: &impl Print) -> io::Result<()> {
+    let none = show_bind(rt, &[], &[])?;
+    take(rt, none, &[(0, 1)])?;
+    let one = show_bind(rt, &[2, 2], &[1])?;
+    take(rt, one, &[(0, 0), (0, 1)])?;
+    show_bind(rt, &[2, 2], &[2])?;
+    show_bind(rt, &[2, 2], &[1, 1])?;
+    show_bind(rt, &[2, 4], &[0, 1])?;
+    Ok(())
 }
 
 // The numbers from 0 to 4,095.
-fn rising() -> [u16; 4096]
-    ensures { 4096 ≡ length result }
-{
-    let mut list = [0u16; 4096];
-    let mut i: u16 = 0;
-    while i < 4096 {
-        list[i as usize] = i;
-        i += 1;
-    }
-    list
+fn rising() -> [u16; 4096] {
+    array::from_fn(|i| i as u16)
 }
 
 // 4,096 bodies, and one more.
-fn large() {
+fn large(rt: &impl Print) -> io::Result<()> {
     let list = rising();
-    let mut b = show_bind(&[2; 4096], &list);
-    b = show_take(b, 4095, 0);
-    b = show_take(b, 4095, 4096);
-    b = show_take(b, 1, 4095);
-    b = show_take_bodies_at(b, &[4094, 3, 4093, 2]);
-    show_bodies_at(b, &[4, 5, 6, 4096]);
-    show_bind(&[2; 4097], &list);
+    let mut b = show_bind(rt, &[2; 4096], &list)?;
+    b = take(rt, b, &[(4095, 0), (4095, 4096), (1, 4095)])?;
+    b = take_bodies_at(rt, b, &[4094, 3, 4093, 2])?;
+    bodies_at(rt, b, &[4, 5, 6, 4096])?;
+    show_bind(rt, &[2; 4097], &list)?;
+    Ok(())
 }
 
 fn forged(mark: u8, count: usize) -> BodyBinding {
     BodyBinding {
-        bodies: [7u16; 4096],
+        bodies: [7; 4096],
         marks: [mark; 4096],
-        count: count,
+        count,
     }
 }
 
 // Bindings that no bind has made: any count, any mark.
-fn any_value() {
-    let mut b = forged(1, 18446744073709551615);
-    b = show_take(b, 0, 4096);
-    b = show_take(b, 4096, 4095);
-    b = show_take(b, 4095, 4094);
-    b = show_bodies_at(b, &[0, 1, 2, 4096]);
-    show_take_bodies_at(b, &[4093, 4092, 4091, 4090]);
-    show_take(forged(1, 0), 0, 1);
-    show_take(forged(3, 4096), 0, 1);
-    show_take(forged(255, 4096), 1, 0);
-    show_bodies_at(forged(0, 4096), &[]);
-    show_take_bodies_at(forged(3, 4096), &[2, 1, 0]);
+fn any_value(rt: &impl Print) -> io::Result<()> {
+    let mut b = forged(1, usize::MAX);
+    b = take(rt, b, &[(0, 4096), (4096, 4095), (4095, 4094)])?;
+    b = bodies_at(rt, b, &[0, 1, 2, 4096])?;
+    take_bodies_at(rt, b, &[4093, 4092, 4091, 4090])?;
+    take(rt, forged(1, 0), &[(0, 1)])?;
+    take(rt, forged(3, 4096), &[(0, 1)])?;
+    take(rt, forged(255, 4096), &[(1, 0)])?;
+    bodies_at(rt, forged(0, 4096), &[])?;
+    take_bodies_at(rt, forged(3, 4096), &[2, 1, 0])?;
+    Ok(())
 }
 
-fn main() {
-    sample();
-    read_only();
-    lent();
-    logged();
-    several();
-    small();
-    large();
-    any_value();
+fn main(rt: HostRuntime) -> io::Result<()> {
+    sample(&rt)?;
+    read_only(&rt)?;
+    lent(&rt)?;
+    logged(&rt)?;
+    several(&rt)?;
+    small(&rt)?;
+    large(&rt)?;
+    any_value(&rt)
 }

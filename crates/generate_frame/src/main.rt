@@ -3,37 +3,34 @@
 // can't be read gets a message on standard error, and nothing goes to standard output. What is printed is made by `lift_print`.
 #![tactic(auto)]
 
-// The standard streams, by their file descriptors.
-const STDERR: i32 = 2;
+ghost use Rattle.std.specs.Prelude.{◌≤◌, IfOk, length};
 
-const STDIN: i32 = 0;
-
-const STDOUT: i32 = 1;
+use std::io;
+use std::io::Read;
 
 // One byte more than a line can have that is read: four numbers of 19 digits and three spaces.
 const LINE: usize = 80;
 
-// Writes the first bytes of a text. (The caller has them.)
-fn write_first(text: &[u8], size: usize) {
-    if size <= text.len() {
-        io::write_all(STDOUT, &text[..size]);
+// Fills the buffer as far as the input goes, and answers how many bytes were read.
+fn read_full(input: &mut impl Read, buffer: &mut [u8]) -> io::Result<usize>
+    ensures { IfOk result (λ n. n ≤ length buffer.new) }
+{
+    let mut filled = 0;
+    for _ in 0..LINE {
+        filled += input.read(&mut buffer[filled..])?;
     }
+    Ok(filled)
 }
 
-fn complain() {
-    io::write_all(
-        STDERR,
-        b"generate_frame: write one line of four numbers of at most 19 digits, parted by one space: seed bodies manifolds joints (the seed at most 4294967295)\n",
-    );
-}
-
-fn main() {
-    let mut text = [0u8; LINE];
-    let mut out = [0u8; generator::MAX_BYTES];
-    let read = io::read_full(STDIN, &mut text);
+fn main(rt: HostRuntime) -> io::Result<()> {
+    let mut text = [0; LINE];
+    let read = read_full(&mut rt.reader(), &mut text)?;
+    let mut out = [0; generator::MAX_BYTES];
     let size = lift_print::put_print(&text[..read], &mut out);
     if size == 0 {
-        complain();
+        eprintln!(rt;
+            "generate_frame: write one line of four numbers of at most 19 digits, parted by one space: seed bodies manifolds joints (the seed at most 4294967295)"
+        )?;
     }
-    write_first(&out, size);
+    rt.write_all(out.get(..size).unwrap_or(&[]))
 }

@@ -2,139 +2,113 @@
 // FNV-1a hash of 32 bits. The lent bytes are 0xab before the call.
 #![tactic(auto)]
 
-use frame::refusal::Refusal;
-use frame_file::Sizes;
+use generator::Generated;
+use std::io;
 
-// Standard output, by its file descriptor.
-const STDOUT: i32 = 1;
-
-fn wide(x: u8) -> u32 {
-    x as u32
+// A sample: its name, the four numbers that ask for a lift, and how many bytes are lent.
+#[derive(Clone, Copy)]
+struct Lift<'a> {
+    name: &'a str,
+    seed: u32,
+    bodies: usize,
+    manifolds: usize,
+    joints: usize,
+    lent: usize,
 }
 
-fn write_number(word: &[u8], n: u64) {
-    io::write_all(STDOUT, word);
-    io::print_decimal(STDOUT, n);
+// The call of a sample.
+fn generate(sample: Lift<'_>, bytes: &mut [u8]) -> Generated {
+    generator::generate(
+        sample.seed,
+        sample.bodies,
+        sample.manifolds,
+        sample.joints,
+        bytes,
+    )
 }
 
 // The answer's number, 0 where a frame was made, and the frame's length, 0 where it was refused.
-fn write_answer(name: &[u8], answer: Result<usize, Refusal>) {
-    io::write_all(STDOUT, name);
+fn print_answer(rt: &impl Print, name: &str, answer: Generated) -> io::Result<()> {
     match answer {
-        Ok(length) => {
-            write_number(b" ", 0);
-            write_number(b" ", length as u64);
-        }
-        Err(refusal) => {
-            write_number(b" ", refusal.number() as u64);
-            write_number(b" ", 0);
-        }
-    }
-}
-
-fn write_hex(bytes: &[u8]) {
-    let mut i = 0;
-    // The first i bytes are printed.
-    while i < bytes.len() {
-        io::print_hex(STDOUT, wide(bytes[i]) as u64, 2);
-        i += 1;
+        Generated::Frame(length) => print!(rt; "{name} 0 {length}"),
+        Generated::Refused(number) => print!(rt; "{name} {number} 0"),
     }
 }
 
 fn sum(bytes: &[u8]) -> u32 {
-    let mut total = 0;
-    let mut i = 0;
-    // `total` is the sum of the first i bytes, modulo 2^32.
-    while i < bytes.len() {
-        total = std::num::wrapping_add_u32(total, wide(bytes[i]));
-        i += 1;
-    }
-    total
+    bytes
+        .iter()
+        .fold(0, |total, x| u32::from(*x).wrapping_add(total))
 }
 
 fn fnv(bytes: &[u8]) -> u32 {
-    let mut hash = 2166136261;
-    let mut i = 0;
-    // `hash` is the hash of the first i bytes.
-    while i < bytes.len() {
-        hash = generator::wrapping_mul(hash ^ wide(bytes[i]), 16777619);
-        i += 1;
-    }
-    hash
+    bytes.iter().fold(2166136261, |hash, x| {
+        (hash ^ u32::from(*x)).wrapping_mul(16777619)
+    })
 }
 
-fn show_bytes(
-    name: &[u8],
-    seed: u32,
-    bodies: usize,
-    manifolds: usize,
-    joints: usize,
-    bytes: &mut [u8],
-) {
-    let sizes = Sizes {
-        bodies,
-        manifolds,
-        joints,
-    };
-    let answer = generator::generate(seed, sizes, bytes);
-    write_answer(name, answer);
-    if 0 < bytes.len() {
-        io::write_all(STDOUT, b" ");
-    }
-    write_hex(bytes);
-    io::write_all(STDOUT, b"\n");
-}
-
-fn show_sums(
-    name: &[u8],
-    seed: u32,
-    bodies: usize,
-    manifolds: usize,
-    joints: usize,
-    bytes: &mut [u8],
-) {
-    let sizes = Sizes {
-        bodies,
-        manifolds,
-        joints,
-    };
-    let answer = generator::generate(seed, sizes, bytes);
-    write_answer(name, answer);
-    write_number(b" sum ", sum(bytes) as u64);
-    write_number(b" fnv ", fnv(bytes) as u64);
-    io::write_all(STDOUT, b"\n");
+// The first bytes, as many as a sample lends, at most all.
+fn lent<'a>(sample: Lift<'_>, bytes: &'a mut [u8]) -> &'a mut [u8] {
+    let count = sample.lent.min(bytes.len());
+    &mut bytes[..count]
 }
 
 // A sample with at most 99 bytes lent.
-fn short(name: &[u8], seed: u32, bodies: usize, manifolds: usize, joints: usize, lent: usize) {
-    let mut bytes = [171u8; 99];
-    if lent <= 99 {
-        show_bytes(name, seed, bodies, manifolds, joints, &mut bytes[..lent]);
+fn show_short(rt: &impl Print, sample: Lift<'_>) -> io::Result<()> {
+    let mut bytes = [171; 99];
+    let bytes = lent(sample, &mut bytes);
+    let answer = generate(sample, bytes);
+    print_answer(rt, sample.name, answer)?;
+    if !bytes.is_empty() {
+        print!(rt; " ")?;
     }
+    for byte in bytes {
+        print!(rt; "{byte:02x}")?;
+    }
+    println!(rt; "")
 }
 
 // A sample with at most as many bytes lent as the largest frame has.
-fn long(name: &[u8], seed: u32, bodies: usize, manifolds: usize, joints: usize, lent: usize) {
-    let mut bytes = [171u8; generator::MAX_BYTES];
-    if lent <= generator::MAX_BYTES {
-        show_sums(name, seed, bodies, manifolds, joints, &mut bytes[..lent]);
+fn show_long(rt: &impl Print, sample: Lift<'_>) -> io::Result<()> {
+    let mut bytes = [171; generator::MAX_BYTES];
+    let bytes = lent(sample, &mut bytes);
+    let answer = generate(sample, bytes);
+    print_answer(rt, sample.name, answer)?;
+    println!(rt; " sum {} fnv {}", sum(bytes), fnv(bytes))
+}
+
+fn sample<'a>(
+    name: &'a str,
+    seed: u32,
+    bodies: usize,
+    manifolds: usize,
+    joints: usize,
+    lent: usize,
+) -> Lift<'a> {
+    Lift {
+        name,
+        seed,
+        bodies,
+        manifolds,
+        joints,
+        lent,
     }
 }
 
-fn main() {
-    short(b"S1", 0, 2, 1, 1, 22);
-    short(b"S2", 0, 3, 2, 1, 27);
-    short(b"S3", 1, 3, 2, 1, 27);
-    short(b"S4", 4294967295, 2, 0, 2, 23);
-    short(b"S5", 0, 0, 0, 0, 11);
-    short(b"S6", 5, 1, 0, 0, 12);
-    short(b"S7", 0, 0, 1, 0, 0);
-    short(b"S8", 0, 1, 0, 1, 99);
-    short(b"S9", 0, 4097, 1, 0, 0);
-    short(b"S9b", 1, 0, 4097, 0, 0);
-    short(b"S10", 0, 2, 0, 0, 12);
-    short(b"S11", 0, 4, 0, 0, 20);
-    long(b"S12", 0, 4096, 4096, 0, 20491);
-    long(b"S13", 99, 4096, 4096, 0, 20491);
-    long(b"S14", 7, 4096, 4096, 4096, 40971);
+fn main(rt: HostRuntime) -> io::Result<()> {
+    show_short(&rt, sample("S1", 0, 2, 1, 1, 22))?;
+    show_short(&rt, sample("S2", 0, 3, 2, 1, 27))?;
+    show_short(&rt, sample("S3", 1, 3, 2, 1, 27))?;
+    show_short(&rt, sample("S4", 4294967295, 2, 0, 2, 23))?;
+    show_short(&rt, sample("S5", 0, 0, 0, 0, 11))?;
+    show_short(&rt, sample("S6", 5, 1, 0, 0, 12))?;
+    show_short(&rt, sample("S7", 0, 0, 1, 0, 0))?;
+    show_short(&rt, sample("S8", 0, 1, 0, 1, 99))?;
+    show_short(&rt, sample("S9", 0, 4097, 1, 0, 0))?;
+    show_short(&rt, sample("S9b", 1, 0, 4097, 0, 0))?;
+    show_short(&rt, sample("S10", 0, 2, 0, 0, 12))?;
+    show_short(&rt, sample("S11", 0, 4, 0, 0, 20))?;
+    show_long(&rt, sample("S12", 0, 4096, 4096, 0, 20491))?;
+    show_long(&rt, sample("S13", 99, 4096, 4096, 0, 20491))?;
+    show_long(&rt, sample("S14", 7, 4096, 4096, 4096, 40971))
 }

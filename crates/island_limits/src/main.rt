@@ -2,442 +2,333 @@
 // (none is 65535), and the parent of body 0 with the size there.
 #![tactic(auto)]
 
-ghost use Rattle.std.specs.Prelude.{◌≤◌, ◌<◌, length};
+use island::Answer;
+use std::{array, io};
 
-// The chain 0-1, 1-2, 2-3, ..; the same chain from its other end, .., 3-2, 2-1, 1-0; every body on a hub, 0-hub, 1-hub, 2-hub, ..
+// As many bodies as a frame may have, and one more; the joints have the same limit.
+const MOST: usize = 4096;
+
+const TOO_MANY: usize = 4097;
+
+// Two endpoints for each constraint of a chain or a hub of the most bodies.
+const PAIRS: usize = 8190;
+
+// Four for each of the most joints, and for one more.
+const ENDS: usize = 4 * MOST;
+
+const TOO_MANY_ENDS: usize = 4 * TOO_MANY;
+
+// How many places of each table are lent.
 #[derive(Clone, Copy)]
-enum Shape {
-    Rising,
-    Falling,
-    Spokes(u16),
+struct Room {
+    parents: usize,
+    sizes: usize,
+    bodies: usize,
+    manifolds: usize,
+    joints: usize,
 }
 
-// The entry k of a shape's pairs.
-fn entry(shape: Shape, k: usize, count: usize) -> u16
-    requires { (k < count) × (count ≤ 8192) }
-{
-    match shape {
-        Shape::Rising => ((k + 1) / 2) as u16,
-        Shape::Falling => ((count - k) / 2) as u16,
-        Shape::Spokes(hub) => {
-            if k % 2 == 1 {
-                return hub;
-            }
-            (k / 2) as u16
+impl Room {
+    // Just enough for so many bodies, manifolds and joints.
+    fn exact(bodies: usize, manifolds: usize, joints: usize) -> Self {
+        Room {
+            parents: bodies,
+            sizes: bodies,
+            bodies,
+            manifolds,
+            joints,
         }
     }
 }
 
-fn fill(pairs: &mut [u16], shape: Shape)
-    requires { length pairs.old ≤ 8192 }
-{
-    let mut k = 0;
-    // The first k entries are the shape's.
-    while k < pairs.len() {
-        pairs[k] = entry(shape, k, pairs.len());
-        k += 1;
-    }
+// The chain 0-1, 1-2, 2-3, ..
+fn rising_chain() -> [u16; PAIRS] {
+    array::from_fn(|k| ((k + 1) / 2) as u16)
 }
 
-fn wide(x: u16) -> u64
-    ensures { result ≤ 65535 }
-{
-    x as u64
+// The same chain from its other end, .., 3-2, 2-1, 1-0.
+fn falling_chain() -> [u16; PAIRS] {
+    array::from_fn(|k| ((PAIRS - k) / 2) as u16)
 }
 
-fn sum(labels: &[u16]) -> u64
-    requires { length labels.now ≤ 8192 }
-{
-    let mut total: u64 = 0;
-    let mut i = 0;
-    // `total` is the sum of the first i labels.
-    while i < labels.len() {
-        total += wide(labels[i]);
-        i += 1;
-    }
-    total
+// Every body on the last one: 0-4095, 1-4095, 2-4095, ..
+fn spokes() -> [u16; PAIRS] {
+    array::from_fn(|k| if k % 2 == 1 { 4095 } else { (k / 2) as u16 })
 }
 
-fn number(word: &[u8], n: u64) {
-    io::write_all(1, word);
-    io::print_decimal(1, n);
+// Joint i is on the bodies i, i + 1, i + 2 and i + 3 of 4,096, around their end.
+fn ends_of_fours<const N: usize>() -> [u16; N] {
+    array::from_fn(|k| ((k / 4 + k % 4) % 4096) as u16)
+}
+
+// The first places of a table, at most `count`.
+fn first(table: &mut [u16], count: usize) -> &mut [u16] {
+    let count = count.min(table.len());
+    &mut table[..count]
 }
 
 // The parent of body 0 and the size there: in every frame here body 0 is at most one link from the root of its set, so this is that
 // root and the number of bodies in the set.
-fn first_set(parent: u16, sizes: &[u16]) {
-    let place = parent as usize;
-    if place < sizes.len() {
-        number(b" parent ", wide(parent));
-        number(b" size ", wide(sizes[place]));
-    }
-}
-
-// The line of one frame.
-fn report(name: &[u8], answer: island::Answer, parents: &[u16], sizes: &[u16], labels: &[u16]) {
-    io::write_all(1, name);
-    match answer {
-        island::Answer::Islands(n) => {
-            number(b" islands ", wide(n));
-            if labels.len() > 0 {
-                number(b" last ", wide(labels[labels.len() - 1]));
-            }
-            if labels.len() <= 8192 {
-                number(b" sum ", sum(labels));
-            }
-            if parents.len() > 0 {
-                first_set(parents[0], sizes);
-            }
-        }
-        island::Answer::Refused(n) => {
-            number(b" refused ", n as u64);
+fn print_first_set(rt: &impl Print, parents: &[u16], sizes: &[u16]) -> io::Result<()> {
+    if let Some(parent) = parents.first() {
+        if let Some(size) = sizes.get(usize::from(*parent)) {
+            return print!(rt; " parent {parent} size {size}");
         }
     }
-    io::write_all(1, b"\n");
+    Ok(())
 }
 
-// A frame without joints.
-fn show(
-    name: &[u8],
-    body_types: &[u8],
-    manifolds: &[u16],
-    parents: &mut [u16],
-    sizes: &mut [u16],
-    body_islands: &mut [u16],
-    manifold_islands: &mut [u16],
-) {
-    let answer = island::build(
-        body_types,
-        manifolds,
+// What a frame of islands shows.
+fn print_islands(
+    rt: &impl Print,
+    islands: u16,
+    parents: &[u16],
+    sizes: &[u16],
+    labels: &[u16],
+) -> io::Result<()> {
+    print!(rt; " islands {islands}")?;
+    if let Some(last) = labels.last() {
+        print!(rt; " last {last}")?;
+    }
+    let sum: u32 = labels
+        .iter()
+        .fold(0, |sum, x| u32::from(*x).wrapping_add(sum));
+    print!(rt; " sum {sum}")?;
+    print_first_set(rt, parents, sizes)
+}
+
+// The line of one frame, on tables of these lengths; `build` is the call.
+fn show<F>(rt: &impl Print, name: &str, room: Room, build: F) -> io::Result<()>
+where
+    F: FnOnce(&mut [u16], &mut [u16], &mut [u16], &mut [u16], &mut [u16]) -> Answer + Drop,
+    requires { F.IsAlwaysCallable build }
+{
+    let (mut parents, mut sizes, mut body_islands) = ([0; TOO_MANY], [0; TOO_MANY], [0; TOO_MANY]);
+    let (mut manifold_islands, mut joint_islands) = ([0; TOO_MANY], [0; TOO_MANY]);
+    let parents = first(&mut parents, room.parents);
+    let sizes = first(&mut sizes, room.sizes);
+    let body_islands = first(&mut body_islands, room.bodies);
+    let manifold_islands = first(&mut manifold_islands, room.manifolds);
+    let joint_islands = first(&mut joint_islands, room.joints);
+    let answer = build(
         parents,
         sizes,
         body_islands,
         manifold_islands,
+        joint_islands,
     );
-    report(name, answer, parents, sizes, body_islands);
+    print!(rt; "{name}")?;
+    match answer {
+        Answer::Islands(islands) => print_islands(rt, islands, parents, sizes, body_islands)?,
+        Answer::Refused(number) => print!(rt; " refused {number}")?,
+    }
+    println!(rt; "")
+}
+
+// A frame without joints.
+fn show_manifolds(
+    rt: &impl Print,
+    name: &str,
+    types: &[u8],
+    manifolds: &[u16],
+    room: Room,
+) -> io::Result<()> {
+    show(
+        rt,
+        name,
+        room,
+        |parents, sizes, body_islands, manifold_islands, _| {
+            island::build(
+                types,
+                manifolds,
+                parents,
+                sizes,
+                body_islands,
+                manifold_islands,
+            )
+        },
+    )
 }
 
 // A frame of joints, all enabled.
 fn show_joints(
-    name: &[u8],
-    body_types: &[u8],
+    rt: &impl Print,
+    name: &str,
+    types: &[u8],
     joints: &[u16],
     enabled: &[u8],
-    parents: &mut [u16],
-    sizes: &mut [u16],
-    body_islands: &mut [u16],
-    joint_islands: &mut [u16],
-) {
-    let mut manifold_islands = [0; 1];
-    let answer = island::build_with_joints(
-        body_types,
-        &joints[..0],
-        joints,
-        enabled,
-        parents,
-        sizes,
-        body_islands,
-        &mut manifold_islands[..0],
-        joint_islands,
-    );
-    report(name, answer, parents, sizes, body_islands);
+    room: Room,
+) -> io::Result<()> {
+    show(
+        rt,
+        name,
+        room,
+        |parents, sizes, body_islands, manifold_islands, joint_islands| {
+            island::build_with_joints(
+                types,
+                &[],
+                joints,
+                enabled,
+                parents,
+                sizes,
+                body_islands,
+                manifold_islands,
+                joint_islands,
+            )
+        },
+    )
 }
 
-// A frame of joints that have counts.
-fn show_counted(
-    name: &[u8],
-    body_types: &[u8],
-    joint_ends: &[u16],
-    joint_counts: &[u8],
+// A frame of joints of four bodies each, all enabled.
+fn show_fours(
+    rt: &impl Print,
+    name: &str,
+    types: &[u8],
+    ends: &[u16],
+    counts: &[u8],
     enabled: &[u8],
-    parents: &mut [u16],
-    sizes: &mut [u16],
-    body_islands: &mut [u16],
-    joint_islands: &mut [u16],
-) {
-    let mut manifold_islands = [0; 1];
-    let answer = island::build_with_multi_joints(
-        body_types,
-        &joint_ends[..0],
-        joint_ends,
-        joint_counts,
-        enabled,
-        parents,
-        sizes,
-        body_islands,
-        &mut manifold_islands[..0],
-        joint_islands,
-    );
-    report(name, answer, parents, sizes, body_islands);
+) -> io::Result<()> {
+    let room = Room::exact(types.len(), 0, counts.len());
+    show(
+        rt,
+        name,
+        room,
+        |parents, sizes, body_islands, manifold_islands, joint_islands| {
+            island::build_with_multi_joints(
+                types,
+                &[],
+                ends,
+                counts,
+                enabled,
+                parents,
+                sizes,
+                body_islands,
+                manifold_islands,
+                joint_islands,
+            )
+        },
+    )
 }
 
 // 4,096 bodies in one chain, and 4,095 on one static body.
-fn most_bodies() {
-    let mut body_types = [2; 4096];
-    let mut pairs = [0; 8190];
-    let mut parents = [0; 4096];
-    let mut sizes = [0; 4096];
-    let mut body_islands = [0; 4096];
-    let mut manifold_islands = [0; 4095];
-    fill(&mut pairs, Shape::Rising);
-    show(
-        b"chain rising",
-        &body_types,
-        &pairs,
-        &mut parents,
-        &mut sizes,
-        &mut body_islands,
-        &mut manifold_islands,
-    );
-    fill(&mut pairs, Shape::Falling);
-    show(
-        b"chain falling",
-        &body_types,
-        &pairs,
-        &mut parents,
-        &mut sizes,
-        &mut body_islands,
-        &mut manifold_islands,
-    );
-    fill(&mut pairs, Shape::Spokes(4095));
-    body_types[4095] = 0;
-    show(
-        b"static hub",
-        &body_types,
-        &pairs,
-        &mut parents,
-        &mut sizes,
-        &mut body_islands,
-        &mut manifold_islands,
-    );
+fn most_bodies(rt: &impl Print) -> io::Result<()> {
+    let exact = Room::exact(MOST, MOST - 1, 0);
+    let mut types = [2; MOST];
+    show_manifolds(rt, "chain rising", &types, &rising_chain(), exact)?;
+    show_manifolds(rt, "chain falling", &types, &falling_chain(), exact)?;
+    types[MOST - 1] = 0;
+    show_manifolds(rt, "static hub", &types, &spokes(), exact)
 }
 
 // Endpoint B - 1, and B.
-fn last_endpoint() {
-    let body_types = [2; 2];
-    let mut parents = [0; 2];
-    let mut sizes = [0; 2];
-    let mut body_islands = [0; 2];
-    let mut manifold_islands = [0; 1];
-    let mut pair = [0; 2];
-    pair[1] = 1;
-    show(
-        b"endpoint B - 1",
-        &body_types,
-        &pair,
-        &mut parents,
-        &mut sizes,
-        &mut body_islands,
-        &mut manifold_islands,
-    );
-    pair[1] = 2;
-    show(
-        b"endpoint B",
-        &body_types,
-        &pair,
-        &mut parents,
-        &mut sizes,
-        &mut body_islands,
-        &mut manifold_islands,
-    );
+fn last_endpoint(rt: &impl Print) -> io::Result<()> {
+    let exact = Room::exact(2, 1, 0);
+    show_manifolds(rt, "endpoint B - 1", &[2; 2], &[0, 1], exact)?;
+    show_manifolds(rt, "endpoint B", &[2; 2], &[0, 2], exact)
 }
 
-// One table an entry short, in a frame whose exact tables `most_bodies` lent.
-fn short_tables() {
-    let body_types = [2; 4096];
-    let mut pairs = [0; 8190];
-    let mut parents = [0; 4096];
-    let mut sizes = [0; 4096];
-    let mut body_islands = [0; 4096];
-    let mut labels = [0; 4095];
-    let mut short = [0; 4095];
-    let mut shorter = [0; 4094];
-    fill(&mut pairs, Shape::Rising);
-    show(
-        b"parents short",
-        &body_types,
-        &pairs,
-        &mut short,
-        &mut sizes,
-        &mut body_islands,
-        &mut labels,
-    );
-    show(
-        b"body labels short",
-        &body_types,
-        &pairs,
-        &mut parents,
-        &mut sizes,
-        &mut short,
-        &mut labels,
-    );
-    show(
-        b"manifold labels short",
-        &body_types,
-        &pairs,
-        &mut parents,
-        &mut sizes,
-        &mut body_islands,
-        &mut shorter,
-    );
-}
-
-// The chain with the size table one short, and one longer than there are bodies.
-fn size_tables() {
-    let body_types = [2; 4096];
-    let mut pairs = [0; 8190];
-    let mut parents = [0; 4096];
-    let mut short = [0; 4095];
-    let mut long = [0; 4097];
-    let mut body_islands = [0; 4096];
-    let mut labels = [0; 4095];
-    fill(&mut pairs, Shape::Rising);
-    show(
-        b"sizes short",
-        &body_types,
-        &pairs,
-        &mut parents,
-        &mut short,
-        &mut body_islands,
-        &mut labels,
-    );
-    show(
-        b"sizes long",
-        &body_types,
-        &pairs,
-        &mut parents,
-        &mut long,
-        &mut body_islands,
-        &mut labels,
-    );
+// One table an entry short, or one longer than there are bodies, in a frame whose exact tables `most_bodies` lent.
+fn other_tables(rt: &impl Print) -> io::Result<()> {
+    let exact = Room::exact(MOST, MOST - 1, 0);
+    let rooms = [
+        (
+            "parents short",
+            Room {
+                parents: MOST - 1,
+                ..exact
+            },
+        ),
+        (
+            "body labels short",
+            Room {
+                bodies: MOST - 1,
+                ..exact
+            },
+        ),
+        (
+            "manifold labels short",
+            Room {
+                manifolds: MOST - 2,
+                ..exact
+            },
+        ),
+        (
+            "sizes short",
+            Room {
+                sizes: MOST - 1,
+                ..exact
+            },
+        ),
+        (
+            "sizes long",
+            Room {
+                sizes: MOST + 1,
+                ..exact
+            },
+        ),
+    ];
+    let pairs = rising_chain();
+    for (name, room) in rooms {
+        show_manifolds(rt, name, &[2; MOST], &pairs, room)?;
+    }
+    Ok(())
 }
 
 // The chain by joints, with the joint labels exact and one short.
-fn joint_tables() {
-    let body_types = [2; 4096];
-    let enabled = [1; 4095];
-    let mut pairs = [0; 8190];
-    let mut parents = [0; 4096];
-    let mut sizes = [0; 4096];
-    let mut body_islands = [0; 4096];
-    let mut labels = [0; 4095];
-    let mut shorter = [0; 4094];
-    fill(&mut pairs, Shape::Rising);
+fn joint_tables(rt: &impl Print) -> io::Result<()> {
+    let pairs = rising_chain();
+    let exact = Room::exact(MOST, 0, MOST - 1);
+    let short = Room::exact(MOST, 0, MOST - 2);
     show_joints(
-        b"joint labels exact",
-        &body_types,
+        rt,
+        "joint labels exact",
+        &[2; MOST],
         &pairs,
-        &enabled,
-        &mut parents,
-        &mut sizes,
-        &mut body_islands,
-        &mut labels,
-    );
+        &[1; MOST - 1],
+        exact,
+    )?;
     show_joints(
-        b"joint labels short",
-        &body_types,
+        rt,
+        "joint labels short",
+        &[2; MOST],
         &pairs,
-        &enabled,
-        &mut parents,
-        &mut sizes,
-        &mut body_islands,
-        &mut shorter,
-    );
+        &[1; MOST - 1],
+        short,
+    )
 }
 
-// Joint i is on the bodies i, i + 1, i + 2 and i + 3 of 4,096, around their end.
-fn fill_ends(ends: &mut [u16]) {
-    let mut k = 0;
-    // The first k endpoints are those of the first joints.
-    while k < ends.len() {
-        ends[k] = ((k / 4 + k % 4) % 4096) as u16;
-        k += 1;
-    }
-}
-
-// The most joints, of four bodies each.
-fn most_joints() {
-    let body_types = [2; 4096];
-    let counts = [4; 4096];
-    let enabled = [1; 4096];
-    let mut ends = [0; 16384];
-    let mut parents = [0; 4096];
-    let mut sizes = [0; 4096];
-    let mut body_islands = [0; 4096];
-    let mut labels = [0; 4096];
-    fill_ends(&mut ends);
-    show_counted(
-        b"4096 joints of four",
-        &body_types,
-        &ends,
-        &counts,
-        &enabled,
-        &mut parents,
-        &mut sizes,
-        &mut body_islands,
-        &mut labels,
-    );
-}
-
-// One joint too many.
-fn too_many_joints() {
-    let body_types = [2; 4];
-    let counts = [4; 4097];
-    let enabled = [1; 4097];
-    let mut ends = [0; 16388];
-    let mut parents = [0; 4];
-    let mut sizes = [0; 4];
-    let mut body_islands = [0; 4];
-    let mut labels = [0; 4097];
-    fill_ends(&mut ends);
-    show_counted(
-        b"4097 joints of four",
-        &body_types,
-        &ends,
-        &counts,
-        &enabled,
-        &mut parents,
-        &mut sizes,
-        &mut body_islands,
-        &mut labels,
-    );
+// The most joints, of four bodies each, and one joint too many.
+fn most_joints(rt: &impl Print) -> io::Result<()> {
+    show_fours(
+        rt,
+        "4096 joints of four",
+        &[2; MOST],
+        &ends_of_fours::<ENDS>(),
+        &[4; MOST],
+        &[1; MOST],
+    )?;
+    show_fours(
+        rt,
+        "4097 joints of four",
+        &[2; 4],
+        &ends_of_fours::<TOO_MANY_ENDS>(),
+        &[4; TOO_MANY],
+        &[1; TOO_MANY],
+    )
 }
 
 // One body too many.
-fn too_many_bodies() {
-    let body_types = [2; 4097];
-    let mut parents = [0; 4097];
-    let mut sizes = [0; 4097];
-    let mut body_islands = [0; 4097];
-    let mut none = [0; 1];
-    let pairs = [0; 1];
-    show(
-        b"4097 bodies",
-        &body_types,
-        &pairs[..0],
-        &mut parents,
-        &mut sizes,
-        &mut body_islands,
-        &mut none[..0],
-    );
-    show(
-        b"4096 bodies",
-        &body_types[..4096],
-        &pairs[..0],
-        &mut parents,
-        &mut sizes,
-        &mut body_islands,
-        &mut none[..0],
-    );
+fn too_many_bodies(rt: &impl Print) -> io::Result<()> {
+    let room = Room::exact(TOO_MANY, 0, 0);
+    show_manifolds(rt, "4097 bodies", &[2; TOO_MANY], &[], room)?;
+    show_manifolds(rt, "4096 bodies", &[2; MOST], &[], room)
 }
 
-fn main() {
-    most_bodies();
-    last_endpoint();
-    short_tables();
-    size_tables();
-    joint_tables();
-    most_joints();
-    too_many_joints();
-    too_many_bodies();
+fn main(rt: HostRuntime) -> io::Result<()> {
+    most_bodies(&rt)?;
+    last_endpoint(&rt)?;
+    other_tables(&rt)?;
+    joint_tables(&rt)?;
+    most_joints(&rt)?;
+    too_many_bodies(&rt)
 }

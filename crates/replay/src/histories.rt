@@ -1,15 +1,11 @@
 // A history: updates of one plan on one set of tables. An update is B, the number of pair entries, flags and entries, one byte each.
-use crate::questions::{bytes_at, copy_numbers};
-use constraint_coloring::{ConstraintColoring, Update};
-use frame::Refusal;
-use plan_questions::PlanTables;
-use records::places::{after, least, number_at, put, put_bytes, put_halves};
+use crate::Answer;
+use constraint_coloring::{ConstraintColoring, Positions, Update};
+use records::{Reader, Writer};
 
-// Where the next update stands and the next answer goes; the plan, and its tables, which have room for 7 bodies and 7 constraints.
+// The plan, and its tables, which have room for 7 bodies and 7 constraints.
 #[derive(Clone, Copy)]
 struct Stage {
-    place: usize,
-    next: usize,
     plan: ConstraintColoring,
     dynamic_bodies: [u8; 7],
     endpoints: [u16; 15],
@@ -26,11 +22,9 @@ struct Stage {
     constraint_body_positions: [u16; 15],
 }
 
-// A new plan on tables with a pattern in them, and the first update's place.
+// A new plan on tables with a pattern in them.
 fn first_stage() -> Stage {
     Stage {
-        place: 1,
-        next: 0,
         plan: ConstraintColoring::new(),
         dynamic_bodies: [171; 7],
         endpoints: [43981; 15],
@@ -49,158 +43,190 @@ fn first_stage() -> Stage {
 }
 
 // 1 for "changed", 2 for "unchanged", else 0 and the refusal.
-fn put_update(answer: Update<ConstraintColoring>, out: &mut [u8], at: usize) -> usize {
+fn put_update(answer: Update, out: &mut Answer) {
     match answer {
-        Update::Changed(_) => put(out, at, 1),
-        Update::Unchanged => put(out, at, 2),
-        Update::Refused(refusal) => {
-            let next = put(out, at, 0);
-            put(out, next, refusal.number())
+        Update::Changed(_) => out.byte(1),
+        Update::Unchanged => out.byte(2),
+        Update::Refused(n) => {
+            out.byte(0);
+            out.byte(n);
         }
     }
 }
 
-fn put_plan(plan: ConstraintColoring, out: &mut [u8], at: usize) -> usize {
-    let bodies = put(out, at, (plan.body_count % 256) as u8);
-    let constraints = put(out, bodies, (plan.constraint_count % 256) as u8);
-    let colors = put(out, constraints, (plan.color_count % 256) as u8);
-    put(out, colors, (plan.max_color_constraint_count % 256) as u8)
-}
-
-fn put_first_tables(stage: Stage, out: &mut [u8], at: usize) -> usize {
-    let mut next = put_bytes(out, at, &stage.dynamic_bodies);
-    next = put_halves(out, next, &stage.endpoints);
-    next = put_halves(out, next, &stage.constraint_colors);
-    put_halves(out, next, &stage.color_offsets)
+fn put_plan(plan: ConstraintColoring, out: &mut Answer) {
+    out.byte((plan.body_count % 256) as u8);
+    out.byte((plan.constraint_count % 256) as u8);
+    out.byte((plan.color_count % 256) as u8);
+    out.byte((plan.max_color_constraint_count % 256) as u8);
 }
 
 // All tables that are not free.
-fn put_tables(stage: Stage, out: &mut [u8], at: usize) -> usize {
-    let mut next = put_first_tables(stage, out, at);
-    next = put_halves(out, next, &stage.colored_constraints);
-    next = put_halves(out, next, &stage.color_body_offsets);
-    next = put_halves(out, next, &stage.color_bodies);
-    put_halves(out, next, &stage.constraint_body_positions)
+fn put_tables(stage: Stage, out: &mut Answer) {
+    out.bytes(&stage.dynamic_bodies);
+    out.halves(&stage.endpoints);
+    out.halves(&stage.constraint_colors);
+    out.halves(&stage.color_offsets);
+    out.halves(&stage.colored_constraints);
+    out.halves(&stage.color_body_offsets);
+    out.halves(&stage.color_bodies);
+    out.halves(&stage.constraint_body_positions);
+}
+
+// The update with its tables as arrays, so that their lengths are known.
+fn update_arrays(
+    plan: ConstraintColoring,
+    flags: &[u8],
+    pairs: &[u16],
+    dynamic_bodies: &mut [u8; 7],
+    endpoints: &mut [u16; 15],
+    body_offsets: &mut [u16; 8],
+    body_constraints: &mut [u16; 15],
+    scratch_offsets: &mut [u16; 8],
+    constraint_colors: &mut [u16; 8],
+    color_stamps: &mut [u16; 8],
+    body_stamps: &mut [u16; 7],
+    color_offsets: &mut [u16; 9],
+    colored_constraints: &mut [u16; 8],
+    color_body_offsets: &mut [u16; 9],
+    color_bodies: &mut [u16; 15],
+    constraint_body_positions: &mut [u16; 15],
+) -> Update {
+    plan.update(
+        flags,
+        pairs,
+        dynamic_bodies,
+        endpoints,
+        body_offsets,
+        body_constraints,
+        scratch_offsets,
+        constraint_colors,
+        color_stamps,
+        body_stamps,
+        color_offsets,
+        colored_constraints,
+        color_body_offsets,
+        color_bodies,
+        constraint_body_positions,
+    )
 }
 
 // One update and its answer.
-fn update_once(stage: Stage, flags: &[u8], pairs: &[u16], out: &mut [u8]) -> Stage {
-    let mut updated = stage;
-    let mut tables = PlanTables {
-        dynamic_bodies: &mut updated.dynamic_bodies,
-        endpoints: &mut updated.endpoints,
-        body_offsets: &mut updated.body_offsets,
-        body_constraints: &mut updated.body_constraints,
-        scratch_offsets: &mut updated.scratch_offsets,
-        constraint_colors: &mut updated.constraint_colors,
-        color_stamps: &mut updated.color_stamps,
-        body_stamps: &mut updated.body_stamps,
-        color_offsets: &mut updated.color_offsets,
-        colored_constraints: &mut updated.colored_constraints,
-        color_body_offsets: &mut updated.color_body_offsets,
-        color_bodies: &mut updated.color_bodies,
-        constraint_body_positions: &mut updated.constraint_body_positions,
-    };
-    let answer = stage.plan.update(flags, pairs, &mut tables);
-    updated.plan = answer.plan_after(stage.plan);
-    updated.next = put_update(answer, out, stage.next);
-    updated
+fn update_once(stage: Stage, flags: &[u8], pairs: &[u16], out: &mut Answer) -> Stage {
+    let plan = stage.plan;
+    let mut dynamic_bodies = stage.dynamic_bodies;
+    let mut endpoints = stage.endpoints;
+    let mut body_offsets = stage.body_offsets;
+    let mut body_constraints = stage.body_constraints;
+    let mut scratch_offsets = stage.scratch_offsets;
+    let mut constraint_colors = stage.constraint_colors;
+    let mut color_stamps = stage.color_stamps;
+    let mut body_stamps = stage.body_stamps;
+    let mut color_offsets = stage.color_offsets;
+    let mut colored_constraints = stage.colored_constraints;
+    let mut color_body_offsets = stage.color_body_offsets;
+    let mut color_bodies = stage.color_bodies;
+    let mut constraint_body_positions = stage.constraint_body_positions;
+    let answer = update_arrays(
+        plan,
+        flags,
+        pairs,
+        &mut dynamic_bodies,
+        &mut endpoints,
+        &mut body_offsets,
+        &mut body_constraints,
+        &mut scratch_offsets,
+        &mut constraint_colors,
+        &mut color_stamps,
+        &mut body_stamps,
+        &mut color_offsets,
+        &mut colored_constraints,
+        &mut color_body_offsets,
+        &mut color_bodies,
+        &mut constraint_body_positions,
+    );
+    put_update(answer, out);
+    Stage {
+        plan: constraint_coloring::plan_after(plan, answer),
+        dynamic_bodies: dynamic_bodies,
+        endpoints: endpoints,
+        body_offsets: body_offsets,
+        body_constraints: body_constraints,
+        scratch_offsets: scratch_offsets,
+        constraint_colors: constraint_colors,
+        color_stamps: color_stamps,
+        body_stamps: body_stamps,
+        color_offsets: color_offsets,
+        colored_constraints: colored_constraints,
+        color_body_offsets: color_body_offsets,
+        color_bodies: color_bodies,
+        constraint_body_positions: constraint_body_positions,
+    }
 }
 
-// The update that stands at the stage's place, its answer, the plan after it and the tables.
-fn update_at(stage: Stage, question: &[u8], pairs: &mut [u16], out: &mut [u8]) -> Stage {
-    let place = stage.place;
-    let flagged = after(question, place, 2);
-    let flags = bytes_at(question, flagged, number_at(question, place));
-    let paired = after(question, flagged, flags.len());
-    copy_numbers(question, paired, pairs);
-    let mut updated = update_once(stage, flags, pairs, out);
-    let plan = updated.plan;
-    let planned = put_plan(plan, out, updated.next);
-    let next = put_tables(updated, out, planned);
-    let following = after(question, paired, pairs.len());
-    updated.next = next;
-    updated.place = following;
-    updated
-}
-
-// The same: the number of pair entries is cut to what a question may hold.
-fn answer_update(stage: Stage, question: &[u8], out: &mut [u8]) -> Stage {
+// The question's next update, its answer, the plan after it and the tables. The number of pair entries is cut to what a question may hold.
+fn answer_update(stage: Stage, question: &mut Reader, out: &mut Answer) -> Stage {
+    let flags = question.byte();
+    let entries = question.byte();
+    let flags = question.bytes(usize::from(flags));
     let mut pairs = [0u16; 24];
-    let e = least(number_at(question, after(question, stage.place, 1)), 24);
-    update_at(stage, question, &mut pairs[0..e], out)
+    let pairs = &mut pairs[..usize::from(entries).min(24)];
+    question.numbers(pairs);
+    let updated = update_once(stage, flags, pairs, out);
+    put_plan(updated.plan, out);
+    put_tables(updated, out);
+    updated
 }
 
-fn update_all(question: &[u8], out: &mut [u8]) -> Stage {
-    let mut stage = first_stage();
-    let mut left = number_at(question, 0);
-    // `stage` is the plan and its tables after the updates so far; `left` of them follow.
-    while 0 < left {
-        stage = answer_update(stage, question, out);
-        left -= 1;
-    }
-    stage
+fn put_members(stage: Stage, group: usize, out: &mut Answer) {
+    let members = stage
+        .plan
+        .constraints_in_schedule_group(&stage.color_offsets, &stage.colored_constraints, group);
+    out.byte((members.len() % 256) as u8);
+    out.halves(members);
 }
 
-fn put_members(stage: Stage, group: usize, out: &mut [u8], at: usize) -> usize {
-    let plan = stage.plan;
-    let offsets = stage.color_offsets;
-    let constraints = stage.colored_constraints;
-    let members = plan.constraints_in_schedule_group(&offsets, &constraints, group);
-    let counted = put(out, at, (members.len() % 256) as u8);
-    put_halves(out, counted, members)
+fn put_bodies(stage: Stage, group: usize, out: &mut Answer) {
+    let bodies = stage
+        .plan
+        .bodies_in_schedule_group(&stage.color_body_offsets, &stage.color_bodies, group);
+    out.byte((bodies.len() % 256) as u8);
+    out.halves(bodies);
 }
 
-fn put_bodies(stage: Stage, group: usize, out: &mut [u8], at: usize) -> usize {
-    let plan = stage.plan;
-    let offsets = stage.color_body_offsets;
-    let color_bodies = stage.color_bodies;
-    let bodies = plan.bodies_in_schedule_group(&offsets, &color_bodies, group);
-    let counted = put(out, at, (bodies.len() % 256) as u8);
-    put_halves(out, counted, bodies)
-}
-
-// The members and bodies of a group, each with its number before it.
-fn put_group(stage: Stage, group: usize, out: &mut [u8], at: usize) -> usize {
-    let listed = put_members(stage, group, out, at);
-    put_bodies(stage, group, out, listed)
-}
-
-fn put_positions(answer: Result<&[u16], Refusal>, out: &mut [u8], at: usize) -> usize {
+fn put_positions(answer: Positions, out: &mut Answer) {
     match answer {
-        Ok(places) => put_halves(out, at, places),
-        Err(refusal) => put(out, at, refusal.number()),
+        Positions::At(a, b) => {
+            out.half(a);
+            out.half(b);
+        }
+        Positions::Refused(n) => out.byte(n),
     }
 }
 
-fn put_place_of(stage: Stage, constraint: usize, out: &mut [u8], at: usize) -> usize {
-    let plan = stage.plan;
+fn put_place_of(stage: Stage, constraint: usize, out: &mut Answer) {
     let positions = stage.constraint_body_positions;
-    let answer = plan.body_positions_for_constraint(&positions, constraint);
-    put_positions(answer, out, at)
+    let answer = stage
+        .plan
+        .body_positions_for_constraint(&positions, constraint);
+    put_positions(answer, out);
 }
 
-fn put_lookup(stage: Stage, k: usize, out: &mut [u8], at: usize) -> usize {
-    if k < 8 {
-        return put_group(stage, k, out, at);
+// The updates; then the members and bodies of the groups from 0 to 7, each with its number before it; then the positions of the
+// constraints from 0 to 7.
+pub fn answer(question: &[u8]) -> Answer {
+    let mut question = Reader::new(question);
+    let mut out = Writer::new();
+    let mut stage = first_stage();
+    for _ in 0..question.byte() {
+        stage = answer_update(stage, &mut question, &mut out);
     }
-    put_place_of(stage, k - 8, out, at)
-}
-
-// The groups from 0 to 7, then the positions of the constraints from 0 to 7.
-fn put_lookups(stage: Stage, out: &mut [u8]) -> usize {
-    let mut next = stage.next;
-    let mut k = 0;
-    // The first k lookups are written, and `next` is the place after them.
-    while k < 16 {
-        next = put_lookup(stage, k, out, next);
-        k += 1;
+    for group in 0..8 {
+        put_members(stage, group, &mut out);
+        put_bodies(stage, group, &mut out);
     }
-    next
-}
-
-// The updates, then the lookups.
-pub fn answer_history(question: &[u8], out: &mut [u8]) -> usize {
-    let stage = update_all(question, out);
-    put_lookups(stage, out)
+    for constraint in 0..8 {
+        put_place_of(stage, constraint, &mut out);
+    }
+    out
 }

@@ -5,7 +5,6 @@
 
 mod bindings;
 mod histories;
-mod questions;
 
 use records::Writer;
 use std::io;
@@ -50,17 +49,9 @@ impl Counts {
     }
 }
 
-fn answer_history(question: &[u8]) -> Answer {
-    let mut out = [0; 2048];
-    let written = histories::answer_history(question, &mut out);
-    let mut answer = Writer::new();
-    answer.bytes(&out[..written.min(2048)]);
-    answer
-}
-
 fn answer(kind: Kind, question: &[u8]) -> Answer {
     match kind {
-        Kind::History => answer_history(question),
+        Kind::History => histories::answer(question),
         Kind::Binding => bindings::answer(question),
     }
 }

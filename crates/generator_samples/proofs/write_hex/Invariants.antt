@@ -1,6 +1,0 @@
--- `write_hex` is safe and ends: one byte less is left.
-use Rattle.std.proofs.Common.{◌-◌, length}
-use Rattle.generator_samples.proofs.write_hex.Given as goal
-
-abbrev pub decreases-loop-i : goal.decreases-loop-i
-decreases-loop-i l = length l.bytes - l.i
