@@ -2,14 +2,79 @@
 // that the tables are filled (question 7), and each island in number order is colored and its groups taken.
 #![tactic(auto)]
 
+ghost use Rattle.std.specs.Prelude.{◌≡◌};
 ghost use Rattle.frame.specs.Decodes.{Decodable};
+ghost use Rattle.frame_tables.specs.Filled.{islands_in, Roomy, Fills};
 ghost use Rattle.island.specs.Calls.{island_tables_of};
 ghost use Rattle.plan_questions.specs.Plans.{tables_of};
 ghost use Rattle.run_answer.specs.Answers.{Asks};
 ghost use Rattle.frame_run.specs.Calls.{lent_of, roomy_for, Ran};
 ghost use Rattle.frame_run.specs.Sized.{RoomySized, RanSized};
 
+use frame::Refusal;
+use frame_tables::Filling;
+use island::IslandTables;
 use run_answer::{Answer, Asked};
+
+// How many islands a filling found; none after 7.
+fn islands_of(filling: Result<Filling, Refusal>) -> u16
+    ensures { result ≡ islands_in filling }
+{
+    match filling {
+        Ok(filled) => filled.islands,
+        Err(_) => 0,
+    }
+}
+
+// The tables of a file that passed questions 1 to 6, filled: question 7.
+fn fill_tables(
+    frame: &[u8],
+    manifolds: usize,
+    parents: &mut [u16],
+    sizes: &mut [u16],
+    body_islands: &mut [u16],
+    manifold_islands: &mut [u16],
+    joint_islands: &mut [u16],
+    types: &mut [u8],
+    flags: &mut [u8],
+    pairs: &mut [u16],
+    counts: &mut [u8],
+    enabled: &mut [u8],
+    numbers: &mut [u16],
+    keys: &mut [u16],
+    scratch_offsets: &mut [u16],
+    offsets: &mut [u16],
+    on_bodies: &mut [u16],
+) -> Result<Filling, Refusal>
+    requires decodable { Decodable frame.now manifolds types.old flags.old pairs.old counts.old enabled.old }
+    requires roomy { Roomy frame.now (island_tables_of parents.old sizes.old body_islands.old manifold_islands.old joint_islands.old) numbers.old keys.old scratch_offsets.old offsets.old on_bodies.old }
+    ensures { Fills frame.now types.new flags.new pairs.new counts.new enabled.new
+        (island_tables_of parents.old sizes.old body_islands.old manifold_islands.old joint_islands.old)
+        (island_tables_of parents.new sizes.new body_islands.new manifold_islands.new joint_islands.new) numbers.new result }
+{
+    let mut tables = IslandTables {
+        parents,
+        sizes,
+        body_islands,
+        manifold_islands,
+        joint_islands,
+    };
+    frame_tables::fill(
+        frame,
+        manifolds,
+        &mut tables,
+        types,
+        flags,
+        pairs,
+        counts,
+        enabled,
+        numbers,
+        keys,
+        scratch_offsets,
+        offsets,
+        on_bodies,
+    )
+}
 
 // The run of a file that passed questions 1 to 6, where `types`, `flags`, `pairs`, `counts`, `enabled` and `numbers` have its sizes,
 // and so have `island_pairs` and `island_counts`. After 7 there are no islands, so that nothing is taken.
@@ -56,7 +121,7 @@ fn run_sized(
         (island_tables_of parents.old sizes.old body_islands.old manifold_islands.old joint_islands.old) turns.old
         (island_tables_of parents.new sizes.new body_islands.new manifold_islands.new joint_islands.new) turns.new result }
 {
-    let filling = frame_tables::fill(
+    let filling = fill_tables(
         frame,
         manifolds,
         parents,
@@ -75,8 +140,9 @@ fn run_sized(
         color_offsets,
         body_stamps,
     );
+    let islands = islands_of(filling);
     let tally = island_run::run_islands(
-        filling.islands,
+        islands,
         types,
         flags,
         pairs,

@@ -4,6 +4,9 @@
 
 ghost use Rattle.std.specs.Prelude.{◌≤◌, ◌<◌, length};
 
+use frame::{Lists, Refusal};
+use island::IslandTables;
+
 // The chain 0-1, 1-2, 2-3, ..; the same chain from its other end, .., 3-2, 2-1, 1-0; every body on a hub, 0-hub, 1-hub, 2-hub, ..
 #[derive(Clone, Copy)]
 enum Shape {
@@ -74,10 +77,16 @@ fn first_set(parent: u16, sizes: &[u16]) {
 }
 
 // The line of one frame.
-fn report(name: &[u8], answer: island::Answer, parents: &[u16], sizes: &[u16], labels: &[u16]) {
+fn report(
+    name: &[u8],
+    answer: Result<u16, Refusal>,
+    parents: &[u16],
+    sizes: &[u16],
+    labels: &[u16],
+) {
     io::write_all(1, name);
     match answer {
-        island::Answer::Islands(n) => {
+        Ok(n) => {
             number(b" islands ", wide(n));
             if labels.len() > 0 {
                 number(b" last ", wide(labels[labels.len() - 1]));
@@ -89,8 +98,8 @@ fn report(name: &[u8], answer: island::Answer, parents: &[u16], sizes: &[u16], l
                 first_set(parents[0], sizes);
             }
         }
-        island::Answer::Refused(n) => {
-            number(b" refused ", n as u64);
+        Err(refusal) => {
+            number(b" refused ", refusal.number() as u64);
         }
     }
     io::write_all(1, b"\n");
@@ -106,14 +115,14 @@ fn show(
     body_islands: &mut [u16],
     manifold_islands: &mut [u16],
 ) {
-    let answer = island::build(
-        body_types,
-        manifolds,
-        parents,
-        sizes,
-        body_islands,
+    let mut tables = IslandTables {
+        parents: &mut *parents,
+        sizes: &mut *sizes,
+        body_islands: &mut *body_islands,
         manifold_islands,
-    );
+        joint_islands: &mut [],
+    };
+    let answer = island::build(body_types, manifolds, &mut tables);
     report(name, answer, parents, sizes, body_islands);
 }
 
@@ -128,18 +137,21 @@ fn show_joints(
     body_islands: &mut [u16],
     joint_islands: &mut [u16],
 ) {
-    let mut manifold_islands = [0; 1];
-    let answer = island::build_with_joints(
-        body_types,
-        &joints[..0],
-        joints,
+    let lists = Lists {
+        types: body_types,
+        manifolds: &[],
+        joint_ends: joints,
+        joint_counts: &[],
         enabled,
-        parents,
-        sizes,
-        body_islands,
-        &mut manifold_islands[..0],
+    };
+    let mut tables = IslandTables {
+        parents: &mut *parents,
+        sizes: &mut *sizes,
+        body_islands: &mut *body_islands,
+        manifold_islands: &mut [],
         joint_islands,
-    );
+    };
+    let answer = island::build_with_joints(lists, &mut tables);
     report(name, answer, parents, sizes, body_islands);
 }
 
@@ -155,19 +167,21 @@ fn show_counted(
     body_islands: &mut [u16],
     joint_islands: &mut [u16],
 ) {
-    let mut manifold_islands = [0; 1];
-    let answer = island::build_with_multi_joints(
-        body_types,
-        &joint_ends[..0],
+    let lists = Lists {
+        types: body_types,
+        manifolds: &[],
         joint_ends,
         joint_counts,
         enabled,
-        parents,
-        sizes,
-        body_islands,
-        &mut manifold_islands[..0],
+    };
+    let mut tables = IslandTables {
+        parents: &mut *parents,
+        sizes: &mut *sizes,
+        body_islands: &mut *body_islands,
+        manifold_islands: &mut [],
         joint_islands,
-    );
+    };
+    let answer = island::build_with_multi_joints(lists, &mut tables);
     report(name, answer, parents, sizes, body_islands);
 }
 

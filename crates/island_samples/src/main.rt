@@ -4,7 +4,8 @@
 // not lent is a dash too; every lent place holds 9 before the call.
 #![tactic(auto)]
 
-use island::Answer;
+use frame::{Lists, Refusal};
+use island::IslandTables;
 
 // Standard output, by its file descriptor.
 const STDOUT: i32 = 1;
@@ -102,18 +103,18 @@ fn put_values(word: &[u8], values: &[u16], count: usize) {
 }
 
 // The answer and the sets: by their roots after acceptance, else the two tables as they are.
-fn put_answer(answer: Answer, bodies: usize, parents: &[u16], sizes: &[u16]) {
+fn put_answer(answer: Result<u16, Refusal>, bodies: usize, parents: &[u16], sizes: &[u16]) {
     match answer {
-        Answer::Islands(count) => {
+        Ok(count) => {
             io::write_all(STDOUT, b" islands");
             put(wide(count));
             put_figures(b" roots", parents, sizes, bodies, Figure::Root);
             put_figures(b" links", parents, sizes, bodies, Figure::Links);
             put_figures(b" sizes", parents, sizes, bodies, Figure::Size);
         }
-        Answer::Refused(number) => {
+        Err(refusal) => {
             io::write_all(STDOUT, b" refused");
-            put(number as usize);
+            put(refusal.number() as usize);
             put_values(b" parents", parents, bodies);
             put_values(b" sizes", sizes, bodies);
         }
@@ -123,7 +124,7 @@ fn put_answer(answer: Answer, bodies: usize, parents: &[u16], sizes: &[u16]) {
 // The line of one frame: the answer, and the labels of so many bodies, manifolds and joints.
 fn put_line(
     name: &[u8],
-    answer: Answer,
+    answer: Result<u16, Refusal>,
     bodies: usize,
     manifolds: usize,
     joints: usize,
@@ -154,17 +155,21 @@ fn show(
     let mut body_islands = [9u16; 16];
     let mut manifold_islands = [9u16; 8];
     let mut joint_islands = [9u16; 7];
-    let answer = island::build_with_joints(
-        body_types,
+    let lists = Lists {
+        types: body_types,
         manifolds,
-        joints,
+        joint_ends: joints,
+        joint_counts: &[],
         enabled,
-        parents,
-        sizes,
-        &mut body_islands,
-        &mut manifold_islands,
-        &mut joint_islands,
-    );
+    };
+    let mut tables = IslandTables {
+        parents: &mut *parents,
+        sizes: &mut *sizes,
+        body_islands: &mut body_islands,
+        manifold_islands: &mut manifold_islands,
+        joint_islands: &mut joint_islands,
+    };
+    let answer = island::build_with_joints(lists, &mut tables);
     put_line(
         name,
         answer,
@@ -193,18 +198,21 @@ fn show_counted(
     manifold_islands: &mut [u16],
     joint_islands: &mut [u16],
 ) {
-    let answer = island::build_with_multi_joints(
-        body_types,
+    let lists = Lists {
+        types: body_types,
         manifolds,
         joint_ends,
         joint_counts,
         enabled,
-        parents,
-        sizes,
-        body_islands,
-        manifold_islands,
-        joint_islands,
-    );
+    };
+    let mut tables = IslandTables {
+        parents: &mut *parents,
+        sizes: &mut *sizes,
+        body_islands: &mut *body_islands,
+        manifold_islands: &mut *manifold_islands,
+        joint_islands: &mut *joint_islands,
+    };
+    let answer = island::build_with_multi_joints(lists, &mut tables);
     put_line(
         name,
         answer,
