@@ -8,8 +8,8 @@ ghost use Rattle.frame.specs.Frames.{constraints, frame_of, touches, all_sound, 
 ghost use Rattle.frame.specs.Lists.{frame_in};
 ghost use Rattle.degrees.specs.Counts.{CountsOf, Addable, Added, Countable, Counted, counted};
 
-use frame::Lists;
 use frame::constraints::{Constraints, Lent, Pairs};
+use frame::{Frame, Lists};
 
 // Whether one of these endpoints of a live constraint is a dynamic body: then it has an island.
 #[inline(always)]
@@ -20,7 +20,7 @@ fn touches(types: &[u8], ends: &[u16]) -> bool
     let mut touched = false;
     // `touched` tells whether one of the endpoints passed is a dynamic body.
     for end in ends {
-        touched = touched | (types[*end as usize] == 2);
+        touched = touched | (types[*end as usize] == Frame::DYNAMIC);
     }
     touched
 }
@@ -110,7 +110,7 @@ pub fn degree(lists: Lists<'_>, on_bodies: &mut [u16]) -> usize
         × (all_sound (frame_in lists) ≡ true) × (length (constraints (frame_in lists)) ≤ 8192) }
     ensures { result ≡ degree_max (frame_in lists.entry) }
 {
-    tables::fill(on_bodies, 0);
+    on_bodies.fill(0);
     let pairs = Pairs {
         pairs: lists.manifolds,
         enabled: &[],

@@ -6,7 +6,6 @@ ghost use Rattle.frame.specs.Constraints.{lent};
 ghost use Rattle.frame.specs.Frames.{Constraint, constraints_of, counted_of, end_count, sound};
 
 use crate::multi::ends_fit;
-use crate::wide;
 
 // A constraint as its list is lent: its endpoints, in their order, and whether it is live.
 #[derive(Clone, Copy)]
@@ -71,7 +70,7 @@ impl<'a> Constraints<'a> for Counted<'a> {
     fn next(&mut self) -> Option<Lent<'a>> {
         let (count, counts) = self.counts.split_first()?;
         let (live, enabled) = split_live(self.enabled);
-        let (ends, others) = self.ends.split_at(wide(*count));
+        let (ends, others) = self.ends.split_at(usize::from(*count));
         self.counts = counts;
         self.ends = others;
         self.enabled = enabled;

@@ -20,7 +20,6 @@ ghost use Rattle.frame.specs.Answers.{version_of, Read};
 ghost use Rattle.frame.specs.Refusals.{refused_by};
 
 use crate::constraints::Pairs;
-
 pub use crate::refusal::Refusal;
 
 // The file form: how many bytes stand before the types, and how many a manifold and a joint have.
@@ -56,13 +55,6 @@ pub struct Lists<'a> {
     pub joint_ends: &'a [u16],
     pub joint_counts: &'a [u8],
     pub enabled: &'a [u8],
-}
-
-// A byte as a number that can be counted with.
-pub fn wide(x: u8) -> usize
-    ensures { (result ≡ x) × (result < 256) }
-{
-    x as usize
 }
 
 // The 16-bit number at a place, big-endian.
@@ -207,6 +199,10 @@ impl Frame {
     pub const MAX_BYTES: usize = 61451;
 
     // The types are static (0), kinematic (1), dynamic (2) and logged (3).
+    pub const DYNAMIC: u8 = 2;
+
+    pub const LOGGED: u8 = 3;
+
     pub const MAX_TYPE: u8 = 3;
 
     // How many endpoints a constraint has, at least and at most.
@@ -256,7 +252,7 @@ fn decode_types(bytes: &[u8], types: &mut [u8])
 pub fn conflicts(t: u8) -> bool
     ensures { result ≡ conflicts t }
 {
-    (t == 2) | (t == 3)
+    (t == Frame::DYNAMIC) | (t == Frame::LOGGED)
 }
 
 // Its flag in a coloring, and its mark in a binding.

@@ -5,7 +5,7 @@ ghost use Rattle.lists.specs.Basics.{all, mem, distinct};
 ghost use Rattle.frame.specs.Frames.{counted, counts_known, end_count, counted_of, fits, sound};
 
 use crate::constraints::Counted;
-use crate::{Frame, constraints, wide};
+use crate::{Frame, constraints};
 
 // Is this the number of endpoints of a constraint, two to four?
 pub fn counted(count: usize) -> bool

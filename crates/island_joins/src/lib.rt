@@ -12,14 +12,11 @@ ghost use Rattle.island_sets.specs.Steps.{Sets};
 ghost use Rattle.island_labels.specs.Labels.{bare};
 ghost use Rattle.island_joins.specs.Joins.{Fit, FirstDynamic, JoinedOrRefused};
 
-use frame::Lists;
 use frame::constraints::{Constraints, Counted, Lent, Pairs, sound_one};
+use frame::{Frame, Lists};
 
 // The types of two dynamic bodies, 2 and 2, as the two bytes of one number.
 const BOTH_DYNAMIC: usize = 514;
-
-// The type of a dynamic body.
-const DYNAMIC: u8 = 2;
 
 // Two bodies are joined if both are dynamic. Their types are tested as one number: one branch to guess, not two. Its code stands in the
 // loops that call it, so that no pair costs a call.
@@ -29,7 +26,7 @@ fn join_dynamic(body_types: &[u8], parents: &mut [u16], sizes: &mut [u16], a: u1
     ensures { Sets parents.new sizes.new
         × (root_of parents.new ≡ hang_all (length body_types.now) (root_of parents.old) (edges_of (bare body_types.now) (constraint true a b))) }
 {
-    let types = frame::wide(body_types[a as usize]) * 256 + frame::wide(body_types[b as usize]);
+    let types = usize::from(body_types[a as usize]) * 256 + usize::from(body_types[b as usize]);
     if types != BOTH_DYNAMIC {
         return;
     }
@@ -43,7 +40,7 @@ fn first_dynamic(body_types: &[u8], ends: &[u16]) -> usize
 {
     // The bodies before `place` are not dynamic.
     for (place, body) in ends.iter().enumerate() {
-        if body_types[*body as usize] == DYNAMIC {
+        if body_types[*body as usize] == Frame::DYNAMIC {
             return place;
         }
     }

@@ -17,16 +17,6 @@ pub const NONE: u16 = Frame::NONE;
 // The label of a body that is in an island and has no number yet.
 const UNNUMBERED: u16 = 65534;
 
-// One of two places, by a test.
-fn pick_place(test: bool, yes: usize, no: usize) -> usize
-    ensures { result ≡ cond test yes no }
-{
-    if test {
-        return yes;
-    }
-    no
-}
-
 // The bodies in islands, dynamic and constrained, have no number yet; any other has none. A loop of wide compares.
 fn flag_bodies(body_types: &[u8], body_islands: &mut [u16])
     requires { length body_islands.old ≡ length body_types.now }
@@ -34,7 +24,7 @@ fn flag_bodies(body_types: &[u8], body_islands: &mut [u16])
 {
     // The bodies passed are flagged, and the others have the labels that they had.
     for (body, label) in body_islands.iter_mut().enumerate() {
-        let in_island = (body_types[body] == 2) & (*label != NONE);
+        let in_island = (body_types[body] == Frame::DYNAMIC) & (*label != NONE);
         *label = tables::pick(in_island, UNNUMBERED, NONE);
     }
 }
@@ -51,7 +41,7 @@ fn number_one(parents: &[u16], body_islands: &mut [u16], body: usize, count: u16
     let label = body_islands[root];
     let first = label == UNNUMBERED;
     let number = tables::pick(first, count, label);
-    let place = pick_place(first, root, body);
+    let place = tables::pick(first, root, body);
     body_islands[place] = number;
     body_islands[body] = number;
     count + first as u16

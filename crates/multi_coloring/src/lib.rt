@@ -28,7 +28,7 @@ pub struct MultiColoring {
 fn read_count(count: u8) -> usize
     ensures { result ≡ count_read count }
 {
-    let ends = frame::wide(count);
+    let ends = usize::from(count);
     if frame::multi::counted(ends) {
         return ends;
     }
@@ -51,7 +51,7 @@ fn same_counts(counts: &[u8], remembered: &[u8]) -> bool
     counts
         .iter()
         .zip(remembered)
-        .all(|(&count, &kept)| frame::wide(count) == read_count(kept))
+        .all(|(&count, &kept)| usize::from(count) == read_count(kept))
 }
 
 // Question 6 of a lookup of positions: are all counts there, and the positions of all constraints?
