@@ -109,12 +109,13 @@ pub fn fill(
         tables.enabled,
     );
     let counted = tables.counts.len() != 0;
+    let joints = tables.enabled.len();
     let lists = lists_in(tables, manifolds);
     let built = frame_parts::build(lists, counted, islands);
     frame_parts::sort(
         islands,
         manifolds,
-        lists.enabled.len(),
+        joints,
         built.unwrap_or(0),
         plan.constraint_colors,
         plan.scratch_offsets,
