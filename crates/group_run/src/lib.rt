@@ -75,12 +75,7 @@ fn take_pair(
     let places = planned
         .plan
         .body_positions_for_constraint(planned.positions, rank)?;
-    let marked = colored_bodies::take_marks(
-        marks,
-        count,
-        places[0] as usize,
-        places[1] as usize,
-    )?;
+    let marked = colored_bodies::take_marks(marks, count, places[0] as usize, places[1] as usize)?;
     Ok(pair_taken(marked))
 }
 
