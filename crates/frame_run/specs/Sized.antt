@@ -1,14 +1,17 @@
 -- A run on tables of the frame's sizes, once questions 1 to 6 are passed.
-use Rattle.std.specs.Prelude.{ℕ, ◌+◌, ◌*◌, ◌≤◌, ◌≡◌, true, not, List, eqb, length}
+use Rattle.std.specs.Prelude.{ℕ, ◌+◌, ◌*◌, ◌≤◌, ◌≡◌, true, not, List, eqb, length, Result, is_err}
 use Rattle.lists.specs.Basics.{over}
 use Rattle.frame.specs.Files.{second, count_b, count_m, count_j, joint_ends_in, decode}
 use Rattle.frame.specs.Decodes.{all_counts}
+use Rattle.frame.specs.declared.refusal.Refusal.{Refusal}
+use Rattle.frame.specs.Refusals.{refused_by}
 use Rattle.island.specs.Calls.{IslandTables, Built}
 use Rattle.plan_questions.specs.Plans.{Tables, roomy_with}
 use Rattle.schedules.specs.Runs.{run_of}
 use Rattle.frame_tables.specs.Filled.{sound_refusal, IslandRoom}
-use Rattle.run_answer.specs.declared.Answer.{Answer}
-use Rattle.run_answer.specs.Answers.{run_number, run_refused, run_report, reported, entries_for}
+use Rattle.run_answer.specs.declared.Report.{Report}
+use Rattle.run_answer.specs.Answers.{run_report, reported}
+use Rattle.run_answer.specs.Lent.{entries_for}
 
 -- room in the tables that are not cut to size, and as many numbers, endpoints and counts for the islands as the frame has
 pub record RoomySized (bs : List ℕ) (is : IslandTables) (ts ip ic ns : List ℕ) (t : Tables) (pc : List ℕ) : Type 0 where
@@ -21,9 +24,9 @@ pub record RoomySized (bs : List ℕ) (is : IslandTables) (ts ip ic ns : List �
   pub plan_counts : length (all_counts bs) ≤ length pc
 
 -- the island tables and the turn table at entry and at exit, and the answer
-pub record RanSized (bs : List ℕ) (is : IslandTables) (ts : List ℕ) (is' : IslandTables) (ts' : List ℕ) (r : Answer) : Type 0 where
-  pub refusal : run_number r ≡ sound_refusal bs
-  pub refused : run_refused r ≡ not (eqb (sound_refusal bs) 0)
+pub record RanSized (bs : List ℕ) (is : IslandTables) (ts : List ℕ) (is' : IslandTables) (ts' : List ℕ) (r : Result Report Refusal) : Type 0 where
+  pub refusal : refused_by r ≡ sound_refusal bs
+  pub refused : is_err r ≡ not (eqb (sound_refusal bs) 0)
   pub report : run_report r ≡ reported (run_of bs true)
   pub turns : ts' ≡ over (run_of bs true).table ts
-  pub islands : Built (decode bs) (sound_refusal bs) is is' (run_number r) (run_report r).islands
+  pub islands : Built (decode bs) (sound_refusal bs) is is' (refused_by r) (run_report r).islands

@@ -61,8 +61,8 @@ impl Counts {
 fn run(file: &[u8], turns: &mut [u16]) -> (u8, Report) {
     let answer = standalone_run::run_file(file, turns);
     (
-        run_answer::refusal_of(answer),
-        run_answer::report_of(answer),
+        frame::refusal::refusal_number(&answer),
+        answer.unwrap_or_default(),
     )
 }
 
