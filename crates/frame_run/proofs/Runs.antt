@@ -1,18 +1,20 @@
 -- Once the tables are filled, the islands' calls are the run's, or none after 7. Their endpoints and counts can be collected, and they fit the
 -- turn table by the theorem: a turn for each constraint that touches a dynamic body.
-use Rattle.std.proofs.Common.{ℕ, ◌+◌, ◌*◌, ◌/◌, ◌≤◌, ◌<◌, ◌≡◌, refl, sym, ap, ◌∙◌, Bool, true, false, cond, List, [], ◌∷◌, ◌++◌, map, arith, ltb, eqb, length, take, lt-ltb, eqb-true}
+use Rattle.std.proofs.Common.{ℕ, ◌+◌, ◌*◌, ◌/◌, ◌≤◌, ◌<◌, ◌≡◌, refl, sym, ap, ◌∙◌, Result, Bool, true, false, cond, List, [], ◌∷◌, ◌++◌, map, arith, ltb, eqb, length, take, lt-ltb, eqb-true}
 use Rattle.std.proofs.Math.ListN.{length-map}
 use Rattle.std.proofs.Math.Seq.{length_paste_head}
 use Rattle.std.proofs.lemmas.Bool.{eqb-false}
 use Rattle.lists.specs.Basics.{join_map}
 use Rattle.lists.proofs.Laws.{by_cases}
 use Rattle.lists.proofs.Puts.{put_first}
+use Rattle.frame.specs.declared.refusal.Refusal.{Refusal}
+use Rattle.frame.specs.Refusals.{refused_by}
 use Rattle.frame.specs.Frames.{Frame, constraints, all_sound, flag_of}
 use Rattle.frame.specs.Questions.{question, asked}
 use Rattle.frame.specs.Files.{second, count_b, count_m, count_j, types_in, joint_ends_in, decode, file_questions}
 use Rattle.frame.specs.Decodes.{all_counts}
 use Rattle.frame.proofs.Questions.{asked-append}
-use Rattle.frame.proofs.Files.{file_sized, file-types, types_long, live_in_long, file-ends, ends-first_long, all_counts-first, all_counts_long}
+use Rattle.frame.proofs.Files.{file_sized, file-types, types_long, file-ends, ends-first_long, all_counts-first, all_counts_long}
 use Rattle.connected_sets.specs.Islands.{island_count, label}
 use Rattle.island.specs.Calls.{IslandTables}
 use Rattle.island.proofs.Built.{built_as}
@@ -30,11 +32,11 @@ use Rattle.one_island.specs.Island.{fresh_refusal}
 use Rattle.island_run.specs.Islands.{calls_of, Prepared}
 use Rattle.island_run.proofs.Rooms.{SameLengths, room_kept}
 use Rattle.frame_tables.specs.declared.Filling.{Filling}
-use Rattle.frame_tables.specs.Filled.{labels_in, sound_refusal, Fills, Roomy}
+use Rattle.frame_tables.specs.Filled.{labels_in, sound_refusal, islands_in, degree_in, Fills, Roomy}
 use Rattle.frame_tables.proofs.Tables.{some_counts, file_accepted, labels_are, labels_sortable}
 use Rattle.run_answer.specs.declared.Report.{Report}
-use Rattle.run_answer.specs.declared.Answer.{Answer}
-use Rattle.run_answer.specs.Answers.{run_report, entries_for, AnswerOf}
+use Rattle.run_answer.specs.Answers.{run_report, AnswerOf}
+use Rattle.run_answer.specs.Lent.{entries_for}
 use Rattle.frame_run.specs.Sized.{RoomySized, RanSized}
 use Rattle.frame_run.proofs.Ends.{all_ends, ends_long, pairs_long, counts_whole, all-known}
 use Rattle.frame_run.proofs.Frames.{turns_long, ranked, calls_are, updates_accepted, run_room}
@@ -112,7 +114,7 @@ module _ (bs : List ℕ) (e : asked (file_questions bs) ≡ 0) where
 
   -- ---- the tables, filled
 
-  module _ (ts fs ps cs es : List ℕ) (is is' : IslandTables) (ns : List ℕ) (r : Filling) (h : Fills bs ts fs ps cs es is is' ns r) where
+  module _ (ts fs ps cs es : List ℕ) (is is' : IslandTables) (ns : List ℕ) (r : Result Filling Refusal) (h : Fills bs ts fs ps cs es is is' ns r) where
     abbrev mi : List ℕ
     mi = is'.manifold_islands
 
@@ -123,29 +125,29 @@ module _ (bs : List ℕ) (e : asked (file_questions bs) ≡ 0) where
     labels = labels_in bs mi ji
 
     sound-labels : all_sound f ≡ true → labels ≡ map (label f) (constraints f)
-    sound-labels t = labels_are bs e is is' r.refusal r.islands h.islands ∙ rw t
+    sound-labels t = labels_are bs e is is' (refused_by r) (islands_in r) h.islands ∙ rw t
 
-    sound-islands : all_sound f ≡ true → r.islands ≡ island_count f
+    sound-islands : all_sound f ≡ true → (islands_in r) ≡ island_count f
     unfolding sound_refusal
     sound-islands t = rw t at h.islands.count
 
-    no_islands : all_sound f ≡ false → r.islands ≡ 0
+    no_islands : all_sound f ≡ false → (islands_in r) ≡ 0
     unfolding sound_refusal
     no_islands t = rw t at h.islands.count
 
-    calls_of_lem : calls_of ts fs cs ps labels r.islands ≡ cond (all_sound f) (run_calls (second bs) f) []
+    calls_of_lem : calls_of ts fs cs ps labels (islands_in r) ≡ cond (all_sound f) (run_calls (second bs) f) []
     unfolding calls_of
     calls_of_lem = rw (h.decoded.types, h.decoded.flags, h.decoded.ends, h.decoded.counts) (by_cases (all_sound f)
         (λ t. rw (t, sound-labels t, sound-islands t) (calls_are bs))
         (λ t. rw (t, no_islands t)))
 
-    room_for : (tt : List ℕ) → 3 * (count_m bs + count_j bs) ≤ length tt → Room (added_by (calls_of ts fs cs ps labels r.islands)) tt none
+    room_for : (tt : List ℕ) → 3 * (count_m bs + count_j bs) ≤ length tt → Room (added_by (calls_of ts fs cs ps labels (islands_in r))) tt none
     unfolding turns_of takes_of
     room_for tt l = rw calls_of_lem (by_cases (all_sound f)
         (λ t. rw t (run_room bs (file_accepted bs e t) tt l))
         (λ t. rw t (record { places = omega arith; count = omega arith })))
 
-    all_accepted : (i : ℕ) → i < r.islands → fresh_refusal fs (counts_among cs (members labels i)) (ends_among cs ps (members labels i)) ≡ 0
+    all_accepted : (i : ℕ) → i < (islands_in r) → fresh_refusal fs (counts_among cs (members labels i)) (ends_among cs ps (members labels i)) ≡ 0
     all_accepted i l = by_cases (all_sound f)
         (λ t. rw (h.decoded.flags, h.decoded.ends, h.decoded.counts, sound-labels t) (updates_accepted bs (file_accepted bs e t) i (omega (arith, sound-islands t))))
         (λ t. absurd (omega (arith, no_islands t)))
@@ -154,40 +156,37 @@ module _ (bs : List ℕ) (e : asked (file_questions bs) ≡ 0) where
     labels_long a b = length_paste_head mi (count_m bs) ji (count_j bs) a b
 
     -- the tables of labels, cut as the code cuts them
-    fronts : (m : ℕ) → m ≡ count_m bs → take m mi ++ take (length es) ji ≡ labels
-    fronts m em = rw (em, ap length h.decoded.enabled ∙ live_in_long bs)
-
-    pub joints_inside : count_j bs ≤ length ji → length es ≤ length ji
-    joints_inside l = omega (arith, ap length h.decoded.enabled ∙ live_in_long bs)
+    fronts : (m j : ℕ) → m ≡ count_m bs → j ≡ count_j bs → take m mi ++ take j ji ≡ labels
+    fronts m j em ej = rw (em, ej)
 
     flags_long : length fs ≡ count_b bs
     flags_long = ap length h.decoded.flags ∙ length-map (types_in bs) flag_of ∙ types_long bs e
 
     module _ (is0 : IslandTables) (tt ip ic n0 : List ℕ) (t u : Tables) (pc : List ℕ) (q : RoomySized bs is0 tt ip ic n0 t pc) (same : SameLengths t u)
         (a : count_m bs ≤ length mi) (b : count_j bs ≤ length ji) where
-      prepared : Prepared r.islands fs cs ps labels ns ip ic u pc
+      prepared : Prepared (islands_in r) fs cs ps labels ns ip ic u pc
       prepared =
           let l = labels_long a b in
           let w = fitted_with (count_b bs) (count_m bs + count_j bs) (entries_for (second bs) (count_m bs) (count_j bs)) t q.tables in
           record {
-            labels_are = labels_sortable bs e is is' r.refusal r.islands h.islands;
+            labels_are = labels_sortable bs e is is' (refused_by r) (islands_in r) h.islands;
             numbers_are = h.numbers;
-            collectable = rw (h.decoded.ends, h.decoded.counts, h.numbers) (collectable r.islands labels l u.body_constraints ip ic (omega (arith, w.1.1.1.0, same.body_constraints)) q.island_pairs q.island_counts);
+            collectable = rw (h.decoded.ends, h.decoded.counts, h.numbers) (collectable (islands_in r) labels l u.body_constraints ip ic (omega (arith, w.1.1.1.0, same.body_constraints)) q.island_pairs q.island_counts);
             accepted = all_accepted;
             ranked = λ i k. ranked cs ps (members labels i);
             tables = rw (flags_long, l) (room_kept (count_b bs) (count_m bs + count_j bs) (count_m bs + count_j bs) (entries_for (second bs) (count_m bs) (count_j bs)) (length ip) t u (omega arith) (omega (arith, q.island_pairs, entries-few)) same q.tables);
             plan_counts_room = omega (arith, q.island_counts, q.plan_counts);
           }
 
-      pub prepared_cut : (m : ℕ) → m ≡ count_m bs → Prepared r.islands fs cs ps (take m mi ++ take (length es) ji) ns ip ic u pc
-      prepared_cut m em = rw (fronts m em) prepared
+      pub prepared_cut : (m j : ℕ) → m ≡ count_m bs → j ≡ count_j bs → Prepared (islands_in r) fs cs ps (take m mi ++ take j ji) ns ip ic u pc
+      prepared_cut m j em ej = rw (fronts m j em ej) prepared
 
-    module _ (m : ℕ) (em : m ≡ count_m bs) where
+    module _ (m j : ℕ) (em : m ≡ count_m bs) (ej : j ≡ count_j bs) where
       abbrev cut : List ℕ
-      cut = take m mi ++ take (length es) ji
+      cut = take m mi ++ take j ji
 
-      pub room_cut : (tt : List ℕ) → 3 * (count_m bs + count_j bs) ≤ length tt → Room (added_by (calls_of ts fs cs ps cut r.islands)) tt none
-      room_cut tt l = rw (fronts m em) (room_for tt l)
+      pub room_cut : (tt : List ℕ) → 3 * (count_m bs + count_j bs) ≤ length tt → Room (added_by (calls_of ts fs cs ps cut (islands_in r))) tt none
+      room_cut tt l = rw (fronts m j em ej) (room_for tt l)
 
     -- questions 3 and 5 of a bind are the file's
     pub types_are_known : Known ts
@@ -195,23 +194,23 @@ module _ (bs : List ℕ) (e : asked (file_questions bs) ≡ 0) where
 
     -- ---- the answer
 
-    module _ (m : ℕ) (em : m ≡ count_m bs) (tt tt' : List ℕ) (tally : Tally) (answer : Answer)
-        (added : Appended (added_by (calls_of ts fs cs ps (take m mi ++ take (length es) ji) r.islands)) tt none tt' tally) (told : AnswerOf r tally answer) where
+    module _ (m j : ℕ) (em : m ≡ count_m bs) (ej : j ≡ count_j bs) (tt tt' : List ℕ) (tally : Tally) (answer : Result Report Refusal)
+        (added : Appended (added_by (calls_of ts fs cs ps (take m mi ++ take j ji) (islands_in r))) tt none tt' tally) (told : AnswerOf r tally answer) where
       done : Appended (added_by (cond (all_sound f) (run_calls (second bs) f) [])) tt none tt' tally
-      done = rw (fronts m em, calls_of_lem) at added
+      done = rw (fronts m j em ej, calls_of_lem) at added
 
-      refusal_is : r.refusal ≡ sound_refusal bs
+      refusal_is : (refused_by r) ≡ sound_refusal bs
       refusal_is = h.islands.refusal
 
       sound_ran : all_sound f ≡ true → RanSized bs is tt is' tt' answer
       unfolding sound_refusal run_of
       sound_ran t =
           let d : Appended (added_by (run_calls (second bs) f)) tt none tt' tally = rw t at done in
-          let z : r.refusal ≡ 0 = rw t at refusal_is in
+          let z : (refused_by r) ≡ 0 = rw t at refusal_is in
           let q : run_refusal bs true ≡ 0 = rw t at run_refusal_lem in
           let p : tally.place / 3 ≡ length (turns_of (run_calls (second bs) f)) = omega (arith, d.place, turns_long (turns_of (run_calls (second bs) f))) in
           let k : tally.takes ≡ takes_of (run_calls (second bs) f) = omega (arith, d.takes) in
-          let rep : run_report answer ≡ record { islands = r.islands; turns = tally.place / 3; takes = tally.takes; degree = r.degree } = rw z at told.report in
+          let rep : run_report answer ≡ record { islands = (islands_in r); turns = tally.place / 3; takes = tally.takes; degree = (degree_in r) } = rw z at told.report in
           record {
             refusal = told.refusal ∙ refusal_is;
             refused = told.refused ∙ rw refusal_is;
@@ -224,7 +223,7 @@ module _ (bs : List ℕ) (e : asked (file_questions bs) ≡ 0) where
       unfolding sound_refusal run_of turns_of
       refused_ran t =
           let d : Appended (added_by []) tt none tt' tally = rw t at done in
-          let z : r.refusal ≡ 7 = rw t at refusal_is in
+          let z : (refused_by r) ≡ 7 = rw t at refusal_is in
           let q : run_refusal bs true ≡ 7 = rw t at run_refusal_lem in
           let rep : run_report answer ≡ record { islands = 0; turns = 0; takes = 0; degree = 0 } = rw z at told.report in
           record {
