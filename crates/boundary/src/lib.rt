@@ -13,9 +13,10 @@ ghost use Rattle.plan_questions.specs.Plans.{tables_of};
 ghost use Rattle.boundary.specs.Exports.{Updates, Found, Locates, Took};
 
 use colored_bodies::BodyBinding;
-use frame::Frame;
 use frame::refusal::refusal_number;
+use frame::{Frame, Lists};
 use frame_file::Sizes;
+use island::IslandTables;
 use plan_questions::PlanTables;
 
 // The islands of a frame, and how many; answers the refusal or 0.
@@ -39,19 +40,23 @@ pub extern "C" fn engkarupi_islands(
         (island_tables_of parents.new sizes.new body_islands.new manifold_islands.new joint_islands.new)
         result island_count.new }
 {
-    let answer = island::build_with_joints(
+    let lists = Lists {
         types,
         manifolds,
-        joints,
+        joint_ends: joints,
+        joint_counts: &[],
         enabled,
+    };
+    let mut tables = IslandTables {
         parents,
         sizes,
         body_islands,
         manifold_islands,
         joint_islands,
-    );
-    *island_count = island::islands_of(answer);
-    island::refusal_of(answer)
+    };
+    let answer = island::build_with_joints(lists, &mut tables);
+    *island_count = answer.unwrap_or(0);
+    refusal_number(&answer)
 }
 
 // An update of a plan, and 1 if it changed; answers the refusal or 0.

@@ -5,7 +5,9 @@ ghost use Rattle.island.specs.Calls.{island_tables_of, rooms_of, multi_island_re
 ghost use Rattle.plan_questions.specs.Plans.{tables_of};
 ghost use Rattle.boundary.specs.Exports.{MultiUpdates, MultiLocates, TookAt};
 
-use frame::Frame;
+use frame::refusal::refusal_number;
+use frame::{Frame, Lists};
+use island::IslandTables;
 use multi_coloring::MultiColoring;
 use plan_questions::PlanTables;
 
@@ -31,20 +33,23 @@ pub extern "C" fn engkarupi_islands_multi(
         (island_tables_of parents.new sizes.new body_islands.new manifold_islands.new joint_islands.new)
         result island_count.new }
 {
-    let answer = island::build_with_multi_joints(
+    let lists = Lists {
         types,
         manifolds,
         joint_ends,
         joint_counts,
         enabled,
+    };
+    let mut tables = IslandTables {
         parents,
         sizes,
         body_islands,
         manifold_islands,
         joint_islands,
-    );
-    *island_count = island::islands_of(answer);
-    island::refusal_of(answer)
+    };
+    let answer = island::build_with_multi_joints(lists, &mut tables);
+    *island_count = answer.unwrap_or(0);
+    refusal_number(&answer)
 }
 
 // An update of a plan with counts, and 1 if it changed; answers the refusal or 0.

@@ -76,4 +76,4 @@ ample ts = record {
 }
 
 pub returns : goal.returns
-returns c = ran_alone _ (own c.args.turns.now) (ample c.args.turns.now) _ _ c.run.ensures
+returns c = ran_alone _ (own c.args.turns.now) (ample c.args.turns.now) _ _ c.run.ensures.ran
