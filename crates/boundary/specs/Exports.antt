@@ -16,9 +16,9 @@ use Rattle.multi_coloring.specs.declared.MultiColoring.{MultiColoring}
 use Rattle.multi_coloring.specs.Calls.{MultiUpdated, MultiLocated}
 use Rattle.answer_numbers.specs.Numbers.{plan_of_numbers, plan_numbers, multi_plan_of_numbers, multi_plan_numbers, position_numbers, handed_numbers, taken_numbers}
 use Rattle.run_answer.specs.declared.Report.{Report}
-use Rattle.run_answer.specs.declared.Answer.{Answer}
-use Rattle.run_answer.specs.Answers.{run_number, run_report}
-use Rattle.frame_run.specs.Calls.{Lent, Ran}
+use Rattle.run_answer.specs.Answers.{run_report}
+use Rattle.run_answer.specs.Lent.{Lent}
+use Rattle.frame_run.specs.Calls.{Ran}
 
 -- ---- updates and lookups
 
@@ -85,7 +85,7 @@ report_numbers r = r.islands ∷ r.turns ∷ r.takes ∷ r.degree ∷ []
 
 -- a run of the file bs on the tables l, which are left as m
 pub record Runs (bs : List ℕ) (l m : Lent) (number : ℕ) (report : List ℕ) : Type 0 where
-  pub answer : Answer
+  pub answer : Result Report Refusal
   pub ran : Ran bs l m answer
-  pub refusal : number ≡ run_number answer
+  pub refusal : number ≡ refused_by answer
   pub numbers : report ≡ report_numbers (run_report answer)

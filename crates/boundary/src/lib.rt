@@ -56,7 +56,7 @@ pub extern "C" fn engkarupi_islands(
     };
     let answer = island::build_with_joints(lists, &mut tables);
     *island_count = answer.unwrap_or(0);
-    frame::refusal::refusal_number(&answer)
+    refusal_number(&answer)
 }
 
 // An update of a plan, and 1 if it changed; answers the refusal or 0.

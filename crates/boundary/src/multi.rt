@@ -5,6 +5,7 @@ ghost use Rattle.island.specs.Calls.{island_tables_of, rooms_of, multi_island_re
 ghost use Rattle.plan_questions.specs.Plans.{tables_of};
 ghost use Rattle.boundary.specs.Exports.{MultiUpdates, MultiLocates, TookAt};
 
+use frame::refusal::refusal_number;
 use frame::{Frame, Lists};
 use island::IslandTables;
 use multi_coloring::MultiColoring;
@@ -48,7 +49,7 @@ pub extern "C" fn engkarupi_islands_multi(
     };
     let answer = island::build_with_multi_joints(lists, &mut tables);
     *island_count = answer.unwrap_or(0);
-    frame::refusal::refusal_number(&answer)
+    refusal_number(&answer)
 }
 
 // An update of a plan with counts, and 1 if it changed; answers the refusal or 0.

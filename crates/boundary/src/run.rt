@@ -1,8 +1,12 @@
 // The frame run for C and Rust.
 ghost use Rattle.island.specs.Calls.{island_tables_of};
 ghost use Rattle.plan_questions.specs.Plans.{tables_of};
-ghost use Rattle.frame_run.specs.Calls.{lent_of};
+ghost use Rattle.run_answer.specs.Lent.{lent_of};
 ghost use Rattle.boundary.specs.Exports.{Runs};
+
+use frame_tables::{ByIsland, FrameTables};
+use island::IslandTables;
+use plan_questions::PlanTables;
 
 // The run of a file, and its four numbers: islands, turns, takes, degree; answers the refusal or 0.
 #[unsafe(no_mangle)]
@@ -54,25 +58,28 @@ pub extern "C" fn engkarupi_run(
         color_stamps.new body_stamps.new color_offsets.new
         colored_constraints.new color_body_offsets.new color_bodies.new constraint_body_positions.new) plan_counts.new) result report.new }
 {
-    let answer = frame_run::run(
-        frame,
+    let mut islands = IslandTables {
         parents,
         sizes,
         body_islands,
         manifold_islands,
         joint_islands,
-        turns,
+    };
+    let mut tables = FrameTables {
         types,
         flags,
         pairs,
-        island_pairs,
         counts,
-        island_counts,
         enabled,
+    };
+    let mut by_island = ByIsland {
         numbers,
+        pairs: island_pairs,
+        counts: island_counts,
+    };
+    let mut plan = PlanTables {
         dynamic_bodies,
         endpoints,
-        plan_counts,
         body_offsets,
         body_constraints,
         scratch_offsets,
@@ -84,13 +91,22 @@ pub extern "C" fn engkarupi_run(
         color_body_offsets,
         color_bodies,
         constraint_body_positions,
+    };
+    let answer = frame_run::run(
+        frame,
+        &mut islands,
+        turns,
+        &mut tables,
+        &mut by_island,
+        &mut plan,
+        plan_counts,
     );
-    let carried = run_answer::report_of(answer);
+    let carried = answer.unwrap_or_default();
     *report = [
         carried.islands,
         carried.turns,
         carried.takes,
         carried.degree,
     ];
-    run_answer::refusal_of(answer)
+    frame::refusal::refusal_number(&answer)
 }

@@ -48,9 +48,10 @@ use Rattle.schedules.proofs.Samples.{samples_hold, logged_shared}
 use Rattle.group_run.specs.Appends.{added_by, marks_only}
 use Rattle.group_run.specs.ByValue.{ByValue, ByValueAt}
 use Rattle.group_run.proofs.ByValue.{marks_are_takes, counted_marks_are_takes, groups_by_marks}
-use Rattle.run_answer.specs.declared.Answer.{Answer}
+use Rattle.run_answer.specs.declared.Report.{Report}
 use Rattle.run_answer.specs.Answers.{run_report}
-use Rattle.frame_run.specs.Calls.{Lent, refusal_in, Ran}
+use Rattle.run_answer.specs.Lent.{Lent}
+use Rattle.frame_run.specs.Calls.{refusal_in, Ran}
 use Rattle.frame_run.specs.Condition.{Conditioned}
 use Rattle.frame_run.proofs.Condition.{conditioned}
 use Rattle.frame_run.proofs.Lanes.{run_apart}
@@ -86,7 +87,7 @@ islands_share_logged = logged_shared
 
 -- Of the code: any two turns of one island and group in the turn table that an accepted call of `run` leaves have no body that makes
 -- conflicts on both constraints.
-pub two_lanes_of_run : (bs : List ℕ) (l m : Lent) (r : Answer) (a b : ℕ) → refusal_in bs l ≡ 0 → Ran bs l m r → a < b → b < (run_report r).turns → ApartIn (decode bs) m.turns a b
+pub two_lanes_of_run : (bs : List ℕ) (l m : Lent) (r : Result Report Refusal) (a b : ℕ) → refusal_in bs l ≡ 0 → Ran bs l m r → a < b → b < (run_report r).turns → ApartIn (decode bs) m.turns a b
 two_lanes_of_run = run_apart
 
 -- ---- islands
@@ -176,7 +177,7 @@ pub condition_3 : (bs : List ℕ) (p : Plans) (o : Orders) → frame_refusal bs 
 condition_3 = condition3
 
 -- Of the code: of every accepted call of `run`, as its contract allows it, and every schedule of its frame.
-pub condition_3_of_run : (bs : List ℕ) (l m : Lent) (r : Answer) (p : Plans) (o : Orders) → refusal_in bs l ≡ 0 → Ran bs l m r → Schedule (second bs) (decode bs) p o → Conditioned bs l m r p o
+pub condition_3_of_run : (bs : List ℕ) (l m : Lent) (r : Result Report Refusal) (p : Plans) (o : Orders) → refusal_in bs l ≡ 0 → Ran bs l m r → Schedule (second bs) (decode bs) p o → Conditioned bs l m r p o
 condition_3_of_run = conditioned
 
 -- What takes and D are counted over: a constraint has an island exactly if it touches a dynamic body.

@@ -14,6 +14,7 @@ ghost use Rattle.frame_parts.specs.Parts.{Standing, standing_refusal, Countable}
 
 use frame::{Lists, Refusal};
 use island::IslandTables;
+use island_numbers::IslandLabels;
 
 // The counts of the joints, behind the manifolds'; none if the constraints are pairs.
 fn joint_counts<'a>(counts: &'a [u8], manifolds: usize) -> &'a [u8]
@@ -80,9 +81,12 @@ pub fn sort(
     requires sortable { Sortable (manifolds + joints) (take (manifolds + joints) keys.old) scratch_offsets.old offsets.old numbers.old }
     ensures { numbers.new ≡ by_island islands (take manifolds tables.now.manifold_islands.now ++ take joints tables.now.joint_islands.now) }
 {
+    let labels = IslandLabels {
+        manifolds: &tables.manifold_islands[..manifolds],
+        joints: &tables.joint_islands[..joints],
+    };
     island_numbers::sort(
-        &tables.manifold_islands[..manifolds],
-        &tables.joint_islands[..joints],
+        labels,
         islands,
         &mut keys[..manifolds + joints],
         scratch_offsets,

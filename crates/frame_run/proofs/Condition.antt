@@ -6,7 +6,8 @@ use Rattle.frame.specs.Files.{decode, file_questions, frame_refusal}
 use Rattle.frame.proofs.Questions.{passed, asked-append, zero-cond}
 use Rattle.schedules.proofs.Condition3.{condition3}
 use Rattle.frame_tables.specs.Filled.{sound_refusal}
-use Rattle.frame_run.specs.Calls.{Lent, roomy_in, refusal_in}
+use Rattle.run_answer.specs.Lent.{Lent}
+use Rattle.frame_run.specs.Calls.{roomy_in, refusal_in}
 use Rattle.frame_run.specs.Condition.{Claim}
 use Rattle.frame_run.proofs.Runs.{all_asked}
 

@@ -1,25 +1,28 @@
 -- What the entry adds to a run on tables of the frame's sizes: the first of questions 1 to 6 that gets a "no" is the run's refusal and
 -- changes nothing; otherwise the tables have room, and the run's answer is that of the tables cut to size.
-use Rattle.std.proofs.Common.{ℕ, ◌+◌, ◌*◌, ◌≤◌, ◌≡◌, refl, sym, ap, ◌∙◌, Bool, true, false, cond, List, [], ◌∷◌, ◌++◌, arith, leb, eqb, length, take, drop, length-take-le, leb-true, ne_eqb}
+use Rattle.std.proofs.Common.{ℕ, ◌+◌, ◌*◌, ◌≤◌, ◌≡◌, refl, sym, ap, ◌∙◌, Result, Ok, Err, Bool, true, false, cond, List, [], ◌∷◌, ◌++◌, arith, leb, eqb, length, take, drop, length-take-le, leb-true, ne_eqb}
 use Rattle.std.proofs.Math.Seq.{length_front}
 use Rattle.lists.specs.Basics.{all}
 use Rattle.lists.proofs.Laws.{by_cases, and_left, and_right, no_length}
 use Rattle.frame.specs.Frames.{all_sound}
 use Rattle.frame.specs.Questions.{Question, asked}
 use Rattle.frame.specs.Files.{second, count_b, count_m, count_j, joint_ends_in, decode, file_questions}
-use Rattle.frame.specs.Decodes.{all_counts}
+use Rattle.frame.specs.Decodes.{all_counts, Decodable}
+use Rattle.frame.specs.declared.refusal.Refusal.{Refusal}
+use Rattle.frame.specs.Refusals.{number_of}
+use Rattle.frame.proofs.Answered.{numbered}
 use Rattle.island.specs.Calls.{SetsAfter, labels_after, Built}
 use Rattle.plan_questions.specs.Plans as plans
 use Rattle.plan_questions.proofs.Rooms.{Fitted, fitted, fitted-all}
 use Rattle.schedules.specs.Runs.{refused, run_of}
 use Rattle.island_run.proofs.Rooms.{SameLengths}
 use Rattle.frame_tables.specs.Filled.{sound_refusal}
-use Rattle.run_answer.specs.declared.Answer.{Answer}
 use Rattle.run_answer.specs.declared.Asked.{Asked}
-use Rattle.run_answer.specs.Answers.{Asks, entries_for, counts_room}
-use Rattle.run_answer.specs.declared.Answer.TheVariants as answer
-use Rattle.frame_run.specs.Calls.{Lent, roomy_for, roomy_in, refusal_in, Worked, WorkedCounts, Ran}
-use Rattle.frame_run.specs.Sized.{RoomySized, RanSized}
+use Rattle.run_answer.specs.declared.Report.{Report}
+use Rattle.run_answer.specs.Answers.{Asks}
+use Rattle.run_answer.specs.Lent.{Lent, roomy_for, entries_for, counts_room}
+use Rattle.frame_run.specs.Calls.{roomy_in, refusal_in, Worked, WorkedCounts, Ran}
+use Rattle.frame_run.specs.Sized.{Cuttable, WornCounts, RoomySized, RanSized}
 use Rattle.frame_run.proofs.Runs.{all_asked, entries-few}
 use Rattle.frame.proofs.Questions.{passed, zero-cond}
 use Rattle.frame.proofs.Files.{file_sized, file-ends, all_counts-first, all_counts_long}
@@ -39,11 +42,6 @@ asked-most n (q ∷ qs) h = by_cases q.yes
     (λ t. rw t (asked-most n qs (and_right (leb q.number n) (all (λ x. leb x.number n) qs) h)))
     (λ t. rw t (leb-true q.number n (and_left (leb q.number n) (all (λ x. leb x.number n) qs) h)))
 
--- a table of counts keeps its length, and its content where the constraints have none
-pub record WornCounts (counted : Bool) (old new : List ℕ) : Type 0 where
-  pub pairs : counted ≡ false → new ≡ old
-  pub long : length new ≡ length old
-
 -- the workspace keeps its lengths
 pub record Worn (counted : Bool) (l m : Lent) : Type 0 where
   pub types : length m.types ≡ length l.types
@@ -58,19 +56,17 @@ pub record Worn (counted : Bool) (l m : Lent) : Type 0 where
   pub plan_counts : WornCounts counted l.plan_counts m.plan_counts
 
 -- a table of counts, cut to n places: so many as the constraints have, none where they are pairs
-pub counts_fit : {n m k : ℕ} → n ≡ m → m ≤ k → n ≤ k
-counts_fit e h = omega arith
-
-pub counts-cut : {n m k : ℕ} (x : List ℕ) → n ≡ m → m ≤ length x → m ≡ k → length (take n x) ≡ k
-counts-cut {n} x e h f = length-take-le n x (omega arith) ∙ e ∙ f
-
-pub counts_worn : (bs : List ℕ) (n : ℕ) (x y : List ℕ) → n ≡ length (all_counts bs) → length y ≡ length (take n x) → WornCounts (second bs) x (y ++ drop n x)
-counts_worn bs n x y e l = record { pairs = λ v. whole (e ∙ ap length (all_counts-first bs v)); long = length_front x y n l }
+pub counts_worn : (counted : Bool) (m j n : ℕ) (x y : List ℕ) → n ≡ counts_room counted m j → length y ≡ length (take n x) → WornCounts counted x (y ++ drop n x)
+counts_worn counted m j n x y e l = record { pairs = λ v. whole (e ∙ ap (λ (b : Bool). counts_room b m j) v); long = length_front x y n l }
   where
     whole : n ≡ 0 → y ++ drop n x ≡ x
     whole z =
         let none : y ≡ [] = no_length y (l ∙ ap (λ (m : ℕ). length (take m x)) z) in
         ap (λ (m : ℕ). y ++ drop m x) z ∙ ap (λ (r : List ℕ). r ++ x) none
+
+-- the same of a table that is split at place n
+pub counts_split : (bs : List ℕ) (v : Bool) (m j n : ℕ) (x y z : List ℕ) → v ≡ second bs → n ≡ counts_room v m j → length y ≡ length (take n x) → z ≡ drop n x → WornCounts (second bs) x (y ++ z)
+counts_split bs v m j n x y z s e l d = rw (← s, d) (counts_worn v m j n x y e l)
 
 module _ (bs : List ℕ) (l : Lent) where
   abbrev k : ℕ
@@ -82,7 +78,13 @@ module _ (bs : List ℕ) (l : Lent) where
   kept_counts : (x : List ℕ) → WorkedCounts (second bs) k x x
   kept_counts x = record { pairs = λ v. refl; worked = kept x }
 
-  module _ (n : ℕ) (e : k ≡ n) (nz : n ≡ 0 → ⊥) (ns : n ≡ 7 → ⊥) where
+  module _ (r : Refusal) (e : k ≡ number_of r) (ns : number_of r ≡ 7 → ⊥) where
+    abbrev n : ℕ
+    n = number_of r
+
+    nz : n ≡ 0 → ⊥
+    nz = numbered r
+
     none_run : run_of bs (roomy_in bs l) ≡ refused n
     unfolding run_of
     none_run = rw (e, ne_eqb n 0 nz)
@@ -107,7 +109,7 @@ module _ (bs : List ℕ) (l : Lent) where
     }
 
     -- nothing is changed
-    pub refused_ran : Ran bs l l (answer.Refused n)
+    pub refused_ran : Ran bs l l (Err r)
     refused_ran = record {
       refusal = sym e;
       refused = rw (e, ne_eqb n 0 nz);
@@ -166,9 +168,6 @@ module _ (bs : List ℕ) (l : Lent) where
         (λ t. omega (arith, s, (roomless nz t).1))
         (λ t. omega (arith, s, unreadable t, asked-most 5 (file_questions bs) refl))
 
-    pub stopped : (n ≡ 0 → ⊥) → Ran bs l l (answer.Refused n)
-    stopped nz = refused_ran n (refusal_is nz) nz (not-seven nz)
-
   -- ---- questions 1 to 6 are passed
 
   module _ (q : asked (file_questions bs) ≡ 0) (r : roomy_in bs l ≡ true) where
@@ -226,7 +225,7 @@ module _ (bs : List ℕ) (l : Lent) where
     worked_counts : (x y : List ℕ) → WornCounts (second bs) x y → WorkedCounts (second bs) k x y
     worked_counts x y w = record { pairs = w.pairs; worked = worked x y w.long }
 
-    pub sized_ran : (m : Lent) (a : Answer) → RanSized bs l.islands l.turns m.islands m.turns a → Worn (second bs) l m → Ran bs l m a
+    pub sized_ran : (m : Lent) (a : Result Report Refusal) → RanSized bs l.islands l.turns m.islands m.turns a → Worn (second bs) l m → Ran bs l m a
     sized_ran m a h s = record {
       refusal = h.refusal ∙ sym seven-left;
       refused = rw seven-left h.refused;
@@ -257,49 +256,29 @@ module _ (bs : List ℕ) (l : Lent) where
       plan_counts = worked_counts _ _ s.plan_counts;
     }
 
--- what the code hands on once questions 1 to 6 are passed: the file's sizes, and a workspace that is long enough to be cut to them
-pub record Cuttable (bs : List ℕ) (l : Lent) (a : Asked) : Type 0 where
-  pub file : asked (file_questions bs) ≡ 0
-  pub room : roomy_in bs l ≡ true
-  pub bodies : a.bodies ≡ count_b bs
-  pub manifolds : a.manifolds ≡ count_m bs
-  pub joints : a.joints ≡ count_j bs
-  pub ends : 2 * a.manifolds + a.joint_ends ≡ 2 * count_m bs + length (joint_ends_in bs)
-  pub counted : counts_room a.counted a.manifolds a.joints ≡ length (all_counts bs)
-  pub few : (a.manifolds ≤ 4096) × (a.joints ≤ 4096) × (a.joint_ends ≤ 16384)
-  pub types : a.bodies ≤ length l.types
-  pub flags : a.bodies ≤ length l.flags
-  pub pairs : 2 * a.manifolds + a.joint_ends ≤ length l.pairs
-  pub island_pairs : 2 * a.manifolds + a.joint_ends ≤ length l.island_pairs
-  pub counts : counts_room a.counted a.manifolds a.joints ≤ length l.counts
-  pub island_counts : counts_room a.counted a.manifolds a.joints ≤ length l.island_counts
-  pub plan_counts : counts_room a.counted a.manifolds a.joints ≤ length l.plan_counts
-  pub enabled : a.joints ≤ length l.enabled
-  pub numbers : a.manifolds + a.joints ≤ length l.numbers
-
-module _ (bs : List ℕ) (l : Lent) (a : Asked) (h : Asks bs (λ v b m j. roomy_for v b m j l) a) where
-  first : a.refusal ≡ cond (eqb (asked (file_questions bs)) 0) (cond (roomy_in bs l) 0 6) (asked (file_questions bs))
+module _ (bs : List ℕ) (l : Lent) where
+  pub stopped_run : (r : Refusal) → Asks bs (λ v b m j. roomy_for v b m j l) (Err r) → Ran bs l l (Err r)
   unfolding roomy_in
-  first = h.refusal
+  stopped_run r h = refused_ran bs l r (refusal_is bs l (number_of r) h.refusal (numbered r)) (not-seven bs l (number_of r) h.refusal (numbered r))
 
-  pub stopped_run : (a.refusal ≡ 0 → ⊥) → Ran bs l l (answer.Refused a.refusal)
-  stopped_run = stopped bs l a.refusal first
-
-  pub cuttable : a.refusal ≡ 0 → Cuttable bs l a
-  cuttable z =
-      let q = file_passed bs l a.refusal first z in
-      let r = room_passed bs l a.refusal first z in
+  pub cuttable : (a : Asked) → Asks bs (λ v b m j. roomy_for v b m j l) (Ok a) → Cuttable bs l a
+  unfolding roomy_in
+  cuttable a h =
+      let q = file_passed bs l 0 h.refusal refl in
+      let r = room_passed bs l 0 h.refusal refl in
       let w = wanted_fit bs l q r in
-      let b = h.bodies q in
-      let m = h.manifolds q in
-      let j = h.joints q in
-      let n = h.joint_ends q in
+      let v : a.counted ≡ second bs = ap (λ (x : Asked). x.counted) h.sizes in
+      let b : a.bodies ≡ count_b bs = ap (λ (x : Asked). x.bodies) h.sizes in
+      let m : a.manifolds ≡ count_m bs = ap (λ (x : Asked). x.manifolds) h.sizes in
+      let j : a.joints ≡ count_j bs = ap (λ (x : Asked). x.joints) h.sizes in
+      let n : a.joint_ends ≡ length (joint_ends_in bs) = ap (λ (x : Asked). x.joint_ends) h.sizes in
       let few = entries-few bs q in
       let size = file_sized bs q in
-      let c : counts_room a.counted a.manifolds a.joints ≡ counts_room (second bs) (count_m bs) (count_j bs) = rw (h.counted q, m, j) refl in
+      let c : counts_room a.counted a.manifolds a.joints ≡ counts_room (second bs) (count_m bs) (count_j bs) = rw (v, m, j) refl in
       record {
         file = q;
         room = r;
+        version = v;
         bodies = b;
         manifolds = m;
         joints = j;
@@ -316,3 +295,30 @@ module _ (bs : List ℕ) (l : Lent) (a : Asked) (h : Asks bs (λ v b m j. roomy_
         enabled = omega (arith, w.1.1.1.1.1.1.1.1.1.1.1.1.1.0, j);
         numbers = omega (arith, w.1.1.1.1.1.1.1.1.1.1.1.1.1.1.0, m, j);
       }
+
+  -- the tables cut to the sizes have room
+  module _ {a : Asked} (s : Cuttable bs l a) where
+    abbrev counted : ℕ
+    counted = counts_room a.counted a.manifolds a.joints
+
+    counts_cut : (x : List ℕ) → counted ≤ length x → length (take counted x) ≡ length (all_counts bs)
+    counts_cut x h = length-take-le counted x h ∙ s.counted
+
+    pub cut_decodable : Decodable bs a.manifolds (take a.bodies l.types) (take a.bodies l.flags) (take (2 * a.manifolds + a.joint_ends) l.pairs) (take counted l.counts) (take a.joints l.enabled)
+    cut_decodable = record {
+      file = s.file;
+      manifolds = s.manifolds;
+      types = length-take-le a.bodies l.types s.types ∙ s.bodies;
+      flags = length-take-le a.bodies l.flags s.flags ∙ s.bodies;
+      ends = length-take-le (2 * a.manifolds + a.joint_ends) l.pairs s.pairs ∙ s.ends;
+      counts = counts_cut l.counts s.counts;
+      enabled = length-take-le a.joints l.enabled s.enabled ∙ s.joints;
+    }
+
+    pub cut_roomy : RoomySized bs l.islands l.turns (take (2 * a.manifolds + a.joint_ends) l.island_pairs) (take counted l.island_counts) (take (a.manifolds + a.joints) l.numbers) l.plan (take counted l.plan_counts)
+    cut_roomy =
+        spacious bs l s.file s.room _ _ _ _
+        (length-take-le (2 * a.manifolds + a.joint_ends) l.island_pairs s.island_pairs ∙ s.ends)
+        (counts_cut l.island_counts s.island_counts)
+        (omega (arith, length-take-le (a.manifolds + a.joints) l.numbers s.numbers, s.manifolds, s.joints))
+        (counts_cut l.plan_counts s.plan_counts)

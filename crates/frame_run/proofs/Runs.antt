@@ -1,18 +1,20 @@
 -- Once the tables are filled, the islands' calls are the run's, or none after 7. Their endpoints and counts can be collected, and they fit the
 -- turn table by the theorem: a turn for each constraint that touches a dynamic body.
-use Rattle.std.proofs.Common.{ℕ, ◌+◌, ◌*◌, ◌/◌, ◌≤◌, ◌<◌, ◌≡◌, refl, sym, ap, ◌∙◌, Bool, true, false, cond, List, [], ◌∷◌, ◌++◌, map, arith, ltb, eqb, length, take, lt-ltb, eqb-true, Result}
+use Rattle.std.proofs.Common.{ℕ, ◌+◌, ◌*◌, ◌/◌, ◌≤◌, ◌<◌, ◌≡◌, refl, sym, ap, ◌∙◌, Result, Bool, true, false, cond, List, [], ◌∷◌, ◌++◌, map, arith, ltb, eqb, length, take, lt-ltb, eqb-true}
 use Rattle.std.proofs.Math.ListN.{length-map}
 use Rattle.std.proofs.Math.Seq.{length_paste_head}
 use Rattle.std.proofs.lemmas.Bool.{eqb-false}
 use Rattle.lists.specs.Basics.{join_map}
 use Rattle.lists.proofs.Laws.{by_cases}
 use Rattle.lists.proofs.Puts.{put_first}
+use Rattle.frame.specs.declared.refusal.Refusal.{Refusal}
+use Rattle.frame.specs.Refusals.{refused_by}
 use Rattle.frame.specs.Frames.{Frame, constraints, all_sound, flag_of}
 use Rattle.frame.specs.Questions.{question, asked}
 use Rattle.frame.specs.Files.{second, count_b, count_m, count_j, types_in, joint_ends_in, decode, file_questions}
 use Rattle.frame.specs.Decodes.{all_counts}
 use Rattle.frame.proofs.Questions.{asked-append}
-use Rattle.frame.proofs.Files.{file_sized, file-types, types_long, live_in_long, file-ends, ends-first_long, all_counts-first, all_counts_long}
+use Rattle.frame.proofs.Files.{file_sized, file-types, types_long, file-ends, ends-first_long, all_counts-first, all_counts_long}
 use Rattle.connected_sets.specs.Islands.{island_count, label}
 use Rattle.island.specs.Calls.{IslandTables}
 use Rattle.island.proofs.Built.{built_as}
@@ -29,14 +31,12 @@ use Rattle.group_run.specs.Appends.{added_by}
 use Rattle.one_island.specs.Island.{fresh_refusal}
 use Rattle.island_run.specs.Islands.{calls_of, Prepared}
 use Rattle.island_run.proofs.Rooms.{SameLengths, room_kept}
-use Rattle.frame.specs.declared.refusal.Refusal.{Refusal}
-use Rattle.frame.specs.Refusals.{refused_by}
 use Rattle.frame_tables.specs.declared.Filling.{Filling}
-use Rattle.frame_tables.specs.Filled.{islands_in, degree_in, labels_in, sound_refusal, Fills, Roomy}
+use Rattle.frame_tables.specs.Filled.{labels_in, sound_refusal, islands_in, degree_in, Fills, Roomy}
 use Rattle.frame_tables.proofs.Tables.{some_counts, file_accepted, labels_are, labels_sortable}
 use Rattle.run_answer.specs.declared.Report.{Report}
-use Rattle.run_answer.specs.declared.Answer.{Answer}
-use Rattle.run_answer.specs.Answers.{run_report, entries_for, AnswerOf}
+use Rattle.run_answer.specs.Answers.{run_report, AnswerOf}
+use Rattle.run_answer.specs.Lent.{entries_for}
 use Rattle.frame_run.specs.Sized.{RoomySized, RanSized}
 use Rattle.frame_run.proofs.Ends.{all_ends, ends_long, pairs_long, counts_whole, all-known}
 use Rattle.frame_run.proofs.Frames.{turns_long, ranked, calls_are, updates_accepted, run_room}
@@ -127,11 +127,11 @@ module _ (bs : List ℕ) (e : asked (file_questions bs) ≡ 0) where
     sound-labels : all_sound f ≡ true → labels ≡ map (label f) (constraints f)
     sound-labels t = labels_are bs e is is' (refused_by r) (islands_in r) h.islands ∙ rw t
 
-    sound-islands : all_sound f ≡ true → islands_in r ≡ island_count f
+    sound-islands : all_sound f ≡ true → (islands_in r) ≡ island_count f
     unfolding sound_refusal
     sound-islands t = rw t at h.islands.count
 
-    no_islands : all_sound f ≡ false → islands_in r ≡ 0
+    no_islands : all_sound f ≡ false → (islands_in r) ≡ 0
     unfolding sound_refusal
     no_islands t = rw t at h.islands.count
 
@@ -147,7 +147,7 @@ module _ (bs : List ℕ) (e : asked (file_questions bs) ≡ 0) where
         (λ t. rw t (run_room bs (file_accepted bs e t) tt l))
         (λ t. rw t (record { places = omega arith; count = omega arith })))
 
-    all_accepted : (i : ℕ) → i < islands_in r → fresh_refusal fs (counts_among cs (members labels i)) (ends_among cs ps (members labels i)) ≡ 0
+    all_accepted : (i : ℕ) → i < (islands_in r) → fresh_refusal fs (counts_among cs (members labels i)) (ends_among cs ps (members labels i)) ≡ 0
     all_accepted i l = by_cases (all_sound f)
         (λ t. rw (h.decoded.flags, h.decoded.ends, h.decoded.counts, sound-labels t) (updates_accepted bs (file_accepted bs e t) i (omega (arith, sound-islands t))))
         (λ t. absurd (omega (arith, no_islands t)))
@@ -156,11 +156,8 @@ module _ (bs : List ℕ) (e : asked (file_questions bs) ≡ 0) where
     labels_long a b = length_paste_head mi (count_m bs) ji (count_j bs) a b
 
     -- the tables of labels, cut as the code cuts them
-    fronts : (m : ℕ) → m ≡ count_m bs → take m mi ++ take (length es) ji ≡ labels
-    fronts m em = rw (em, ap length h.decoded.enabled ∙ live_in_long bs)
-
-    pub joints_inside : count_j bs ≤ length ji → length es ≤ length ji
-    joints_inside l = omega (arith, ap length h.decoded.enabled ∙ live_in_long bs)
+    fronts : (m j : ℕ) → m ≡ count_m bs → j ≡ count_j bs → take m mi ++ take j ji ≡ labels
+    fronts m j em ej = rw (em, ej)
 
     flags_long : length fs ≡ count_b bs
     flags_long = ap length h.decoded.flags ∙ length-map (types_in bs) flag_of ∙ types_long bs e
@@ -181,15 +178,15 @@ module _ (bs : List ℕ) (e : asked (file_questions bs) ≡ 0) where
             plan_counts_room = omega (arith, q.island_counts, q.plan_counts);
           }
 
-      pub prepared_cut : (m : ℕ) → m ≡ count_m bs → (i : ℕ) → i ≡ islands_in r → Prepared i fs cs ps (take m mi ++ take (length es) ji) ns ip ic u pc
-      prepared_cut m em i ei = rw (fronts m em, ei) prepared
+      pub prepared_cut : (m j : ℕ) → m ≡ count_m bs → j ≡ count_j bs → Prepared (islands_in r) fs cs ps (take m mi ++ take j ji) ns ip ic u pc
+      prepared_cut m j em ej = rw (fronts m j em ej) prepared
 
-    module _ (m : ℕ) (em : m ≡ count_m bs) where
+    module _ (m j : ℕ) (em : m ≡ count_m bs) (ej : j ≡ count_j bs) where
       abbrev cut : List ℕ
-      cut = take m mi ++ take (length es) ji
+      cut = take m mi ++ take j ji
 
-      pub room_cut : (i : ℕ) → i ≡ islands_in r → (tt : List ℕ) → 3 * (count_m bs + count_j bs) ≤ length tt → Room (added_by (calls_of ts fs cs ps cut i)) tt none
-      room_cut i ei tt l = rw (fronts m em, ei) (room_for tt l)
+      pub room_cut : (tt : List ℕ) → 3 * (count_m bs + count_j bs) ≤ length tt → Room (added_by (calls_of ts fs cs ps cut (islands_in r))) tt none
+      room_cut tt l = rw (fronts m j em ej) (room_for tt l)
 
     -- questions 3 and 5 of a bind are the file's
     pub types_are_known : Known ts
@@ -197,10 +194,10 @@ module _ (bs : List ℕ) (e : asked (file_questions bs) ≡ 0) where
 
     -- ---- the answer
 
-    module _ (m : ℕ) (em : m ≡ count_m bs) (i : ℕ) (ei : i ≡ islands_in r) (tt tt' : List ℕ) (tally : Tally) (answer : Answer)
-        (added : Appended (added_by (calls_of ts fs cs ps (take m mi ++ take (length es) ji) i)) tt none tt' tally) (told : AnswerOf r tally answer) where
+    module _ (m j : ℕ) (em : m ≡ count_m bs) (ej : j ≡ count_j bs) (tt tt' : List ℕ) (tally : Tally) (answer : Result Report Refusal)
+        (added : Appended (added_by (calls_of ts fs cs ps (take m mi ++ take j ji) (islands_in r))) tt none tt' tally) (told : AnswerOf r tally answer) where
       done : Appended (added_by (cond (all_sound f) (run_calls (second bs) f) [])) tt none tt' tally
-      done = rw (fronts m em, ei, calls_of_lem) at added
+      done = rw (fronts m j em ej, calls_of_lem) at added
 
       refusal_is : refused_by r ≡ sound_refusal bs
       refusal_is = h.islands.refusal

@@ -2,211 +2,157 @@
 // that the tables are filled (question 7), and each island in number order is colored and its groups taken.
 #![tactic(auto)]
 
+ghost use Rattle.std.specs.Prelude.{◌≡◌, ◌≤◌, ◌+◌, ◌*◌, ◌++◌, length, take};
 ghost use Rattle.frame.specs.Decodes.{Decodable};
-ghost use Rattle.island.specs.Calls.{island_tables_of};
-ghost use Rattle.plan_questions.specs.Plans.{tables_of};
-ghost use Rattle.run_answer.specs.Answers.{Asks};
-ghost use Rattle.frame_run.specs.Calls.{lent_of, roomy_for, Ran};
-ghost use Rattle.frame_run.specs.Sized.{RoomySized, RanSized};
+ghost use Rattle.frame_tables.specs.Filled.{islands_in};
+ghost use Rattle.frame_tables.specs.Lent.{SameFrame, SameByIsland};
+ghost use Rattle.island.specs.Lent as island_lent;
+ghost use Rattle.island_numbers.specs.Tables.{labels_of};
+ghost use Rattle.plan_questions.specs.Lent as plan_lent;
+ghost use Rattle.run_answer.specs.Lent.{lent_of, lent_in, counts_room};
+ghost use Rattle.frame_run.specs.Calls.{Ran};
+ghost use Rattle.frame_run.specs.Sized.{Cuttable, CutTo, WornCounts, RoomySized, RanSized};
 
+use frame::Refusal;
+use frame_tables::{ByIsland, Filling, FrameTables};
+use island::IslandTables;
+use island_numbers::IslandLabels;
+use island_run::FilledFrame;
 use plan_questions::PlanTables;
-use run_answer::{Answer, Asked};
+use run_answer::{Asked, Report};
 
-// The run of a file that passed questions 1 to 6, where `types`, `flags`, `pairs`, `counts`, `enabled` and `numbers` have its sizes,
-// and so have `island_pairs` and `island_counts`. After 7 there are no islands, so that nothing is taken.
-fn run_sized(
-    frame: &[u8],
-    manifolds: usize,
-    parents: &mut [u16],
-    sizes: &mut [u16],
-    body_islands: &mut [u16],
-    manifold_islands: &mut [u16],
-    joint_islands: &mut [u16],
-    turns: &mut [u16],
-    types: &mut [u8],
-    flags: &mut [u8],
-    pairs: &mut [u16],
-    island_pairs: &mut [u16],
-    counts: &mut [u8],
-    island_counts: &mut [u8],
-    enabled: &mut [u8],
-    numbers: &mut [u16],
-    dynamic_bodies: &mut [u8],
-    endpoints: &mut [u16],
-    plan_counts: &mut [u8],
-    body_offsets: &mut [u16],
-    body_constraints: &mut [u16],
-    scratch_offsets: &mut [u16],
-    constraint_colors: &mut [u16],
-    color_stamps: &mut [u16],
-    body_stamps: &mut [u16],
-    color_offsets: &mut [u16],
-    colored_constraints: &mut [u16],
-    color_body_offsets: &mut [u16],
-    color_bodies: &mut [u16],
-    constraint_body_positions: &mut [u16],
-) -> Answer
-    requires decodable { Decodable frame.now manifolds types.old flags.old pairs.old counts.old enabled.old }
-    requires roomy_sized { RoomySized frame.now (island_tables_of parents.old sizes.old body_islands.old manifold_islands.old joint_islands.old)
-        turns.old island_pairs.old island_counts.old numbers.old
-        (tables_of dynamic_bodies.old endpoints.old body_offsets.old
-        body_constraints.old scratch_offsets.old constraint_colors.old
-        color_stamps.old body_stamps.old color_offsets.old
-        colored_constraints.old color_body_offsets.old color_bodies.old constraint_body_positions.old) plan_counts.old }
-    ensures { RanSized frame.now
-        (island_tables_of parents.old sizes.old body_islands.old manifold_islands.old joint_islands.old) turns.old
-        (island_tables_of parents.new sizes.new body_islands.new manifold_islands.new joint_islands.new) turns.new result }
+// How many islands are run: none after 7, so that nothing is taken.
+fn count_of(filling: Result<Filling, Refusal>) -> u16
+    ensures { result ≡ islands_in filling }
 {
+    match filling {
+        Ok(filled) => filled.islands,
+        Err(_) => 0,
+    }
+}
+
+// The labels of so many manifolds and joints.
+fn labels_in<'a>(islands: &'a IslandTables<'_>, manifolds: usize, joints: usize) -> IslandLabels<'a>
+    requires { (manifolds ≤ length islands.now.manifold_islands.now) × (joints ≤ length islands.now.joint_islands.now) }
+    ensures { labels_of result ≡ take manifolds islands.now.manifold_islands.now ++ take joints islands.now.joint_islands.now }
+{
+    IslandLabels {
+        manifolds: &islands.manifold_islands[..manifolds],
+        joints: &islands.joint_islands[..joints],
+    }
+}
+
+// The run of a file that passed questions 1 to 6, on frame tables of its sizes: the tables of the constraints by island, and the plan's
+// counts, are cut to them.
+fn run_sized(
+    asked: Asked,
+    frame: &[u8],
+    islands: &mut IslandTables<'_>,
+    turns: &mut [u16],
+    tables: &mut FrameTables<'_>,
+    numbers: &mut [u16],
+    island_pairs: &mut [u16],
+    island_counts: &mut [u8],
+    plan: &mut PlanTables<'_>,
+    plan_counts: &mut [u8],
+) -> Result<Report, Refusal>
+    requires decodable { Decodable frame.now asked.manifolds tables.old.types.now tables.old.flags.now tables.old.pairs.now tables.old.counts.now
+        tables.old.enabled.now }
+    requires cut_to { CutTo frame.now asked numbers.old island_pairs.old island_counts.old plan_counts.old }
+    requires roomy_sized { RoomySized frame.now (island_lent.tables_in islands.old) turns.old (take (2 * asked.manifolds + asked.joint_ends) island_pairs.old)
+        (take (counts_room asked.counted asked.manifolds asked.joints) island_counts.old) (take (asked.manifolds + asked.joints) numbers.old)
+        (plan_lent.tables_in plan.old) (take (counts_room asked.counted asked.manifolds asked.joints) plan_counts.old) }
+    ensures ran { RanSized frame.now (island_lent.tables_in islands.old) turns.old (island_lent.tables_in islands.new) turns.new result }
+    ensures same_islands { island_lent.SameTables islands.old islands.new }
+    ensures same_frame { SameFrame tables.old tables.new }
+    ensures same_plan { plan_lent.SameTables plan.old plan.new }
+    ensures plan_lengths { plan_lent.lengths_of (plan_lent.tables_in plan.new) ≡ plan_lent.lengths_of (plan_lent.tables_in plan.old) }
+    ensures worn_islands { WornCounts asked.counted island_counts.old island_counts.new }
+    ensures worn_plan { WornCounts asked.counted plan_counts.old plan_counts.new }
+{
+    let constraints = asked.manifolds + asked.joints;
+    let entries = 2 * asked.manifolds + asked.joint_ends;
+    let counted = run_answer::counts_room(asked.counted, asked.manifolds, asked.joints);
     let filling = frame_tables::fill(
         frame,
-        manifolds,
-        parents,
-        sizes,
-        body_islands,
-        manifold_islands,
-        joint_islands,
-        types,
-        flags,
-        pairs,
-        counts,
-        enabled,
-        numbers,
-        constraint_colors,
-        scratch_offsets,
-        color_offsets,
-        body_stamps,
+        asked.manifolds,
+        islands,
+        tables,
+        &mut numbers[..constraints],
+        plan,
     );
-    let mut tables = PlanTables {
-        dynamic_bodies,
-        endpoints,
-        body_offsets,
-        body_constraints,
-        scratch_offsets,
-        constraint_colors,
-        color_stamps,
-        body_stamps,
-        color_offsets,
-        colored_constraints,
-        color_body_offsets,
-        color_bodies,
-        constraint_body_positions,
+    let seen = frame_tables::view_of(tables);
+    let filled = FilledFrame {
+        types: seen.types,
+        flags: seen.flags,
+        ends: seen.ends,
+        counts: seen.counts,
+        labels: labels_in(islands, asked.manifolds, asked.joints),
+        numbers: &numbers[..constraints],
     };
     let tally = island_run::run_islands(
-        filling.islands,
-        types,
-        flags,
-        pairs,
-        counts,
-        &manifold_islands[..manifolds],
-        &joint_islands[..enabled.len()],
-        numbers,
-        island_pairs,
-        island_counts,
-        plan_counts,
-        &mut tables,
+        count_of(filling),
+        filled,
+        &mut island_pairs[..entries],
+        &mut island_counts[..counted],
+        &mut plan_counts[..counted],
+        plan,
         turns,
     );
     run_answer::answer_of(filling, tally)
 }
 
-// The run of a file, once questions 1 to 6 are asked: a refusal changes nothing, and else the workspace is cut to the frame's sizes. Where
-// the constraints have no counts, the tables of counts are cut to nothing, and so stay as they were.
-fn run_asked(
+// The run of a file that passed questions 1 to 6: the frame's tables are cut to its sizes. Where the constraints have no counts, the tables of
+// counts are cut to nothing, and so stay as they were.
+fn run_cut(
     asked: Asked,
     frame: &[u8],
-    parents: &mut [u16],
-    sizes: &mut [u16],
-    body_islands: &mut [u16],
-    manifold_islands: &mut [u16],
-    joint_islands: &mut [u16],
+    islands: &mut IslandTables<'_>,
     turns: &mut [u16],
     types: &mut [u8],
     flags: &mut [u8],
     pairs: &mut [u16],
-    island_pairs: &mut [u16],
     counts: &mut [u8],
-    island_counts: &mut [u8],
     enabled: &mut [u8],
-    numbers: &mut [u16],
-    dynamic_bodies: &mut [u8],
-    endpoints: &mut [u16],
+    by_island: &mut ByIsland<'_>,
+    plan: &mut PlanTables<'_>,
     plan_counts: &mut [u8],
-    body_offsets: &mut [u16],
-    body_constraints: &mut [u16],
-    scratch_offsets: &mut [u16],
-    constraint_colors: &mut [u16],
-    color_stamps: &mut [u16],
-    body_stamps: &mut [u16],
-    color_offsets: &mut [u16],
-    colored_constraints: &mut [u16],
-    color_body_offsets: &mut [u16],
-    color_bodies: &mut [u16],
-    constraint_body_positions: &mut [u16],
-) -> Answer
-    requires { Asks frame.now (λ v b m j. roomy_for v b m j
-        (lent_of (island_tables_of parents.old sizes.old body_islands.old manifold_islands.old joint_islands.old)
-        turns.old types.old flags.old pairs.old
-        island_pairs.old counts.old island_counts.old enabled.old numbers.old
-        (tables_of dynamic_bodies.old endpoints.old body_offsets.old
-        body_constraints.old scratch_offsets.old constraint_colors.old
-        color_stamps.old body_stamps.old color_offsets.old
-        colored_constraints.old color_body_offsets.old color_bodies.old constraint_body_positions.old) plan_counts.old)) asked }
-    ensures { Ran frame.now
-        (lent_of (island_tables_of parents.old sizes.old body_islands.old manifold_islands.old joint_islands.old)
-        turns.old types.old flags.old pairs.old
-        island_pairs.old counts.old island_counts.old enabled.old numbers.old
-        (tables_of dynamic_bodies.old endpoints.old body_offsets.old
-        body_constraints.old scratch_offsets.old constraint_colors.old
-        color_stamps.old body_stamps.old color_offsets.old
-        colored_constraints.old color_body_offsets.old color_bodies.old constraint_body_positions.old) plan_counts.old)
-        (lent_of (island_tables_of parents.new sizes.new body_islands.new manifold_islands.new joint_islands.new)
-        turns.new types.new flags.new pairs.new
-        island_pairs.new counts.new island_counts.new enabled.new numbers.new
-        (tables_of dynamic_bodies.new endpoints.new body_offsets.new
-        body_constraints.new scratch_offsets.new constraint_colors.new
-        color_stamps.new body_stamps.new color_offsets.new
-        colored_constraints.new color_body_offsets.new color_bodies.new constraint_body_positions.new) plan_counts.new) result }
+) -> Result<Report, Refusal>
+    requires { Cuttable frame.now (lent_of (island_lent.tables_in islands.old) turns.old types.old flags.old pairs.old by_island.old.pairs.now counts.old
+        by_island.old.counts.now enabled.old by_island.old.numbers.now (plan_lent.tables_in plan.old) plan_counts.old) asked }
+    ensures ran { Ran frame.now
+        (lent_of (island_lent.tables_in islands.old) turns.old types.old flags.old pairs.old by_island.old.pairs.now counts.old
+        by_island.old.counts.now enabled.old by_island.old.numbers.now (plan_lent.tables_in plan.old) plan_counts.old)
+        (lent_of (island_lent.tables_in islands.new) turns.new types.new flags.new pairs.new by_island.new.pairs.now counts.new
+        by_island.new.counts.now enabled.new by_island.new.numbers.now (plan_lent.tables_in plan.new) plan_counts.new) result }
+    ensures same_islands { island_lent.SameTables islands.old islands.new }
+    ensures same_by_island { SameByIsland by_island.old by_island.new }
+    ensures same_plan { plan_lent.SameTables plan.old plan.new }
 {
-    if asked.refusal != 0 {
-        return Answer::Refused(asked.refusal);
-    }
-    let bodies = asked.bodies;
-    let manifolds = asked.manifolds;
-    let joints = asked.joints;
-    let constraints = manifolds + joints;
-    let entries = 2 * manifolds + asked.joint_ends;
-    let counted = run_answer::counts_room(asked.counted, manifolds, joints);
+    let counted = run_answer::counts_room(asked.counted, asked.manifolds, asked.joints);
+    let (types, _) = types.split_at_mut(asked.bodies);
+    let (flags, _) = flags.split_at_mut(asked.bodies);
+    let (pairs, _) = pairs.split_at_mut(2 * asked.manifolds + asked.joint_ends);
+    let (counts, _) = counts.split_at_mut(counted);
+    let (enabled, _) = enabled.split_at_mut(asked.joints);
+    let mut cut = FrameTables {
+        types,
+        flags,
+        pairs,
+        counts,
+        enabled,
+    };
     run_sized(
+        asked,
         frame,
-        manifolds,
-        parents,
-        sizes,
-        body_islands,
-        manifold_islands,
-        joint_islands,
+        islands,
         turns,
-        &mut types[..bodies],
-        &mut flags[..bodies],
-        &mut pairs[..entries],
-        &mut island_pairs[..entries],
-        &mut counts[..counted],
-        &mut island_counts[..counted],
-        &mut enabled[..joints],
-        &mut numbers[..constraints],
-        dynamic_bodies,
-        endpoints,
-        &mut plan_counts[..counted],
-        body_offsets,
-        body_constraints,
-        scratch_offsets,
-        constraint_colors,
-        color_stamps,
-        body_stamps,
-        color_offsets,
-        colored_constraints,
-        color_body_offsets,
-        color_bodies,
-        constraint_body_positions,
+        &mut cut,
+        by_island.numbers,
+        by_island.pairs,
+        by_island.counts,
+        plan,
+        plan_counts,
     )
 }
 
@@ -214,112 +160,33 @@ fn run_asked(
 // call leaves them.
 pub fn run(
     frame: &[u8],
-    parents: &mut [u16],
-    sizes: &mut [u16],
-    body_islands: &mut [u16],
-    manifold_islands: &mut [u16],
-    joint_islands: &mut [u16],
+    islands: &mut IslandTables<'_>,
     turns: &mut [u16],
-    types: &mut [u8],
-    flags: &mut [u8],
-    pairs: &mut [u16],
-    island_pairs: &mut [u16],
-    counts: &mut [u8],
-    island_counts: &mut [u8],
-    enabled: &mut [u8],
-    numbers: &mut [u16],
-    dynamic_bodies: &mut [u8],
-    endpoints: &mut [u16],
+    tables: &mut FrameTables<'_>,
+    by_island: &mut ByIsland<'_>,
+    plan: &mut PlanTables<'_>,
     plan_counts: &mut [u8],
-    body_offsets: &mut [u16],
-    body_constraints: &mut [u16],
-    scratch_offsets: &mut [u16],
-    constraint_colors: &mut [u16],
-    color_stamps: &mut [u16],
-    body_stamps: &mut [u16],
-    color_offsets: &mut [u16],
-    colored_constraints: &mut [u16],
-    color_body_offsets: &mut [u16],
-    color_bodies: &mut [u16],
-    constraint_body_positions: &mut [u16],
-) -> Answer
-    ensures { Ran frame.now
-        (lent_of (island_tables_of parents.old sizes.old body_islands.old manifold_islands.old joint_islands.old)
-        turns.old types.old flags.old pairs.old
-        island_pairs.old counts.old island_counts.old enabled.old numbers.old
-        (tables_of dynamic_bodies.old endpoints.old body_offsets.old
-        body_constraints.old scratch_offsets.old constraint_colors.old
-        color_stamps.old body_stamps.old color_offsets.old
-        colored_constraints.old color_body_offsets.old color_bodies.old constraint_body_positions.old) plan_counts.old)
-        (lent_of (island_tables_of parents.new sizes.new body_islands.new manifold_islands.new joint_islands.new)
-        turns.new types.new flags.new pairs.new
-        island_pairs.new counts.new island_counts.new enabled.new numbers.new
-        (tables_of dynamic_bodies.new endpoints.new body_offsets.new
-        body_constraints.new scratch_offsets.new constraint_colors.new
-        color_stamps.new body_stamps.new color_offsets.new
-        colored_constraints.new color_body_offsets.new color_bodies.new constraint_body_positions.new) plan_counts.new) result }
+) -> Result<Report, Refusal>
+    ensures ran { Ran frame.now (lent_in islands.old turns.old tables.old by_island.old plan.old plan_counts.old)
+        (lent_in islands.new turns.new tables.new by_island.new plan.new plan_counts.new) result }
+    ensures same_islands { island_lent.SameTables islands.old islands.new }
+    ensures same_frame { SameFrame tables.old tables.new }
+    ensures same_by_island { SameByIsland by_island.old by_island.new }
+    ensures same_plan { plan_lent.SameTables plan.old plan.new }
 {
-    let asked = run_answer::ask(
-        frame,
-        parents.len(),
-        sizes.len(),
-        body_islands.len(),
-        manifold_islands.len(),
-        joint_islands.len(),
-        turns.len(),
-        types.len(),
-        flags.len(),
-        pairs.len(),
-        island_pairs.len(),
-        counts.len(),
-        island_counts.len(),
-        enabled.len(),
-        numbers.len(),
-        dynamic_bodies.len(),
-        endpoints.len(),
-        plan_counts.len(),
-        body_offsets.len(),
-        body_constraints.len(),
-        scratch_offsets.len(),
-        constraint_colors.len(),
-        color_stamps.len(),
-        body_stamps.len(),
-        color_offsets.len(),
-        colored_constraints.len(),
-        color_body_offsets.len(),
-        color_bodies.len(),
-        constraint_body_positions.len(),
-    );
-    run_asked(
+    let asked = run_answer::ask(frame, islands, turns, tables, by_island, plan, plan_counts)?;
+    run_cut(
         asked,
         frame,
-        parents,
-        sizes,
-        body_islands,
-        manifold_islands,
-        joint_islands,
+        islands,
         turns,
-        types,
-        flags,
-        pairs,
-        island_pairs,
-        counts,
-        island_counts,
-        enabled,
-        numbers,
-        dynamic_bodies,
-        endpoints,
+        tables.types,
+        tables.flags,
+        tables.pairs,
+        tables.counts,
+        tables.enabled,
+        by_island,
+        plan,
         plan_counts,
-        body_offsets,
-        body_constraints,
-        scratch_offsets,
-        constraint_colors,
-        color_stamps,
-        body_stamps,
-        color_offsets,
-        colored_constraints,
-        color_body_offsets,
-        color_bodies,
-        constraint_body_positions,
     )
 }

@@ -9,7 +9,7 @@ use Rattle.lists.proofs.Ranges.{map-append}
 use Rattle.frame.specs.declared.Lists.{Lists}
 use Rattle.frame.specs.declared.refusal.Refusal.{Refusal}
 use Rattle.frame.specs.Lists.{frame_in}
-use Rattle.frame.specs.Refusals.{number_of, refused_by}
+use Rattle.frame.specs.Refusals.{refused_by}
 use Rattle.frame.specs.Frames.{Frame, constraints, none, end_count, all_sound, degree_max}
 use Rattle.frame.specs.Questions.{question, asked, few_each}
 use Rattle.frame.specs.Files.{second, count_m, count_j, types_in, manifolds_in, joint_ends_in, counts_in, live_in, decode, file_questions, frame_refusal}
@@ -23,7 +23,6 @@ use Rattle.island.proofs.Refusals.{numbered}
 use Rattle.schedules.proofs.Accepted.{Accepted, accepted}
 use Rattle.island_numbers.specs.Numbers.{Labels, Sortable, by_island}
 use Rattle.frame_parts.specs.Parts.{Standing, standing_refusal, Countable}
-use Rattle.frame_tables.specs.declared.Filling.{Filling}
 use Rattle.frame_tables.specs.Filled.{Roomy, Fills, labels_in, sound_refusal}
 use Rattle.frame_tables.proofs.Labels.{frame_labels, none-labels}
 

@@ -2,12 +2,74 @@
 // numbers sorted by island.
 #![tactic(auto)]
 
+ghost use Rattle.std.specs.Prelude.{◌*◌, ◌≤◌, ◌≡◌, length};
 ghost use Rattle.frame.specs.Decodes.{Decodable};
-ghost use Rattle.island.specs.Lent.{tables_in, SameTables};
+ghost use Rattle.frame_parts.specs.Parts.{Standing};
+ghost use Rattle.island.specs.Lent as island_lent;
+ghost use Rattle.plan_questions.specs.Lent as plan_lent;
 ghost use Rattle.frame_tables.specs.Filled.{Roomy, Fills};
+ghost use Rattle.frame_tables.specs.Lent.{SameFrame};
 
-use frame::Refusal;
+use frame::{Lists, Refusal};
 use island::IslandTables;
+use plan_questions::PlanTables;
+
+// What a file is decoded into: a type and a flag for each body, the endpoints of the manifolds and then of the joints, their counts (none
+// on version 1), and an enabled byte for each joint.
+#[derive(Drop)]
+pub struct FrameTables<'a> {
+    pub types: &'a mut [u8],
+    pub flags: &'a mut [u8],
+    pub pairs: &'a mut [u16],
+    pub counts: &'a mut [u8],
+    pub enabled: &'a mut [u8],
+}
+
+// The constraints island after island: their numbers, their endpoints, and their counts.
+#[derive(Drop)]
+pub struct ByIsland<'a> {
+    pub numbers: &'a mut [u16],
+    pub pairs: &'a mut [u16],
+    pub counts: &'a mut [u8],
+}
+
+// The filled tables that the islands are run from, to be read only.
+#[derive(Clone, Copy)]
+pub struct Filled<'a> {
+    pub types: &'a [u8],
+    pub flags: &'a [u8],
+    pub ends: &'a [u16],
+    pub counts: &'a [u8],
+}
+
+// The tables to be read only.
+pub fn view_of<'a>(tables: &'a FrameTables<'_>) -> Filled<'a>
+    ensures types { result.types.now ≡ tables.now.types.now }
+    ensures flags { result.flags.now ≡ tables.now.flags.now }
+    ensures ends { result.ends.now ≡ tables.now.pairs.now }
+    ensures counts { result.counts.now ≡ tables.now.counts.now }
+{
+    Filled {
+        types: tables.types,
+        flags: tables.flags,
+        ends: tables.pairs,
+        counts: tables.counts,
+    }
+}
+
+// The frame that stands in the tables.
+fn lists_in<'a>(tables: &'a FrameTables<'_>, manifolds: usize) -> Lists<'a>
+    requires { 2 * manifolds ≤ length tables.now.pairs.now }
+    ensures { Standing tables.now.types.now tables.now.pairs.now manifolds tables.now.counts.now tables.now.enabled.now result }
+{
+    frame_parts::lists_of(
+        tables.types,
+        tables.pairs,
+        manifolds,
+        tables.counts,
+        tables.enabled,
+    )
+}
 
 // How many islands a frame has, and D.
 #[derive(Clone, Copy, Debug, PartialEq, Eq)]
@@ -16,44 +78,53 @@ pub struct Filling {
     pub degree: usize,
 }
 
-// All tables of a frame that passed questions 1 to 6: `types`, `flags`, `pairs`, `counts` (none on version 1), `enabled` and `numbers`
-// have its sizes. After 7 the numbers are sorted as of no islands. The last four tables are free.
+// All tables of a frame that passed questions 1 to 6: `tables` and `numbers` have its sizes. After 7 the numbers are sorted as of no
+// islands. Of the plan's tables four are free: the sort's keys and offsets are kept there, and the constraints on each body.
 pub fn fill(
     frame: &[u8],
     manifolds: usize,
-    tables: &mut IslandTables<'_>,
-    types: &mut [u8],
-    flags: &mut [u8],
-    pairs: &mut [u16],
-    counts: &mut [u8],
-    enabled: &mut [u8],
+    islands: &mut IslandTables<'_>,
+    tables: &mut FrameTables<'_>,
     numbers: &mut [u16],
-    keys: &mut [u16],
-    scratch_offsets: &mut [u16],
-    offsets: &mut [u16],
-    on_bodies: &mut [u16],
+    plan: &mut PlanTables<'_>,
 ) -> Result<Filling, Refusal>
-    requires decodable { Decodable frame.now manifolds types.old flags.old pairs.old counts.old enabled.old }
-    requires roomy { Roomy frame.now (tables_in tables.old) numbers.old keys.old scratch_offsets.old offsets.old on_bodies.old }
-    ensures filled { Fills frame.now types.new flags.new pairs.new counts.new enabled.new (tables_in tables.old) (tables_in tables.new) numbers.new result }
-    ensures same { SameTables tables.old tables.new }
+    requires decodable { Decodable frame.now manifolds tables.old.types.now tables.old.flags.now tables.old.pairs.now tables.old.counts.now
+        tables.old.enabled.now }
+    requires roomy { Roomy frame.now (island_lent.tables_in islands.old) numbers.old plan.old.constraint_colors.now plan.old.scratch_offsets.now
+        plan.old.color_offsets.now plan.old.body_stamps.now }
+    ensures filled { Fills frame.now tables.new.types.now tables.new.flags.now tables.new.pairs.now tables.new.counts.now tables.new.enabled.now
+        (island_lent.tables_in islands.old) (island_lent.tables_in islands.new) numbers.new result }
+    ensures same_islands { island_lent.SameTables islands.old islands.new }
+    ensures same_frame { SameFrame tables.old tables.new }
+    ensures same_plan { plan_lent.SameTables plan.old plan.new }
+    ensures plan_lengths { plan_lent.lengths_of (plan_lent.tables_in plan.new) ≡ plan_lent.lengths_of (plan_lent.tables_in plan.old) }
 {
-    frame::decode(frame, manifolds, types, flags, pairs, counts, enabled);
-    let lists = frame_parts::lists_of(types, pairs, manifolds, counts, enabled);
-    let built = frame_parts::build(lists, counts.len() != 0, tables);
-    frame_parts::sort(
-        tables,
+    frame::decode(
+        frame,
         manifolds,
-        enabled.len(),
+        tables.types,
+        tables.flags,
+        tables.pairs,
+        tables.counts,
+        tables.enabled,
+    );
+    let counted = tables.counts.len() != 0;
+    let joints = tables.enabled.len();
+    let lists = lists_in(tables, manifolds);
+    let built = frame_parts::build(lists, counted, islands);
+    frame_parts::sort(
+        islands,
+        manifolds,
+        joints,
         built.unwrap_or(0),
-        keys,
-        scratch_offsets,
-        offsets,
+        plan.constraint_colors,
+        plan.scratch_offsets,
+        plan.color_offsets,
         numbers,
     );
     let islands = built?;
     Ok(Filling {
         islands,
-        degree: frame_parts::degree_of(lists, on_bodies),
+        degree: frame_parts::degree_of(lists, plan.body_stamps),
     })
 }

@@ -1,5 +1,5 @@
 -- What a take adds can be seen from its answer on the marks alone: the plan's other tables and the binding's bodies make no difference.
-use Rattle.std.proofs.Common.{Bor, Ok, Err, Result, ℕ, zero, suc, ◌+◌, ◌-◌, ◌≤◌, ◌<◌, ◌≡◌, refl, sym, ap, ◌∙◌, Bool, cond, List, [], ◌∷◌, ◌++◌, map, arith, add-one, ltb, eqb, length, get_or, drop, replicate, drop_of_length-le, drop-cons, take_all, ne_eqb, le-leb, lt-ltb, le-ltb}
+use Rattle.std.proofs.Common.{Bor, Ok, Err, Result, ℕ, zero, suc, ◌+◌, ◌-◌, ◌≤◌, ◌<◌, ◌≡◌, refl, sym, ap, ◌∙◌, Bool, true, false, cond, List, [], ◌∷◌, ◌++◌, map, arith, add-one, ltb, eqb, length, get_or, drop, replicate, drop_of_length-le, drop-cons, take_all, ne_eqb, le-leb, lt-ltb, le-ltb, eq-eqb}
 use Rattle.lists.specs.Basics.{one, count, sum_of, four, join_map, range_from}
 use Rattle.lists.proofs.Laws.{by_cases}
 use Rattle.lists.proofs.Fills.{whole}

@@ -1,14 +1,18 @@
 // The islands of the run, internal: one after another, each with its part of the sorted constraint numbers.
 #![tactic(auto)]
 
-ghost use Rattle.std.specs.Prelude.{◌≡◌, ◌≤◌, ◌-◌, ◌*◌, ◌++◌, cond, eqb, length, take, drop};
+ghost use Rattle.std.specs.Prelude.{◌≡◌, ◌≤◌, ◌-◌, ◌*◌, cond, eqb, length, take, drop};
 ghost use Rattle.frame.specs.Frames.{end_count};
-ghost use Rattle.plan_questions.specs.Lent.{tables_in, SameTables};
+ghost use Rattle.plan_questions.specs.Lent.{tables_in, lengths_of, SameTables};
 ghost use Rattle.colored_bodies.specs.Bindings.{Known};
 ghost use Rattle.turn_table.specs.Turns.{none, Room, Appended};
 ghost use Rattle.group_run.specs.Appends.{added_by};
-ghost use Rattle.island_run.specs.Islands.{calls_of, Prepared};
+ghost use Rattle.island_numbers.specs.Tables.{labels_of};
+ghost use Rattle.island_run.specs.Islands.{Prepared};
+ghost use Rattle.island_run.specs.Views.{calls_of_frame};
 
+use island_numbers::IslandLabels;
+use one_island::Island;
 use plan_questions::PlanTables;
 use turn_table::Tally;
 
@@ -17,10 +21,7 @@ fn counts_between(counts: &[u8], start: usize, end: usize) -> &[u8]
     requires { (length counts.now ≡ 0 → ⊥) → (start ≤ end) × (end ≤ length counts.now) }
     ensures { result.now ≡ take (end - start) (drop start counts.now) }
 {
-    if counts.len() == 0 {
-        return counts;
-    }
-    &counts[start..end]
+    counts.get(start..end).unwrap_or(&[])
 }
 
 // How many endpoints so many constraints have: as their counts say, or two each without counts.
@@ -34,62 +35,64 @@ fn count_ends(counts: &[u8], constraints: usize) -> usize
     frame::multi::sum_counts(counts)
 }
 
-// The islands in number order. The endpoints and counts of all constraints are collected once, in the order of `numbers`; each island's are
-// then a part. Without counts the constraints are pairs. The tables of the plan, `island_ends` and `island_counts` are free.
+// The tables of a frame that the run of its islands reads: types and flags of its bodies, endpoints and counts of its constraints (without
+// counts they are pairs), their labels, and their numbers sorted by island.
+#[derive(Clone, Copy)]
+pub struct FilledFrame<'a> {
+    pub types: &'a [u8],
+    pub flags: &'a [u8],
+    pub ends: &'a [u16],
+    pub counts: &'a [u8],
+    pub labels: IslandLabels<'a>,
+    pub numbers: &'a [u16],
+}
+
+// The islands in number order. The endpoints and counts of all constraints are collected once, in the order of the numbers; each island's are
+// then a part. The tables of the plan, `island_ends` and `island_counts` are free.
 pub fn run_islands(
     islands: u16,
-    types: &[u8],
-    flags: &[u8],
-    ends: &[u16],
-    counts: &[u8],
-    manifold_islands: &[u16],
-    joint_islands: &[u16],
-    numbers: &[u16],
+    filled: FilledFrame<'_>,
     island_ends: &mut [u16],
     island_counts: &mut [u8],
     plan_counts: &mut [u8],
     tables: &mut PlanTables<'_>,
     turns: &mut [u16],
 ) -> Tally
-    requires prepared { Prepared islands flags.now counts.now ends.now (manifold_islands.now ++ joint_islands.now) numbers.now island_ends.old island_counts.old
+    requires prepared { Prepared islands filled.flags.now filled.counts.now filled.ends.now (labels_of filled.labels) filled.numbers.now island_ends.old island_counts.old
         (tables_in tables.old) plan_counts.old }
-    requires room { Room (added_by (calls_of types.now flags.now counts.now ends.now (manifold_islands.now ++ joint_islands.now) islands)) turns.old none }
-    requires known { Known types.now }
-    ensures appended { Appended (added_by (calls_of types.now flags.now counts.now ends.now (manifold_islands.now ++ joint_islands.now) islands)) turns.old none turns.new result }
+    requires room { Room (added_by (calls_of_frame filled islands)) turns.old none }
+    requires known { Known filled.types.now }
+    ensures appended { Appended (added_by (calls_of_frame filled.entry islands)) turns.old none turns.new result }
     ensures same_tables { SameTables tables.old tables.new }
+    ensures same_lengths { lengths_of (tables_in tables.new) ≡ lengths_of (tables_in tables.old) }
 {
     island_numbers::collect(
-        ends,
-        counts,
-        numbers,
+        filled.ends,
+        filled.counts,
+        filled.numbers,
         tables.body_constraints,
         island_ends,
         island_counts,
     );
     let mut tally = turn_table::no_turns();
-    let mut island = 0;
     let mut start: usize = 0;
     let mut ends_start: usize = 0;
     // The islands before `island` are run; its numbers begin at `start` of the numbers, and its endpoints at `ends_start` of the endpoints.
-    while island < islands {
-        let end = island_numbers::part_end(manifold_islands, joint_islands, numbers, island, start);
-        let part_counts = counts_between(island_counts, start, end);
-        let ends_end = ends_start + count_ends(part_counts, end - start);
-        tally = one_island::run_island(
+    for island in 0..islands {
+        let end = island_numbers::part_end(filled.labels, filled.numbers, island, start);
+        let counts = counts_between(island_counts, start, end);
+        let ends_end = ends_start + count_ends(counts, end - start);
+        let part = Island {
             island,
-            types,
-            flags,
-            &island_ends[ends_start..ends_end],
-            part_counts,
-            &numbers[start..end],
-            plan_counts,
-            tables,
-            turns,
-            tally,
-        );
+            types: filled.types,
+            flags: filled.flags,
+            ends: &island_ends[ends_start..ends_end],
+            counts,
+            numbers: &filled.numbers[start..end],
+        };
+        tally = one_island::run_island(part, plan_counts, tables, turns, tally);
         start = end;
         ends_start = ends_end;
-        island += 1;
     }
     tally
 }

@@ -1,6 +1,6 @@
 -- The plan as it stands after the update of an island hands back what the definition's plan does, so its groups make the same takes. The
 -- update is accepted, since its questions are and there is room.
-use Rattle.std.proofs.Common.{ℕ, ◌*◌, ◌/◌, ◌≤◌, ◌<◌, ◌≡◌, refl, sym, ap, ◌∙◌, subst, true, List, [], arith, eqb, length, eqb-true, ne_eqb, le-leb}
+use Rattle.std.proofs.Common.{ℕ, ◌*◌, ◌/◌, ◌≤◌, ◌<◌, ◌≡◌, refl, sym, ap, ◌∙◌, subst, true, List, [], arith, eqb, length, take, length-take-le, eqb-true, ne_eqb, le-leb}
 use Rattle.std.proofs.lemmas.Bool.{eqb-false}
 use Rattle.lists.specs.Basics.{join_map, range}
 use Rattle.lists.proofs.Laws.{by_cases, range_high, pigeonhole, no_length}
@@ -19,6 +19,11 @@ use Rattle.schedules.specs.Runs.{freshly, members_in, bodies_in, lookup_refusal,
 use Rattle.schedules.proofs.Standing.{Lookups, asked_pairs, fresh_pairs, updated_pairs, few_pairs, fresh-counts, updated_lent, constraints-lent, few-counts}
 use Rattle.schedules.proofs.Condition3.{same_calls}
 use Rattle.group_run.specs.Appends.{seen, calls_in, plan_calls}
+use Rattle.group_run.specs.declared.PlannedIsland.{PlannedIsland}
+use Rattle.group_run.specs.Views.{CountableIn}
+use Rattle.parts.specs.Steps.{BoundsOf}
+use Rattle.one_island.specs.declared.Island.{Island}
+use Rattle.one_island.specs.Views.{Planned}
 use Rattle.one_island.specs.Island.{island_calls, ranks, Ready, Counted, Colored}
 
 -- two plans whose lookups hand back the same make the same takes
@@ -111,3 +116,17 @@ module _ {flags counts ends old : List ℕ} {n : ℕ} {t : Tables} (ready : Read
         bounds = omega (arith, two-each a, a.tables.1.1.1.0);
         positions_there = omega (arith, a.whole, a.tables.1.1.1.1.1.1.1.1.1.1.1.1.1.0);
       })
+
+-- ---- an island with its plan
+
+module _ {i : Island} {q : ConstraintColoring} {t : Tables} {p : PlannedIsland} (h : Planned i q t p) where
+  pub planned_countable : {before : List ℕ} → Counted i.counts.now before t.constraint_body_positions → ((length i.counts.now ≡ 0 → ⊥) → q.constraint_count ≡ length i.counts.now)
+      → BoundsOf i.counts.now (take (2 * length i.counts.now) t.body_constraints) → length t.body_constraints ≡ length before → CountableIn p
+  planned_countable k c b l = rw (h.plan, h.counts, h.bounds, h.positions) (record {
+    constraints = c;
+    few = k.few;
+    known = k.known;
+    bounds_of = b;
+    long = length-take-le (2 * length i.counts.now) t.body_constraints (omega (arith, k.bounds));
+    inside = k.positions_there;
+  })

@@ -1,1 +1,2 @@
 pub mod Island
+pub mod Views

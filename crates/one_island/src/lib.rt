@@ -1,12 +1,14 @@
 // One island of the run, internal: its constraints are colored on a fresh plan and its groups taken in order.
 #![tactic(auto)]
 
-ghost use Rattle.std.specs.Prelude.{◌≡◌, ◌≤◌, [], length};
+ghost use Rattle.std.specs.Prelude.{◌≡◌, ◌≤◌, ◌*◌, [], length, take};
 ghost use Rattle.plan_questions.specs.Lent.{tables_in, lengths_of, SameTables};
 ghost use Rattle.colored_bodies.specs.Bindings.{Known};
+ghost use Rattle.parts.specs.Steps.{BoundsOf};
 ghost use Rattle.turn_table.specs.Turns.{Room, Appended};
-ghost use Rattle.group_run.specs.Appends.{seen, plan_calls, added_by};
-ghost use Rattle.one_island.specs.Island.{island_calls, ranks, Ready, Counted, Colored};
+ghost use Rattle.group_run.specs.Appends.{added_by};
+ghost use Rattle.one_island.specs.Island.{ranks, Ready, Counted, Colored};
+ghost use Rattle.one_island.specs.Views.{calls_for, planned_calls, Boundable, Planned};
 
 use constraint_coloring::ConstraintColoring;
 use group_run::PlannedIsland;
@@ -45,101 +47,111 @@ fn color_counted(
     answer.plan_after(fresh).plan
 }
 
+// An island of a frame: its number, the types and flags of the frame's bodies, the endpoints and counts of its constraints, and their numbers by
+// rank. Without counts its constraints are pairs.
+#[derive(Clone, Copy)]
+pub struct Island<'a> {
+    pub island: u16,
+    pub types: &'a [u8],
+    pub flags: &'a [u8],
+    pub ends: &'a [u16],
+    pub counts: &'a [u8],
+    pub numbers: &'a [u16],
+}
+
 // The plan of an island: without counts its constraints are pairs.
 fn color_island(
-    flags: &[u8],
-    ends: &[u16],
-    counts: &[u8],
+    island: Island<'_>,
     plan_counts: &mut [u8],
     tables: &mut PlanTables<'_>,
 ) -> ConstraintColoring
-    requires { Ready flags.now counts.now ends.now (ranks counts.now ends.now) (tables_in tables.old) plan_counts.old }
-    ensures colored { Colored flags.now counts.now ends.now result (tables_in tables.new) }
+    requires { Ready island.flags.now island.counts.now island.ends.now (ranks island.counts.now island.ends.now) (tables_in tables.old) plan_counts.old }
+    ensures colored { Colored island.entry.flags.now island.entry.counts.now island.entry.ends.now result (tables_in tables.new) }
     ensures same_tables { SameTables tables.old tables.new }
     ensures same_lengths { lengths_of (tables_in tables.new) ≡ lengths_of (tables_in tables.old) }
 {
-    if counts.len() == 0 {
-        return color_pairs(flags, ends, tables);
+    if island.counts.len() == 0 {
+        return color_pairs(island.flags, island.ends, tables);
     }
-    color_counted(flags, ends, counts, plan_counts, tables)
+    color_counted(
+        island.flags,
+        island.ends,
+        island.counts,
+        plan_counts,
+        tables,
+    )
 }
 
-// The groups of a colored island, in order. What an update leaves in the table of the constraints on each body is not promised, so the bounds
-// of the constraints are filled in there again.
-fn run_colored(
-    island: u16,
-    types: &[u8],
-    counts: &[u8],
-    numbers: &[u16],
+// The bounds of the constraints at the front of the table of the constraints on each body: what an update leaves there is not promised.
+fn fill_bounds(counts: &[u8], body_constraints: &mut [u16])
+    requires { Boundable counts.now (length body_constraints.old) }
+    ensures bounds { BoundsOf counts.now (take (2 * length counts.now) body_constraints.new) }
+    ensures same_length { length body_constraints.new ≡ length body_constraints.old }
+{
+    parts::bound_counts(counts, &mut body_constraints[..2 * counts.len()]);
+}
+
+// A colored island with the tables that its lookups read.
+fn planned_in<'a>(
+    island: Island<'a>,
     plan: ConstraintColoring,
-    body_constraints: &mut [u16],
-    color_offsets: &mut [u16],
-    colored_constraints: &mut [u16],
-    color_body_offsets: &mut [u16],
-    color_bodies: &mut [u16],
-    constraint_body_positions: &mut [u16],
+    tables: &'a PlanTables<'_>,
+) -> PlannedIsland<'a>
+    requires { 2 * length island.counts.now ≤ length tables.now.body_constraints.now }
+    ensures { Planned island.entry plan (tables_in tables.now) result }
+{
+    PlannedIsland {
+        island: island.island,
+        numbers: island.numbers,
+        types: island.types,
+        plan,
+        counts: island.counts,
+        bounds: &tables.body_constraints[..2 * island.counts.len()],
+        color_offsets: tables.color_offsets,
+        colored_constraints: tables.colored_constraints,
+        color_body_offsets: tables.color_body_offsets,
+        color_bodies: tables.color_bodies,
+        positions: tables.constraint_body_positions,
+    }
+}
+
+// The groups of a colored island, in order.
+fn run_colored(
+    island: Island<'_>,
+    plan: ConstraintColoring,
+    tables: &mut PlanTables<'_>,
     turns: &mut [u16],
     tally: Tally,
 ) -> Tally
-    requires counted { Counted counts.now body_constraints.old constraint_body_positions.old }
-    requires constraints { (length counts.now ≡ 0 → ⊥) → plan.constraint_count ≡ length counts.now }
+    requires counted { Counted island.counts.now tables.old.body_constraints.now tables.old.constraint_body_positions.now }
+    requires constraints { (length island.counts.now ≡ 0 → ⊥) → plan.constraint_count ≡ length island.counts.now }
     requires color_count_bound { plan.color_count ≤ 8192 }
-    requires room { Room (added_by (plan_calls (seen plan counts.now color_offsets.old colored_constraints.old color_body_offsets.old color_bodies.old constraint_body_positions.old) types.now numbers.now island)) turns.old tally }
-    requires known { Known types.now }
-    ensures appended { Appended (added_by (plan_calls (seen plan counts.now color_offsets.old colored_constraints.old color_body_offsets.old color_bodies.old constraint_body_positions.old) types.now numbers.now island)) turns.old tally turns.new result }
+    requires room { Room (added_by (planned_calls island plan (tables_in tables.old))) turns.old tally }
+    requires known { Known island.types.now }
+    ensures appended { Appended (added_by (planned_calls island.entry plan (tables_in tables.old))) turns.old tally turns.new result }
+    ensures same_tables { SameTables tables.old tables.new }
+    ensures same_lengths { lengths_of (tables_in tables.new) ≡ lengths_of (tables_in tables.old) }
 {
-    let bounds = &mut body_constraints[..2 * counts.len()];
-    parts::bound_counts(counts, bounds);
-    let planned = PlannedIsland {
-        island,
-        numbers,
-        types,
-        plan,
-        counts,
-        bounds,
-        color_offsets,
-        colored_constraints,
-        color_body_offsets,
-        color_bodies,
-        positions: constraint_body_positions,
-    };
+    fill_bounds(island.counts, tables.body_constraints);
+    let planned = planned_in(island, plan, tables);
     group_run::run_groups(planned, turns, tally)
 }
 
-// One island, whose constraints are `numbers`, with these endpoints and counts; without counts they are pairs. The tables of the plan are free.
+// One island: it is colored, and its groups are taken. The tables of the plan are free.
 pub fn run_island(
-    island: u16,
-    types: &[u8],
-    flags: &[u8],
-    ends: &[u16],
-    counts: &[u8],
-    numbers: &[u16],
+    island: Island<'_>,
     plan_counts: &mut [u8],
     tables: &mut PlanTables<'_>,
     turns: &mut [u16],
     tally: Tally,
 ) -> Tally
-    requires ready { Ready flags.now counts.now ends.now (length numbers.now) (tables_in tables.old) plan_counts.old }
-    requires room { Room (added_by (island_calls types.now flags.now counts.now ends.now island numbers.now)) turns.old tally }
-    requires known { Known types.now }
-    ensures appended { Appended (added_by (island_calls types.now flags.now counts.now ends.now island numbers.now)) turns.old tally turns.new result }
+    requires ready { Ready island.flags.now island.counts.now island.ends.now (length island.numbers.now) (tables_in tables.old) plan_counts.old }
+    requires room { Room (added_by (calls_for island)) turns.old tally }
+    requires known { Known island.types.now }
+    ensures appended { Appended (added_by (calls_for island.entry)) turns.old tally turns.new result }
     ensures same_tables { SameTables tables.old tables.new }
     ensures same_lengths { lengths_of (tables_in tables.new) ≡ lengths_of (tables_in tables.old) }
 {
-    let plan = color_island(flags, ends, counts, plan_counts, tables);
-    run_colored(
-        island,
-        types,
-        counts,
-        numbers,
-        plan,
-        tables.body_constraints,
-        tables.color_offsets,
-        tables.colored_constraints,
-        tables.color_body_offsets,
-        tables.color_bodies,
-        tables.constraint_body_positions,
-        turns,
-        tally,
-    )
+    let plan = color_island(island, plan_counts, tables);
+    run_colored(island, plan, tables, turns, tally)
 }

@@ -1,6 +1,6 @@
 -- The answer to an input: a turn table for 8,192 constraints has room for every frame that passes questions 1 to 5, so question 6 makes no
 -- difference, and the line of the answer is the first line of the print.
-use Rattle.std.proofs.Common.{ℕ, ◌+◌, ◌*◌, ◌≤◌, ◌<◌, ◌≡◌, refl, sym, ap, ◌∙◌, Bool, true, not, List, arith, eqb, ltb, length, le-leb, lt-ltb, le-ltb, eqb-true, eq-eqb}
+use Rattle.std.proofs.Common.{ℕ, ◌+◌, ◌*◌, ◌≤◌, ◌<◌, ◌≡◌, refl, sym, ap, ◌∙◌, Bool, true, not, List, Result, Ok, Err, is_err, arith, eqb, ltb, length, le-leb, lt-ltb, le-ltb, eqb-true, eq-eqb}
 use Rattle.lists.specs.Basics.{over}
 use Rattle.lists.proofs.Laws.{by_cases, clashes}
 use Rattle.frame.specs.Questions.{asked}
@@ -9,9 +9,10 @@ use Rattle.schedules.specs.Runs as runs
 use Rattle.schedules.specs.Runs.{turns_of, run_calls, refused, run_refusal, run_of}
 use Rattle.schedules.specs.Print.{head_of, refusal_line, first_line, answer_to}
 use Rattle.run_answer.specs.declared.Report.{Report}
-use Rattle.run_answer.specs.declared.Answer.{Answer}
-use Rattle.run_answer.specs.declared.Answer.TheVariants as answer
-use Rattle.run_answer.specs.Answers.{run_number, run_refused, run_report, reported}
+use Rattle.frame.specs.declared.refusal.Refusal.{Refusal}
+use Rattle.frame.specs.declared.refusal.Refusal.TheVariants.{TooMany}
+use Rattle.frame.specs.Refusals.{refused_by}
+use Rattle.run_answer.specs.Answers.{run_report, reported}
 use Rattle.frame_run.proofs.Runs.{all_asked}
 use Rattle.frame_run.proofs.Frames.{turns_long}
 use Rattle.frame.proofs.Questions.{zero-cond}
@@ -36,14 +37,14 @@ unfolding run_of
 same_run bs ts h = rw (same-refusal bs ts h)
 
 -- the line of an answer is the first line of its run
-run_line : (bs : List ℕ) (room : Bool) (r : Answer) → run_number r ≡ run_refusal bs room → run_refused r ≡ not (eqb (run_refusal bs room) 0)
+run_line : (bs : List ℕ) (room : Bool) (r : Result Report Refusal) → refused_by r ≡ run_refusal bs room → is_err r ≡ not (eqb (run_refusal bs room) 0)
     → run_report r ≡ reported (run_of bs room)
     → answer_line r ≡ first_line (run_of bs room)
 unfolding first_line
-run_line bs room (answer.Ran s) n c e =
+run_line bs room (Ok s) n c e =
     rw (eq-eqb (run_of bs room).refusal 0 (run_refusal_lem bs room ∙ sym n))
     (ap (λ (r : Report). head_of r.islands r.turns r.takes r.degree) e)
-run_line bs room (answer.Refused k) n c e =
+run_line bs room (Err k) n c e =
     by_cases (eqb (run_refusal bs room) 0)
     (λ t. clashes true refl (c ∙ rw t))
     (λ t. rw (run_refusal_lem bs room, t) (ap refusal_line n))
@@ -57,7 +58,7 @@ long_answer : (bs : List ℕ) → 61451 < length bs → answer_to bs ≡ refused
 unfolding answer_to
 long_answer bs many = rw (lt-ltb 61451 (length bs) many)
 
-pub run_answered : (bs ts ts' : List ℕ) (r : Answer) → 24576 ≤ length ts → length bs ≤ 61451 → RanAlone bs ts ts' r → InputAnswered bs ts ts' r
+pub run_answered : (bs ts ts' : List ℕ) (r : Result Report Refusal) → 24576 ≤ length ts → length bs ≤ 61451 → RanAlone bs ts ts' r → InputAnswered bs ts ts' r
 run_answered bs ts ts' r room few a =
     let e : run_of bs (roomy_turns bs ts) ≡ answer_to bs = same_run bs ts room ∙ sym (run_answer bs few) in
     record {
@@ -66,7 +67,7 @@ run_answered bs ts ts' r room few a =
       table = a.turns ∙ ap (λ (s : runs.Report). over s.table ts) e;
     }
 
-pub long_answered : (bs ts : List ℕ) → 61451 < length bs → InputAnswered bs ts ts (answer.Refused 3)
+pub long_answered : (bs ts : List ℕ) → 61451 < length bs → InputAnswered bs ts ts (Err TooMany)
 unfolding first_line
 long_answered bs ts many =
     let e : refused 3 ≡ answer_to bs = sym (long_answer bs many) in

@@ -1,10 +1,11 @@
 -- A piece stands in the buffer where its opening was put and the lines behind it.
-use Rattle.std.proofs.Common.{ℕ, zero, suc, ◌+◌, ◌-◌, ◌*◌, ◌≤◌, ◌<◌, ◌≡◌, refl, sym, ap, ap₂, ◌∙◌, true, List, [], ◌++◌, arith, ltb, eqb, length, take, drop, length-append, length-drop, drop-drop, take_at, le-leb, lt-ltb, ltb-true, eqb-true}
+use Rattle.std.proofs.Common.{ℕ, zero, suc, ◌+◌, ◌-◌, ◌*◌, ◌≤◌, ◌<◌, ◌≡◌, refl, sym, ap, ap₂, ◌∙◌, true, List, [], ◌++◌, Result, arith, ltb, eqb, length, take, drop, length-append, length-drop, drop-drop, take_at, le-leb, lt-ltb, ltb-true, eqb-true}
 use Rattle.std.proofs.lemmas.Bool.{eqb-false}
 use Rattle.lists.specs.Basics.{one, over, put}
 use Rattle.lists.proofs.Laws.{by_cases}
 use Rattle.lists.proofs.Puts.{put_first}
-use Rattle.run_answer.specs.declared.Answer.{Answer}
+use Rattle.frame.specs.declared.refusal.Refusal.{Refusal}
+use Rattle.run_answer.specs.declared.Report.{Report}
 use Rattle.run_answer.specs.Answers.{run_report}
 use Rattle.frame.specs.Files.{second}
 use Rattle.schedules.specs.Print.{turn_lines, answer_to}
@@ -51,7 +52,7 @@ module _ (bs opening turns : List ℕ) (first : ℕ) (old mid new : Writer) (p :
       }
 
 -- the first piece, and the next one
-pub first_stands : (bs ts ts' : List ℕ) (old mid new : Writer) (r : Answer) (count : ℕ) (p : Piece) → old.at ≡ 0 → length old.out.now ≡ buffer_size
+pub first_stands : (bs ts ts' : List ℕ) (old mid new : Writer) (r : Result Report Refusal) (count : ℕ) (p : Piece) → old.at ≡ 0 → length old.out.now ≡ buffer_size
     → InputAnswered bs ts ts' r → count ≡ (run_report r).turns → Wrote (answer_line r) old mid → (p.size ≡ new.at) × (p.turns ≡ count)
     → Lines bs (take (3 * count) ts') 0 mid new p.next → FirstPiece bs ts old.out.now ts' new.out.now p
 first_stands bs ts ts' old mid new r count p start long a c o t l =

@@ -1,21 +1,22 @@
 -- The pieces in which a print is made, each in a buffer of 65,536 bytes, and what a program writes that asks for them one after another.
-use Rattle.std.specs.Prelude.{ℕ, ◌+◌, ◌*◌, ◌<◌, ◌≡◌, true, List, [], ◌++◌, length, take}
+use Rattle.std.specs.Prelude.{ℕ, ◌+◌, ◌*◌, ◌<◌, ◌≡◌, true, List, [], ◌++◌, length, take, Result, Ok, Err}
 use Rattle.lists.specs.Basics.{over}
 use Rattle.frame.specs.Files.{second}
 use Rattle.schedules.specs.Print.{head_of, refusal_line, first_line, answer_to, print_of}
-use Rattle.run_answer.specs.declared.Answer.{Answer}
-use Rattle.run_answer.specs.declared.Answer.TheVariants as answer
+use Rattle.frame.specs.declared.refusal.Refusal.{Refusal}
+use Rattle.frame.specs.Refusals.{number_of}
+use Rattle.run_answer.specs.declared.Report.{Report}
 use Rattle.run_answer.specs.Answers.{run_report}
 use Rattle.printing.specs.Turns.{Standing, gathered, turns_from, lines_of}
 use Rattle.print_pieces.specs.declared.Piece.{Piece}
 
 -- which line comes first for an answer
-abbrev pub answer_line : Answer → List ℕ
-answer_line (answer.Ran r) = head_of r.islands r.turns r.takes r.degree
-answer_line (answer.Refused n) = refusal_line n
+abbrev pub answer_line : Result Report Refusal → List ℕ
+answer_line (Ok r) = head_of r.islands r.turns r.takes r.degree
+answer_line (Err n) = refusal_line (number_of n)
 
 -- the answer to the input bs, and the turn table at entry and at exit
-pub record InputAnswered (bs ts ts' : List ℕ) (r : Answer) : Type 0 where
+pub record InputAnswered (bs ts ts' : List ℕ) (r : Result Report Refusal) : Type 0 where
   pub line : answer_line r ≡ first_line (answer_to bs)
   pub turns : (run_report r).turns ≡ (answer_to bs).turns
   pub table : ts' ≡ over (answer_to bs).table ts

@@ -11,8 +11,8 @@ ghost use Rattle.printing.specs.Turns.{Standing, Placed, Lines};
 ghost use Rattle.writer.specs.Wrote.{Wrote, SameBytes};
 ghost use Rattle.print_pieces.specs.Pieces.{answer_line, InputAnswered, PiecePlaced, FirstPiece, NextPiece};
 
-use frame::Frame;
-use run_answer::Answer;
+use frame::{Frame, Refusal};
+use run_answer::Report;
 use writer::Writer;
 
 // The program's buffers: the input, with one byte more than a frame can have; the turn table of the largest frame; the places of its
@@ -47,12 +47,12 @@ pub struct Piece {
 }
 
 // The answer to an input, with its turns in the turn table.
-fn answer_to(frame: &[u8], turns: &mut [u16]) -> Answer
+fn answer_to(frame: &[u8], turns: &mut [u16]) -> Result<Report, Refusal>
     requires { 24576 ≤ length turns.old }
     ensures { InputAnswered frame.now turns.old turns.new result }
 {
     if Frame::MAX_BYTES < frame.len() {
-        return Answer::Refused(3);
+        return Err(Refusal::TooMany);
     }
     standalone_run::run_file(frame, turns)
 }
@@ -69,21 +69,19 @@ fn place_joints(frame: &[u8], places: &mut [u16])
 }
 
 // The line that comes first for an answer.
-fn put_first_line(text: &mut Writer<'_>, answer: Answer)
+fn put_first_line(text: &mut Writer<'_>, answer: Result<Report, Refusal>)
     requires { text.old.at + longest ≤ length text.old.out.now }
     ensures { Wrote (answer_line answer) text.old text.new }
 {
     match answer {
-        Answer::Refused(number) => printing::put_refusal(text, number as usize),
-        Answer::Ran(report) => {
-            printing::put_head(
-                text,
-                report.islands,
-                report.turns,
-                report.takes,
-                report.degree,
-            )
-        }
+        Err(refusal) => printing::put_refusal(text, usize::from(refusal.number())),
+        Ok(report) => printing::put_head(
+            text,
+            report.islands,
+            report.turns,
+            report.takes,
+            report.degree,
+        ),
     }
 }
 
@@ -129,7 +127,7 @@ pub fn first_piece(
     ensures placed { PiecePlaced frame.now result places.new }
 {
     let answer = answer_to(frame, turns);
-    let count = run_answer::report_of(answer).turns;
+    let count = answer.unwrap_or_default().turns;
     if 0 < count {
         place_joints(frame, places);
     }

@@ -1,13 +1,10 @@
 -- The sizes of a file that was read, and the answer of one that was not.
-use Rattle.std.proofs.Common.{ℕ, ◌≤◌, ◌≡◌, List, Ok, Err, refl, Bool, true, false, cond, sym, arith}
-use Rattle.frame.specs.Questions.{asked}
+use Rattle.std.proofs.Common.{ℕ, ◌≤◌, ◌≡◌, List, Ok, refl, Bool, true, false, cond, sym}
 use denote.Enum.Bare.{sameb}
-use Rattle.lists.proofs.Laws.{by_cases}
 use Rattle.frame.specs.contracts.Version.{the_type}
 use Rattle.frame.specs.declared.Version.TheVariants.{First, Second}
-use Rattle.frame.specs.Files.{second, file_questions}
+use Rattle.frame.specs.Files.{second}
 use Rattle.frame.specs.declared.Frame.{Frame}
-use Rattle.frame.specs.declared.refusal.Refusal.{Refusal}
 use Rattle.frame.specs.Answers.{sizes_of, Read}
 use Rattle.frame.proofs.Files.{file_sized}
 

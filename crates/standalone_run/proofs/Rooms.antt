@@ -1,5 +1,5 @@
 -- Tables of the largest sizes have room for every frame that passes questions 1 to 5, so that question 6 is left of the turn table.
-use Rattle.std.proofs.Common.{ℕ, ◌+◌, ◌≤◌, ◌≡◌, ◌∙◌, Bool, true, List, arith, eqb, length, le-leb, eqb-true}
+use Rattle.std.proofs.Common.{ℕ, ◌+◌, ◌≤◌, ◌≡◌, ◌∙◌, Bool, true, List, Result, arith, eqb, length, le-leb, eqb-true}
 use Rattle.std.proofs.Math.Bool.{and-true}
 use Rattle.lists.proofs.Laws.{by_cases}
 use Rattle.frame.specs.Questions.{asked}
@@ -7,9 +7,10 @@ use Rattle.frame.specs.Files.{second, count_b, count_m, count_j, file_questions}
 use Rattle.plan_questions.specs.Plans as plans
 use Rattle.plan_questions.proofs.Rooms.{with_fitted}
 use Rattle.schedules.specs.Runs.{run_refusal, run_of}
-use Rattle.run_answer.specs.declared.Answer.{Answer}
-use Rattle.run_answer.specs.Answers.{entries_for, counts_room}
-use Rattle.frame_run.specs.Calls.{Lent, roomy_for, roomy_in, Ran}
+use Rattle.frame.specs.declared.refusal.Refusal.{Refusal}
+use Rattle.run_answer.specs.declared.Report.{Report}
+use Rattle.run_answer.specs.Lent.{Lent, entries_for, counts_room, roomy_for}
+use Rattle.frame_run.specs.Calls.{roomy_in, Ran}
 use Rattle.frame_run.proofs.Runs.{all_asked}
 use Rattle.frame.proofs.Files.{file_sized}
 use Rattle.standalone_run.specs.Runs.{roomy_turns, RanAlone}
@@ -102,7 +103,7 @@ module _ (bs : List ℕ) (l : Lent) (h : Ample l) where
   unfolding run_of
   run_same = rw refusal-same
 
-  pub ran_alone : (m : Lent) (r : Answer) → Ran bs l m r → RanAlone bs l.turns m.turns r
+  pub ran_alone : (m : Lent) (r : Result Report Refusal) → Ran bs l m r → RanAlone bs l.turns m.turns r
   ran_alone m r a = record {
     refusal = a.refusal ∙ refusal-same;
     refused = a.refused ∙ rw refusal-same;

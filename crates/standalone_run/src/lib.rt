@@ -3,14 +3,17 @@
 
 ghost use Rattle.standalone_run.specs.Runs.{RanAlone};
 
-use frame::Frame;
-use run_answer::Answer;
+use frame::{Frame, Refusal};
+use frame_tables::{ByIsland, FrameTables};
+use island::IslandTables;
+use plan_questions::PlanTables;
+use run_answer::Report;
 
 // How many endpoint entries the largest frame needs: two for each manifold, four for each joint.
 const ENTRIES: usize = 2 * Frame::MAX_MANIFOLDS + Frame::MAX_ENDS * Frame::MAX_JOINTS;
 
 // Question 6 is left of the turn table alone.
-pub fn run_file(file: &[u8], turns: &mut [u16]) -> Answer
+pub fn run_file(file: &[u8], turns: &mut [u16]) -> Result<Report, Refusal>
     ensures { RanAlone file.now turns.old turns.new result }
 {
     let mut parents = [0u16; Frame::MAX_BODIES];
@@ -42,35 +45,47 @@ pub fn run_file(file: &[u8], turns: &mut [u16]) -> Answer
     let mut constraint_body_positions = [0u16; ENTRIES];
     // The largest tables: none has more than 64 KiB.
     prove!(2 * pairs.len() <= 65536);
+    let mut islands = IslandTables {
+        parents: &mut parents,
+        sizes: &mut sizes,
+        body_islands: &mut body_islands,
+        manifold_islands: &mut manifold_islands,
+        joint_islands: &mut joint_islands,
+    };
+    let mut tables = FrameTables {
+        types: &mut types,
+        flags: &mut flags,
+        pairs: &mut pairs,
+        counts: &mut counts,
+        enabled: &mut enabled,
+    };
+    let mut by_island = ByIsland {
+        numbers: &mut numbers,
+        pairs: &mut island_pairs,
+        counts: &mut island_counts,
+    };
+    let mut plan = PlanTables {
+        dynamic_bodies: &mut dynamic_bodies,
+        endpoints: &mut endpoints,
+        body_offsets: &mut body_offsets,
+        body_constraints: &mut body_constraints,
+        scratch_offsets: &mut scratch_offsets,
+        constraint_colors: &mut constraint_colors,
+        color_stamps: &mut color_stamps,
+        body_stamps: &mut body_stamps,
+        color_offsets: &mut color_offsets,
+        colored_constraints: &mut colored_constraints,
+        color_body_offsets: &mut color_body_offsets,
+        color_bodies: &mut color_bodies,
+        constraint_body_positions: &mut constraint_body_positions,
+    };
     frame_run::run(
         file,
-        &mut parents,
-        &mut sizes,
-        &mut body_islands,
-        &mut manifold_islands,
-        &mut joint_islands,
+        &mut islands,
         turns,
-        &mut types,
-        &mut flags,
-        &mut pairs,
-        &mut island_pairs,
-        &mut counts,
-        &mut island_counts,
-        &mut enabled,
-        &mut numbers,
-        &mut dynamic_bodies,
-        &mut endpoints,
+        &mut tables,
+        &mut by_island,
+        &mut plan,
         &mut plan_counts,
-        &mut body_offsets,
-        &mut body_constraints,
-        &mut scratch_offsets,
-        &mut constraint_colors,
-        &mut color_stamps,
-        &mut body_stamps,
-        &mut color_offsets,
-        &mut colored_constraints,
-        &mut color_body_offsets,
-        &mut color_bodies,
-        &mut constraint_body_positions,
     )
 }

@@ -1,8 +1,12 @@
--- `run` asks questions 1 to 6 of the file and of the lengths of its tables, and leaves the rest to `run_asked`.
-use Rattle.plan_questions.specs.Plans.{roomy_with}
-use Rattle.frame_run.specs.Calls.{roomy_for}
+-- `run`: a refusal by questions 1 to 6 is the run's and changes nothing; otherwise the tables have room, and are cut to the sizes that were read.
+use Rattle.std.proofs.lemmas.Result.{err_from_is_err_and}
+use Rattle.frame_run.proofs.Entry.{stopped_run, cuttable}
 use Rattle.frame_run.proofs.run.Goals as goal
 
-pub run_asked-requires : goal.run_asked-requires
-unfolding roomy_for roomy_with
-run_asked-requires c = c.ask-asked.ensures
+pub returns-in_err-asked-clause-ran : goal.returns-in_err-asked-clause-ran
+returns-in_err-asked-clause-ran c =
+    let p = err_from_is_err_and c.from_residual.result c.from_residual.ensures.1 in
+    rw (p.1, p.2) (stopped_run _ _ _ c.in_err-asked.ensures)
+
+pub run_cut-requires : goal.run_cut-requires
+run_cut-requires c = cuttable _ _ _ c.in_ok-asked.ensures

@@ -1,50 +1,55 @@
 -- `run_sized`: the filling leaves the frame's tables, so that the islands can be run; the plan's tables keep their lengths.
-use Rattle.std.proofs.Common.{refl, arith}
-use Rattle.plan_questions.specs.Plans.{tables_of}
+use Rattle.std.proofs.Common.{ℕ, ◌+◌, ◌*◌, ◌≡◌, ◌++◌, sym, subst, arith, length, take, drop, length-take-le, take_at}
+use Rattle.island.specs.Lent as island_lent
+use Rattle.plan_questions.specs.Lent as plan_lent
+use Rattle.island_run.proofs.Rooms.{lengths_same}
+use Rattle.frame_run.specs.Sized.{RoomySized}
+use Rattle.frame_run.proofs.Entry.{counts_worn}
 use Rattle.frame_run.proofs.Runs.{roomy_of, prepared_cut, room_cut, types_are_known, ran}
 use Rattle.frame_run.proofs.run_sized.Goals as goal
 
 pub fill-filling-requires-clause-roomy : goal.fill-filling-requires-clause-roomy
-fill-filling-requires-clause-roomy c =
-    roomy_of _ _ _ _ _ _
-    (tables_of c.args.dynamic_bodies.now c.args.endpoints.now c.args.body_offsets.now c.args.body_constraints.now c.args.scratch_offsets.now c.args.constraint_colors.now c.args.color_stamps.now c.args.body_stamps.now c.args.color_offsets.now c.args.colored_constraints.now c.args.color_body_offsets.now c.args.color_bodies.now c.args.constraint_body_positions.now)
-    _ c.requires.roomy_sized
+fill-filling-requires-clause-roomy c = roomy_of _ _ _ _ _ _ (plan_lent.tables_in c.args.plan.now) _ c.requires.roomy_sized
 
 pub run_islands-tally-requires-clause-prepared : goal.run_islands-tally-requires-clause-prepared
 run_islands-tally-requires-clause-prepared c =
     let f = c.fill-filling in
-    let r = c.requires.roomy_sized in
-    prepared_cut c.args.frame.now c.requires.decodable.file f.new.types f.new.flags f.new.pairs f.new.counts f.new.enabled _ _ f.new.numbers f.result f.ensures
-    _ _ _ _ _ _ _ _ r
-    (record {
-      dynamic_bodies = refl;
-      endpoints = refl;
-      body_offsets = refl;
-      body_constraints = refl;
-      scratch_offsets = f.auto.scratch_offsets;
-      constraint_colors = f.auto.keys;
-      color_stamps = refl;
-      body_stamps = f.auto.on_bodies;
-      color_offsets = f.auto.offsets;
-      colored_constraints = refl;
-      color_body_offsets = refl;
-      color_bodies = refl;
-      constraint_body_positions = refl;
-    })
-    (omega (arith, f.auto.manifold_islands, r.islands.manifold_islands)) (omega (arith, f.auto.joint_islands, r.islands.joint_islands))
-    c.args.manifolds c.requires.decodable.manifolds
+    let v = c.view_of-seen.ensures in
+    let k = c.requires.cut_to in
+    let r = subst (λ (n : ℕ). RoomySized c.args.frame.now (island_lent.tables_in c.args.islands.now) c.args.turns.now (take (2 * c.args.asked.manifolds + c.args.asked.joint_ends) c.args.island_pairs.now) (take n c.args.island_counts.now) (take (c.args.asked.manifolds + c.args.asked.joints) c.args.numbers.now) (plan_lent.tables_in c.args.plan.now) (take n c.args.plan_counts.now)) (sym c.counts_room-counted.ensures) c.requires.roomy_sized in
+    let n = c.args.asked.manifolds + c.args.asked.joints in
+    let t : length (take n c.args.numbers.now) ≡ n = length-take-le n c.args.numbers.now k.numbers in
+    let e : take n (f.new.numbers ++ drop n c.args.numbers.now) ≡ f.new.numbers = take_at f.new.numbers (drop n c.args.numbers.now) n (omega (arith, f.auto.numbers, t)) in
+    rw (c.count_of.ensures, v.flags, v.counts, v.ends, c.labels_in.ensures, e)
+    (prepared_cut c.args.frame.now c.requires.decodable.file f.new.tables.types.now f.new.tables.flags.now f.new.tables.pairs.now f.new.tables.counts.now f.new.tables.enabled.now _ _ f.new.numbers f.result f.ensures.filled
+    _ _ _ _ _ _ _ _ r (lengths_same f.ensures.plan_lengths)
+    (omega (arith, f.ensures.same_islands.long_manifold_islands, r.islands.manifold_islands)) (omega (arith, f.ensures.same_islands.long_joint_islands, r.islands.joint_islands))
+    c.args.asked.manifolds c.args.asked.joints k.manifolds k.joints)
 
 pub run_islands-tally-requires-clause-room : goal.run_islands-tally-requires-clause-room
 run_islands-tally-requires-clause-room c =
     let f = c.fill-filling in
-    room_cut c.args.frame.now c.requires.decodable.file f.new.types f.new.flags f.new.pairs f.new.counts f.new.enabled _ _ f.new.numbers f.result f.ensures c.args.manifolds c.requires.decodable.manifolds _ c.requires.roomy_sized.turns
+    let v = c.view_of-seen.ensures in
+    let k = c.requires.cut_to in
+    rw (c.count_of.ensures, v.types, v.flags, v.counts, v.ends, c.labels_in.ensures)
+    (room_cut c.args.frame.now c.requires.decodable.file f.new.tables.types.now f.new.tables.flags.now f.new.tables.pairs.now f.new.tables.counts.now f.new.tables.enabled.now _ _ f.new.numbers f.result f.ensures.filled c.args.asked.manifolds c.args.asked.joints k.manifolds k.joints _ c.requires.roomy_sized.turns)
 
 pub run_islands-tally-requires-clause-known : goal.run_islands-tally-requires-clause-known
 run_islands-tally-requires-clause-known c =
     let f = c.fill-filling in
-    types_are_known c.args.frame.now c.requires.decodable.file f.new.types f.new.flags f.new.pairs f.new.counts f.new.enabled _ _ f.new.numbers f.result f.ensures
+    rw c.view_of-seen.ensures.types
+    (types_are_known c.args.frame.now c.requires.decodable.file f.new.tables.types.now f.new.tables.flags.now f.new.tables.pairs.now f.new.tables.counts.now f.new.tables.enabled.now _ _ f.new.numbers f.result f.ensures.filled)
 
-pub returns : goal.returns
-returns c =
+pub returns-clause-ran : goal.returns-clause-ran
+returns-clause-ran c =
     let f = c.fill-filling in
-    ran c.args.frame.now c.requires.decodable.file f.new.types f.new.flags f.new.pairs f.new.counts f.new.enabled _ _ f.new.numbers f.result f.ensures c.args.manifolds c.requires.decodable.manifolds _ _ _ _ c.run_islands-tally.ensures.appended c.answer_of.ensures
+    let v = c.view_of-seen.ensures in
+    let k = c.requires.cut_to in
+    ran c.args.frame.now c.requires.decodable.file f.new.tables.types.now f.new.tables.flags.now f.new.tables.pairs.now f.new.tables.counts.now f.new.tables.enabled.now _ _ f.new.numbers f.result f.ensures.filled c.args.asked.manifolds c.args.asked.joints k.manifolds k.joints _ _ _ _
+    (rw (c.count_of.ensures, v.types, v.flags, v.counts, v.ends, c.labels_in.ensures) at c.run_islands-tally.ensures.appended) c.answer_of.ensures
+
+pub returns-clause-worn_islands : goal.returns-clause-worn_islands
+returns-clause-worn_islands c = counts_worn c.args.asked.counted c.args.asked.manifolds c.args.asked.joints _ _ _ c.counts_room-counted.ensures c.run_islands-tally.auto.island_counts
+
+pub returns-clause-worn_plan : goal.returns-clause-worn_plan
+returns-clause-worn_plan c = counts_worn c.args.asked.counted c.args.asked.manifolds c.args.asked.joints _ _ _ c.counts_room-counted.ensures c.run_islands-tally.auto.plan_counts

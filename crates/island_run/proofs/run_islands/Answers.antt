@@ -9,29 +9,29 @@ use Rattle.island_run.proofs.run_islands.Goals.{After-part_end-end, After-count_
 
 -- what is known of the island's part: it lies inside the numbers, its counts are those between, its endpoints lie inside the endpoints
 below : (c : After-part_end-end) → c.loop-island.start ≤ c.part_end-end.result
-below c = omega (arith, part_count c.requires.prepared c.loop-island-test.true c.loop-island.invariant.1 c.part_end-end.ensures)
+below c = omega (arith, part_count c.requires.prepared (omega arith) c.loop-island.invariant.0 c.part_end-end.ensures)
 
-inside : (c : After-part_end-end) → c.part_end-end.result ≤ length c.args.numbers.now
-inside c = part_inside c.requires.prepared c.loop-island-test.true c.loop-island.invariant.1 c.part_end-end.ensures
+inside : (c : After-part_end-end) → c.part_end-end.result ≤ length c.args.filled.numbers.now
+inside c = part_inside c.requires.prepared (omega arith) c.loop-island.invariant.0 c.part_end-end.ensures
 
-counts : (c : After-count_ends) → c.counts_between-part_counts.result.now ≡ counts_among c.args.counts.now (take (c.part_end-end.result - c.loop-island.start) (drop c.loop-island.start c.args.numbers.now))
-counts c = c.counts_between-part_counts.ensures ∙ counts_taken c.requires.prepared c.loop-island-test.true c.loop-island.invariant.1 c.part_end-end.ensures c.collect.ensures.1
+counts : (c : After-count_ends) → c.counts_between-counts.result.now ≡ counts_among c.args.filled.counts.now (take (c.part_end-end.result - c.loop-island.start) (drop c.loop-island.start c.args.filled.numbers.now))
+counts c = c.counts_between-counts.ensures ∙ counts_taken c.requires.prepared (omega arith) c.loop-island.invariant.0 c.part_end-end.ensures c.collect.ensures.1
 
 there : (c : After-count_ends) → c.loop-island.ends_start + c.count_ends.result ≤ length c.collect.new.island_ends
 there c =
-    ends_there c.requires.prepared c.loop-island-test.true c.loop-island.invariant.1 c.part_end-end.ensures
-    (counts c) c.collect.ensures.0 c.loop-island.invariant.2 c.count_ends.ensures
+    ends_there c.requires.prepared (omega arith) c.loop-island.invariant.0 c.part_end-end.ensures
+    (counts c) c.collect.ensures.0 c.loop-island.invariant.1 c.count_ends.ensures
 
 pub loop-island-init : goal.loop-island-init
-loop-island-init c = (omega arith, sym (ap length (flatten-zero _)), first-ends _ _, rw c.no_turns-tally.ensures (going_first (islands-first _ _ _ _ _ _)), search rules, search rules)
+loop-island-init c = (sym (ap length (flatten-zero _)), first-ends _ _, rw c.no_turns-tally.ensures (going_first (islands-first _ _ _ _ _ _)), search rules, search rules)
 
-pub counts_between-part_counts-requires : goal.counts_between-part_counts-requires
-counts_between-part_counts-requires c = counts_there c.requires.prepared c.loop-island-test.true c.loop-island.invariant.1 c.part_end-end.ensures c.collect.ensures.1
+pub counts_between-counts-requires : goal.counts_between-counts-requires
+counts_between-counts-requires c = counts_there c.requires.prepared (omega arith) c.loop-island.invariant.0 c.part_end-end.ensures c.collect.ensures.1
 
 pub count_ends-requires : goal.count_ends-requires
 count_ends-requires c = (
-  part-few c.requires.prepared c.loop-island-test.true c.loop-island.invariant.1 c.part_end-end.ensures,
-  omega (arith, ap length c.counts_between-part_counts.ensures, counts-few c.requires.prepared c.loop-island-test.true c.loop-island.invariant.1 c.part_end-end.ensures c.collect.ensures.1),
+  part-few c.requires.prepared (omega arith) c.loop-island.invariant.0 c.part_end-end.ensures,
+  omega (arith, ap length c.counts_between-counts.ensures, counts-few c.requires.prepared (omega arith) c.loop-island.invariant.0 c.part_end-end.ensures c.collect.ensures.1),
 )
 
 pub overflow_add-ends_end : goal.overflow_add-ends_end
@@ -40,38 +40,37 @@ overflow_add-ends_end c = omega (arith, there (goal.at.overflow_add-ends_end c).
 pub offset_bounds-island_ends-ends_start : goal.offset_bounds-island_ends-ends_start
 offset_bounds-island_ends-ends_start c = omega (arith, there (goal.at.offset_bounds-island_ends-ends_start c).After-count_ends)
 
-pub slice_bounds-run_island-end : goal.slice_bounds-run_island-end
-slice_bounds-run_island-end c = there (goal.at.slice_bounds-run_island-end c).After-count_ends
+pub slice_bounds-part-end : goal.slice_bounds-part-end
+slice_bounds-part-end c = there (goal.at.slice_bounds-part-end c).After-count_ends
 
-pub offset_bounds-numbers-start : goal.offset_bounds-numbers-start
-offset_bounds-numbers-start c =
-    let e = (goal.at.offset_bounds-numbers-start c).After-part_end-end in
+pub offset_bounds-filled-start : goal.offset_bounds-filled-start
+offset_bounds-filled-start c =
+    let e = (goal.at.offset_bounds-filled-start c).After-part_end-end in
     omega (arith, below e, inside e)
 
-pub slice_bounds-run_island-end-in-loop-island : goal.slice_bounds-run_island-end-in-loop-island
-slice_bounds-run_island-end-in-loop-island c = inside (goal.at.slice_bounds-run_island-end-in-loop-island c).After-part_end-end
+pub slice_bounds-part-end-in-loop-island : goal.slice_bounds-part-end-in-loop-island
+slice_bounds-part-end-in-loop-island c = inside (goal.at.slice_bounds-part-end-in-loop-island c).After-part_end-end
 
 pub run_island-tally-requires-clause-ready : goal.run_island-tally-requires-clause-ready
 run_island-tally-requires-clause-ready c =
-    ready c.requires.prepared c.loop-island-test.true c.loop-island.invariant.1 c.part_end-end.ensures
-    (counts (goal.at.run_island-tally-requires-clause-ready c).After-count_ends) c.collect.ensures.0 c.loop-island.invariant.2 c.count_ends.ensures _ _
-    (lengths_same c.loop-island.invariant.5) c.loop-island.auto.plan_counts
+    ready c.requires.prepared (omega arith) c.loop-island.invariant.0 c.part_end-end.ensures
+    (counts (goal.at.run_island-tally-requires-clause-ready c).After-count_ends) c.collect.ensures.0 c.loop-island.invariant.1 c.count_ends.ensures _ _
+    (lengths_same c.loop-island.invariant.4) c.loop-island.auto.plan_counts
 
 pub run_island-tally-requires-clause-room : goal.run_island-tally-requires-clause-room
 run_island-tally-requires-clause-room c =
-    going_room c.requires.room c.loop-island.invariant.3 _ _
-    (island_next c.requires.prepared c.loop-island-test.true c.loop-island.invariant.1 c.part_end-end.ensures
-    (counts (goal.at.run_island-tally-requires-clause-room c).After-count_ends) c.collect.ensures.0 c.loop-island.invariant.2 c.count_ends.ensures _)
+    going_room c.requires.room c.loop-island.invariant.2 _ _
+    (island_next c.requires.prepared (omega arith) c.loop-island.invariant.0 c.part_end-end.ensures
+    (counts (goal.at.run_island-tally-requires-clause-room c).After-count_ends) c.collect.ensures.0 c.loop-island.invariant.1 c.count_ends.ensures _)
 
 pub loop-island-preserved : goal.loop-island-preserved
 loop-island-preserved c =
     let pc = counts (goal.at.loop-island-preserved c).After-count_ends in (
-      omega arith,
-      next_start c.requires.prepared c.loop-island-test.true c.loop-island.invariant.1 c.part_end-end.ensures,
-      ends_next c.requires.prepared c.loop-island-test.true c.loop-island.invariant.1 c.part_end-end.ensures pc c.collect.ensures.0 c.loop-island.invariant.2 c.count_ends.ensures,
-      going_more c.requires.room c.loop-island.invariant.3 _ _ _ _
-          (island_next c.requires.prepared c.loop-island-test.true c.loop-island.invariant.1 c.part_end-end.ensures pc c.collect.ensures.0 c.loop-island.invariant.2 c.count_ends.ensures _)
+      next_start c.requires.prepared (omega arith) c.loop-island.invariant.0 c.part_end-end.ensures,
+      ends_next c.requires.prepared (omega arith) c.loop-island.invariant.0 c.part_end-end.ensures pc c.collect.ensures.0 c.loop-island.invariant.1 c.count_ends.ensures,
+      going_more c.requires.room c.loop-island.invariant.2 _ _ _ _
+          (island_next c.requires.prepared (omega arith) c.loop-island.invariant.0 c.part_end-end.ensures pc c.collect.ensures.0 c.loop-island.invariant.1 c.count_ends.ensures _)
           c.run_island-tally.ensures.appended,
-      same_twice c.loop-island.invariant.4 c.run_island-tally.ensures.same_tables,
-      c.run_island-tally.ensures.same_lengths ∙ c.loop-island.invariant.5,
+      same_twice c.loop-island.invariant.3 c.run_island-tally.ensures.same_tables,
+      c.run_island-tally.ensures.same_lengths ∙ c.loop-island.invariant.4,
     )

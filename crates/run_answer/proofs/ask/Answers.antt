@@ -3,18 +3,21 @@ use Rattle.std.proofs.Common.{◌∙◌, rules}
 use Rattle.run_answer.proofs.Sizes.{few_constraints, sizes_known, version_known}
 use Rattle.run_answer.proofs.ask.Goals as goal
 
-pub entries_for-entries-requires : goal.entries_for-entries-requires
-entries_for-entries-requires c = few_constraints _ _ c.in-Ok.ensures
+pub has_room_for-requires : goal.has_room_for-requires
+has_room_for-requires c = few_constraints _ _ (rw c.in_ok-read.was at c.read.ensures)
 
-pub counts_room-requires : goal.counts_room-requires
-counts_room-requires c = few_constraints _ _ c.in-Ok.ensures
-
-pub roomy_for-room-requires : goal.roomy_for-room-requires
-roomy_for-room-requires c = few_constraints _ _ c.in-Ok.ensures
+pub returns-then-not-has_room_for : goal.returns-then-not-has_room_for
+returns-then-not-has_room_for c =
+    let h = rw c.in_ok-read.was at c.read.ensures in
+    let read = h.refusal in
+    let sizes = sizes_known _ _ h in
+    let version = c.eq.ensures ∙ version_known _ _ h in
+    search rules
 
 pub returns : goal.returns
 returns c =
-    let read = c.in-Ok.ensures.refusal in
-    let sizes = sizes_known _ _ c.in-Ok.ensures in
-    let version = c.eq-counted.ensures ∙ version_known _ _ c.in-Ok.ensures in
+    let h = rw c.in_ok-read.was at c.read.ensures in
+    let read = h.refusal in
+    let sizes = sizes_known _ _ h in
+    let version = c.eq.ensures ∙ version_known _ _ h in
     search rules

@@ -2,7 +2,7 @@
 use Rattle.std.proofs.Common.{ℕ, ◌≤◌, List, arith, length, replicate}
 use Rattle.std.proofs.Math.ListN.{length-replicate}
 use Rattle.island.specs.Calls.{island_tables_of}
-use Rattle.frame_run.specs.Calls.{Lent}
+use Rattle.run_answer.specs.Lent.{Lent}
 use Rattle.standalone_run.proofs.Rooms.{Ample, ran_alone}
 use Rattle.standalone_run.proofs.run_file.Goals as goal
 
@@ -76,4 +76,4 @@ ample ts = record {
 }
 
 pub returns : goal.returns
-returns c = ran_alone _ (own c.args.turns.now) (ample c.args.turns.now) _ _ c.run.ensures
+returns c = ran_alone _ (own c.args.turns.now) (ample c.args.turns.now) _ _ c.run.ensures.ran
