@@ -2,7 +2,8 @@
 // (none is 65535), and the parent of body 0 with the size there.
 #![tactic(auto)]
 
-use island::Answer;
+use frame::{Lists, Refusal};
+use island::IslandTables;
 use std::{array, io};
 
 // As many bodies as a frame may have, and one more; the joints have the same limit.
@@ -79,13 +80,8 @@ fn print_first_set(rt: &impl Print, parents: &[u16], sizes: &[u16]) -> io::Resul
 }
 
 // What a frame of islands shows.
-fn print_islands(
-    rt: &impl Print,
-    islands: u16,
-    parents: &[u16],
-    sizes: &[u16],
-    labels: &[u16],
-) -> io::Result<()> {
+fn print_islands(rt: &impl Print, islands: u16, tables: &IslandTables<'_>) -> io::Result<()> {
+    let labels = &tables.body_islands;
     print!(rt; " islands {islands}")?;
     if let Some(last) = labels.last() {
         print!(rt; " last {last}")?;
@@ -94,33 +90,29 @@ fn print_islands(
         .iter()
         .fold(0, |sum, x| u32::from(*x).wrapping_add(sum));
     print!(rt; " sum {sum}")?;
-    print_first_set(rt, parents, sizes)
+    print_first_set(rt, tables.parents, tables.sizes)
 }
 
 // The line of one frame, on tables of these lengths; `build` is the call.
 fn show<F>(rt: &impl Print, name: &str, room: Room, build: F) -> io::Result<()>
 where
-    F: FnOnce(&mut [u16], &mut [u16], &mut [u16], &mut [u16], &mut [u16]) -> Answer + Drop,
+    F: FnOnce(&mut IslandTables<'_>) -> Result<u16, Refusal> + Drop,
     requires { F.IsAlwaysCallable build }
 {
     let (mut parents, mut sizes, mut body_islands) = ([0; TOO_MANY], [0; TOO_MANY], [0; TOO_MANY]);
     let (mut manifold_islands, mut joint_islands) = ([0; TOO_MANY], [0; TOO_MANY]);
-    let parents = first(&mut parents, room.parents);
-    let sizes = first(&mut sizes, room.sizes);
-    let body_islands = first(&mut body_islands, room.bodies);
-    let manifold_islands = first(&mut manifold_islands, room.manifolds);
-    let joint_islands = first(&mut joint_islands, room.joints);
-    let answer = build(
-        parents,
-        sizes,
-        body_islands,
-        manifold_islands,
-        joint_islands,
-    );
+    let mut tables = IslandTables {
+        parents: first(&mut parents, room.parents),
+        sizes: first(&mut sizes, room.sizes),
+        body_islands: first(&mut body_islands, room.bodies),
+        manifold_islands: first(&mut manifold_islands, room.manifolds),
+        joint_islands: first(&mut joint_islands, room.joints),
+    };
+    let answer = build(&mut tables);
     print!(rt; "{name}")?;
     match answer {
-        Answer::Islands(islands) => print_islands(rt, islands, parents, sizes, body_islands)?,
-        Answer::Refused(number) => print!(rt; " refused {number}")?,
+        Ok(islands) => print_islands(rt, islands, &tables)?,
+        Err(refusal) => print!(rt; " refused {}", refusal.number())?,
     }
     println!(rt; "")
 }
@@ -137,16 +129,7 @@ fn show_manifolds(
         rt,
         name,
         room,
-        |parents, sizes, body_islands, manifold_islands, _| {
-            island::build(
-                types,
-                manifolds,
-                parents,
-                sizes,
-                body_islands,
-                manifold_islands,
-            )
-        },
+        |tables| island::build(types, manifolds, tables),
     )
 }
 
@@ -155,27 +138,22 @@ fn show_joints(
     rt: &impl Print,
     name: &str,
     types: &[u8],
-    joints: &[u16],
+    joint_ends: &[u16],
     enabled: &[u8],
     room: Room,
 ) -> io::Result<()> {
+    let lists = Lists {
+        types,
+        manifolds: &[],
+        joint_ends,
+        joint_counts: &[],
+        enabled,
+    };
     show(
         rt,
         name,
         room,
-        |parents, sizes, body_islands, manifold_islands, joint_islands| {
-            island::build_with_joints(
-                types,
-                &[],
-                joints,
-                enabled,
-                parents,
-                sizes,
-                body_islands,
-                manifold_islands,
-                joint_islands,
-            )
-        },
+        |tables| island::build_with_joints(lists, tables),
     )
 }
 
@@ -184,30 +162,21 @@ fn show_fours(
     rt: &impl Print,
     name: &str,
     types: &[u8],
-    ends: &[u16],
-    counts: &[u8],
+    joint_ends: &[u16],
+    joint_counts: &[u8],
     enabled: &[u8],
 ) -> io::Result<()> {
-    let room = Room::exact(types.len(), 0, counts.len());
-    show(
-        rt,
-        name,
-        room,
-        |parents, sizes, body_islands, manifold_islands, joint_islands| {
-            island::build_with_multi_joints(
-                types,
-                &[],
-                ends,
-                counts,
-                enabled,
-                parents,
-                sizes,
-                body_islands,
-                manifold_islands,
-                joint_islands,
-            )
-        },
-    )
+    let lists = Lists {
+        types,
+        manifolds: &[],
+        joint_ends,
+        joint_counts,
+        enabled,
+    };
+    let room = Room::exact(types.len(), 0, joint_counts.len());
+    show(rt, name, room, |tables| {
+        island::build_with_multi_joints(lists, tables)
+    })
 }
 
 // 4,096 bodies in one chain, and 4,095 on one static body.
