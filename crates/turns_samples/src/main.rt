@@ -2,35 +2,37 @@
 // high one first.
 #![tactic(auto)]
 
-// Standard input, by its file descriptor.
-const STDIN: i32 = 0;
+use print_pieces::INPUT;
+use std::io;
+use std::io::{ErrorKind, Read};
 
-fn length_of(high: u8, middle: u8, low: u8) -> usize {
-    65536 * high as usize + 256 * middle as usize + low as usize
+// The next input's length.
+fn read_length(input: &mut impl Read) -> io::Result<usize> {
+    let mut length = [0; 3];
+    input.read_exact(&mut length)?;
+    let [high, middle, low] = length;
+    Ok(65536 * usize::from(high) + 256 * usize::from(middle) + usize::from(low))
 }
 
-fn print_next(frame: &mut [u8]) {
-    let size = io::read_full(STDIN, frame);
-    frame_print::print_frame(&frame[..size]);
-}
-
-// An input of a stated length, as far as it goes.
-fn print_sample(stated: usize) {
-    let mut frame = [0u8; print_pieces::INPUT];
-    if stated <= print_pieces::INPUT {
-        print_next(&mut frame[..stated]);
+// Reads the next input and prints what `turns` writes for it.
+fn print_next(input: &mut impl Read) -> io::Result<()> {
+    let length = read_length(input)?;
+    if INPUT < length {
+        return Err(io::Error::new(ErrorKind::InvalidData, "too long an input"));
     }
+    let mut room = [0; INPUT];
+    let frame = &mut room[..length];
+    input.read_exact(frame)?;
+    frame_print::print_frame(frame);
+    Ok(())
 }
 
-fn main() {
-    let mut first = [0u8; 1];
-    io::read_full(STDIN, &mut first);
-    let mut left = first[0];
-    // `left` inputs are still to be read and printed.
-    while 0 < left {
-        let mut length = [0u8; 3];
-        io::read_full(STDIN, &mut length);
-        print_sample(length_of(length[0], length[1], length[2]));
-        left -= 1;
+fn main(rt: HostRuntime) -> io::Result<()> {
+    let mut input = rt.reader();
+    let mut count = [0; 1];
+    input.read_exact(&mut count)?;
+    for _ in 0..count[0] {
+        print_next(&mut input)?;
     }
+    Ok(())
 }
