@@ -4,6 +4,7 @@
 
 use frame::{Lists, Refusal};
 use island::IslandTables;
+use island_arrays::{IslandArrays, Room};
 use std::{array, io};
 
 // As many bodies as a frame may have, and one more; the joints have the same limit.
@@ -19,28 +20,8 @@ const ENDS: usize = 4 * MOST;
 
 const TOO_MANY_ENDS: usize = 4 * TOO_MANY;
 
-// How many places of each table are lent.
-#[derive(Clone, Copy)]
-struct Room {
-    parents: usize,
-    sizes: usize,
-    bodies: usize,
-    manifolds: usize,
-    joints: usize,
-}
-
-impl Room {
-    // Just enough for so many bodies, manifolds and joints.
-    fn exact(bodies: usize, manifolds: usize, joints: usize) -> Self {
-        Room {
-            parents: bodies,
-            sizes: bodies,
-            bodies,
-            manifolds,
-            joints,
-        }
-    }
-}
+// The tables of the most bodies, manifolds and joints, and of one more.
+type Arrays = IslandArrays<TOO_MANY, TOO_MANY, TOO_MANY>;
 
 // The chain 0-1, 1-2, 2-3, ..
 fn rising_chain() -> [u16; PAIRS] {
@@ -60,12 +41,6 @@ fn spokes() -> [u16; PAIRS] {
 // Joint i is on the bodies i, i + 1, i + 2 and i + 3 of 4,096, around their end.
 fn ends_of_fours<const N: usize>() -> [u16; N] {
     array::from_fn(|k| ((k / 4 + k % 4) % 4096) as u16)
-}
-
-// The first places of a table, at most `count`.
-fn first(table: &mut [u16], count: usize) -> &mut [u16] {
-    let count = count.min(table.len());
-    &mut table[..count]
 }
 
 // The parent of body 0 and the size there: in every frame here body 0 is at most one link from the root of its set, so this is that
@@ -99,15 +74,8 @@ where
     F: FnOnce(&mut IslandTables<'_>) -> Result<u16, Refusal> + Drop,
     requires { F.IsAlwaysCallable build }
 {
-    let (mut parents, mut sizes, mut body_islands) = ([0; TOO_MANY], [0; TOO_MANY], [0; TOO_MANY]);
-    let (mut manifold_islands, mut joint_islands) = ([0; TOO_MANY], [0; TOO_MANY]);
-    let mut tables = IslandTables {
-        parents: first(&mut parents, room.parents),
-        sizes: first(&mut sizes, room.sizes),
-        body_islands: first(&mut body_islands, room.bodies),
-        manifold_islands: first(&mut manifold_islands, room.manifolds),
-        joint_islands: first(&mut joint_islands, room.joints),
-    };
+    let mut arrays = Arrays::filled(0);
+    let mut tables = arrays.tables(room);
     let answer = build(&mut tables);
     print!(rt; "{name}")?;
     match answer {

@@ -6,6 +6,7 @@
 
 use frame::{Lists, Refusal};
 use island::IslandTables;
+use island_arrays::{IslandArrays, Room};
 use std::io;
 
 // The label of what has no island.
@@ -32,15 +33,8 @@ impl Sample<'_> {
     }
 }
 
-// How many places of each table are lent.
-#[derive(Clone, Copy)]
-struct Room {
-    parents: usize,
-    sizes: usize,
-    bodies: usize,
-    manifolds: usize,
-    joints: usize,
-}
+// The tables of at most 16 bodies, 8 manifolds and 7 joints.
+type Arrays = IslandArrays<16, 8, 7>;
 
 // Enough for each sample.
 const AMPLE: Room = Room {
@@ -141,12 +135,6 @@ fn put_answer(
     }
 }
 
-// The first places of a table, at most `count`.
-fn first(table: &mut [u16], count: usize) -> &mut [u16] {
-    let count = count.min(table.len());
-    &mut table[..count]
-}
-
 // The islands call of a sample.
 fn build(sample: Sample<'_>, tables: &mut IslandTables<'_>) -> Result<u16, Refusal> {
     let lists = Lists {
@@ -177,17 +165,10 @@ fn put_line(
     put_values(rt, "joints", sample.joints(), tables.joint_islands)
 }
 
-// The line of a sample, at most 16 bodies, 8 manifolds and 7 joints, on tables of these lengths.
+// The line of a sample, on tables of these lengths.
 fn show(rt: &impl Print, sample: Sample<'_>, room: Room) -> io::Result<()> {
-    let (mut parents, mut sizes, mut body_islands) = ([9; 16], [9; 16], [9; 16]);
-    let (mut manifold_islands, mut joint_islands) = ([9; 8], [9; 7]);
-    let mut tables = IslandTables {
-        parents: first(&mut parents, room.parents),
-        sizes: first(&mut sizes, room.sizes),
-        body_islands: first(&mut body_islands, room.bodies),
-        manifold_islands: first(&mut manifold_islands, room.manifolds),
-        joint_islands: first(&mut joint_islands, room.joints),
-    };
+    let mut arrays = Arrays::filled(9);
+    let mut tables = arrays.tables(room);
     let answer = build(sample, &mut tables);
     print!(rt; "{}", sample.name)?;
     put_line(rt, sample, answer, &tables)?;
@@ -457,13 +438,7 @@ fn room_sample(rt: &impl Print, name: &str, room: Room) -> io::Result<()> {
 
 // Tables of just its size, and each of them with an entry too few.
 fn room_samples(rt: &impl Print) -> io::Result<()> {
-    let exact = Room {
-        parents: 3,
-        sizes: 3,
-        bodies: 3,
-        manifolds: 1,
-        joints: 1,
-    };
+    let exact = Room::exact(3, 1, 1);
     room_sample(rt, "room", exact)?;
     room_sample(
         rt,
