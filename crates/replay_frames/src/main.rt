@@ -6,8 +6,8 @@
 // the four numbers and the turn table in 16 bits each. The other tables have the largest frame's sizes.
 #![tactic(auto)]
 
+use frame::refusal::refusal_number;
 use records::{Reader, Writer};
-use run_answer::Report;
 use std::io;
 use std::io::ErrorKind;
 
@@ -49,33 +49,25 @@ struct Counts {
 }
 
 impl Counts {
-    fn add(&mut self, refusal: u8) {
+    fn add(&mut self, refused: bool) {
         self.frames = self.frames.saturating_add(1);
-        if refusal != 0 {
+        if refused {
             self.refused = self.refused.saturating_add(1);
         }
     }
 }
 
-// What a run answers: the refusal's number or 0, and the four numbers.
-fn run(file: &[u8], turns: &mut [u16]) -> (u8, Report) {
-    let answer = standalone_run::run_file(file, turns);
-    (
-        run_answer::refusal_of(answer),
-        run_answer::report_of(answer),
-    )
-}
-
-// The run of a question's file, its answer, and the refusal.
+// The run of a question's file, and its answer.
 fn answer(question: &[u8], counts: &mut Counts) -> Answer {
     let mut question = Reader::new(question);
     let lent = usize::from(question.half());
     let mut turns = [PATTERN; TURNS];
     let turns = &mut turns[..lent.min(TURNS)];
-    let (refusal, report) = run(question.rest(), turns);
-    counts.add(refusal);
+    let ran = standalone_run::run_file(question.rest(), turns);
+    counts.add(ran.is_err());
     let mut out = Writer::new();
-    out.byte(refusal);
+    out.byte(refusal_number(&ran));
+    let report = ran.unwrap_or_default();
     for number in [report.islands, report.turns, report.takes, report.degree] {
         out.half((number % 65536) as u16);
     }
