@@ -33,69 +33,50 @@ struct Case {
     last: Option<u16>,
 }
 
-// No bodies and no pairs.
-const EMPTY: Case = Case {
-    bodies: 0,
-    entries: 0,
-    first: 1,
-    a_step: 0,
-    b: 1,
-    b_step: 0,
-    last: None,
-};
+// So many bodies and entries, where each pair is (0, 1).
+fn pairs(bodies: usize, entries: usize) -> Case {
+    Case {
+        bodies,
+        entries,
+        first: 1,
+        a_step: 0,
+        b: 1,
+        b_step: 0,
+        last: None,
+    }
+}
 
 // Empty lists; one pair 8,192 times, the same again, and nearly so; a star, and with its center static; a path, shrunk to one pair,
 // grown again, and equal; refusals 3, 3, 4, 5, 7 and 7; then the path is still remembered; no pairs; empty lists.
 fn cases() -> [Case; 19] {
-    let most = Case {
-        bodies: 3,
-        entries: 16384,
-        ..EMPTY
-    };
+    let most = pairs(3, 16384);
+    let last = Some(2);
     let star = Case {
-        bodies: 4096,
-        entries: 8190,
         b_step: 1,
-        ..EMPTY
+        ..pairs(4096, 8190)
     };
     let path = Case { a_step: 1, ..star };
-    let pair = Case {
-        bodies: 2,
-        entries: 2,
-        ..EMPTY
-    };
+    let pair = pairs(2, 2);
     [
-        EMPTY,
+        pairs(0, 0),
         most,
         most,
-        Case {
-            last: Some(2),
-            ..most
-        },
+        Case { last, ..most },
         star,
         Case { first: 0, ..star },
         path,
         pair,
         path,
         path,
-        Case {
-            bodies: 4097,
-            ..EMPTY
-        },
-        Case {
-            entries: 16386,
-            ..pair
-        },
-        Case { entries: 3, ..pair },
+        pairs(4097, 0),
+        pairs(2, 16386),
+        pairs(2, 3),
         Case { first: 2, ..pair },
         Case { b: 0, ..pair },
-        Case { bodies: 1, ..pair },
+        pairs(1, 2),
         path,
-        Case {
-            bodies: 4096,
-            ..EMPTY
-        },
-        EMPTY,
+        pairs(4096, 0),
+        pairs(0, 0),
     ]
 }
 
