@@ -1,6 +1,8 @@
 // The five tables of an islands call as arrays, for the programs that make such calls. Internal: the library is lent its tables.
 #![tactic(auto)]
 
+ghost use Rattle.std.specs.Prelude.{◌≡◌, replicate, take};
+
 use island::IslandTables;
 
 // How many places of each table are lent.
@@ -15,7 +17,9 @@ pub struct Room {
 
 impl Room {
     // Just enough for so many bodies, manifolds and joints.
-    pub fn exact(bodies: usize, manifolds: usize, joints: usize) -> Self {
+    pub fn exact(bodies: usize, manifolds: usize, joints: usize) -> Self
+        ensures { (result.parents ≡ bodies) × (result.sizes ≡ bodies) × (result.bodies ≡ bodies) × (result.manifolds ≡ manifolds) × (result.joints ≡ joints) }
+    {
         Room {
             parents: bodies,
             sizes: bodies,
@@ -37,14 +41,19 @@ pub struct IslandArrays<const B: usize, const M: usize, const J: usize> {
 }
 
 // The first places of a table, at most `count`.
-fn first(table: &mut [u16], count: usize) -> &mut [u16] {
+fn first(table: &mut [u16], count: usize) -> &mut [u16]
+    ensures { result.now ≡ take count table.old }
+{
     let count = count.min(table.len());
     &mut table[..count]
 }
 
 impl<const B: usize, const M: usize, const J: usize> IslandArrays<B, M, J> {
     // Tables that hold a number everywhere.
-    pub fn filled(number: u16) -> Self {
+    pub fn filled(number: u16) -> Self
+        ensures { (result.parents ≡ replicate B number) × (result.sizes ≡ replicate B number) × (result.body_islands ≡ replicate B number)
+            × (result.manifold_islands ≡ replicate M number) × (result.joint_islands ≡ replicate J number) }
+    {
         IslandArrays {
             parents: [number; B],
             sizes: [number; B],
@@ -55,7 +64,10 @@ impl<const B: usize, const M: usize, const J: usize> IslandArrays<B, M, J> {
     }
 
     // The tables, lent as far as the room says.
-    pub fn tables(&mut self, room: Room) -> IslandTables<'_> {
+    pub fn tables(&mut self, room: Room) -> IslandTables<'_>
+        ensures { (result.parents.now ≡ take room.parents self.old.parents) × (result.sizes.now ≡ take room.sizes self.old.sizes) × (result.body_islands.now ≡ take room.bodies self.old.body_islands)
+            × (result.manifold_islands.now ≡ take room.manifolds self.old.manifold_islands) × (result.joint_islands.now ≡ take room.joints self.old.joint_islands) }
+    {
         IslandTables {
             parents: first(&mut self.parents, room.parents),
             sizes: first(&mut self.sizes, room.sizes),

@@ -164,51 +164,52 @@ fn last_endpoint(rt: &impl Print) -> io::Result<()> {
     show_manifolds(rt, "endpoint B", &[2; 2], &[0, 2], exact)
 }
 
-// One table an entry short, or one longer than there are bodies, in a frame whose exact tables `most_bodies` lent.
-fn other_tables(rt: &impl Print) -> io::Result<()> {
-    let exact = Room::exact(MOST, MOST - 1, 0);
-    let rooms = [
-        (
-            "parents short",
-            Room {
-                parents: MOST - 1,
-                ..exact
-            },
-        ),
-        (
-            "body labels short",
-            Room {
-                bodies: MOST - 1,
-                ..exact
-            },
-        ),
-        (
-            "manifold labels short",
-            Room {
-                manifolds: MOST - 2,
-                ..exact
-            },
-        ),
-        (
-            "sizes short",
-            Room {
-                sizes: MOST - 1,
-                ..exact
-            },
-        ),
-        (
-            "sizes long",
-            Room {
-                sizes: MOST + 1,
-                ..exact
-            },
-        ),
-    ];
+// The rising chain on tables of these lengths.
+fn show_chains(rt: &impl Print, rooms: &[(&str, Room)]) -> io::Result<()> {
     let pairs = rising_chain();
     for (name, room) in rooms {
-        show_manifolds(rt, name, &[2; MOST], &pairs, room)?;
+        show_manifolds(rt, name, &[2; MOST], &pairs, *room)?;
     }
     Ok(())
+}
+
+// One table an entry short, in a frame whose exact tables `most_bodies` lent.
+fn short_tables(rt: &impl Print) -> io::Result<()> {
+    let exact = Room::exact(MOST, MOST - 1, 0);
+    let parents = Room {
+        parents: MOST - 1,
+        ..exact
+    };
+    let bodies = Room {
+        bodies: MOST - 1,
+        ..exact
+    };
+    let manifolds = Room {
+        manifolds: MOST - 2,
+        ..exact
+    };
+    show_chains(
+        rt,
+        &[
+            ("parents short", parents),
+            ("body labels short", bodies),
+            ("manifold labels short", manifolds),
+        ],
+    )
+}
+
+// The table of sizes an entry short, and one longer than there are bodies.
+fn other_sizes(rt: &impl Print) -> io::Result<()> {
+    let exact = Room::exact(MOST, MOST - 1, 0);
+    let short = Room {
+        sizes: MOST - 1,
+        ..exact
+    };
+    let long = Room {
+        sizes: MOST + 1,
+        ..exact
+    };
+    show_chains(rt, &[("sizes short", short), ("sizes long", long)])
 }
 
 // The chain by joints, with the joint labels exact and one short.
@@ -264,7 +265,8 @@ fn too_many_bodies(rt: &impl Print) -> io::Result<()> {
 fn main(rt: HostRuntime) -> io::Result<()> {
     most_bodies(&rt)?;
     last_endpoint(&rt)?;
-    other_tables(&rt)?;
+    short_tables(&rt)?;
+    other_sizes(&rt)?;
     joint_tables(&rt)?;
     most_joints(&rt)?;
     too_many_bodies(&rt)

@@ -329,7 +329,11 @@ fn counted_samples(rt: &impl Print) -> io::Result<()> {
         &[0, 1, 2, 3],
         &[4],
         &[1],
-    )?;
+    )
+}
+
+// Joints beside manifolds, a disabled joint, and none.
+fn mixed_samples(rt: &impl Print) -> io::Result<()> {
     counted_sample(
         rt,
         "two, three and four",
@@ -369,7 +373,7 @@ fn counted_samples(rt: &impl Print) -> io::Result<()> {
     counted_sample(rt, "no counts", &[2; 2], &[0, 1], &[], &[], &[])
 }
 
-// What questions 4, 5 and 7 refuse of joints with counts. Question 5 is asked of disabled joints too, and question 7 is not.
+// What questions 4 and 5 refuse of joints with counts. Question 5 is asked of disabled joints too.
 fn refused_counts(rt: &impl Print) -> io::Result<()> {
     counted_sample(rt, "count 5", &[2; 5], &[], &[0, 1, 2, 3, 4], &[5], &[1])?;
     counted_sample(
@@ -408,7 +412,11 @@ fn refused_counts(rt: &impl Print) -> io::Result<()> {
         &[0, 1, 2, 3, 4, 5],
         &[1, 4],
         &[1, 1],
-    )?;
+    )
+}
+
+// What questions 4 and 7 refuse of their ends. Question 7 is not asked of disabled joints.
+fn refused_ends(rt: &impl Print) -> io::Result<()> {
     counted_sample(rt, "ends without counts", &[2; 2], &[], &[0, 1], &[], &[])?;
     counted_sample(rt, "one end twice", &[2; 3], &[], &[0, 1, 0], &[3], &[1])?;
     counted_sample(
@@ -470,6 +478,8 @@ fn main(rt: HostRuntime) -> io::Result<()> {
     refused_samples(&rt)?;
     logged_samples(&rt)?;
     counted_samples(&rt)?;
+    mixed_samples(&rt)?;
     refused_counts(&rt)?;
+    refused_ends(&rt)?;
     room_samples(&rt)
 }

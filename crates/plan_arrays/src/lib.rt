@@ -1,6 +1,8 @@
 // The thirteen tables of a plan as arrays, for the programs that update plans. Internal: the library is lent its tables.
 #![tactic(auto)]
 
+ghost use Rattle.std.specs.Prelude.{◌≡◌, replicate};
+
 use plan_questions::PlanTables;
 
 // Tables with room for B bodies, C constraints and E endpoints, where B1 is B + 1 and C1 is C + 1, and E is at least B and C.
@@ -27,11 +29,21 @@ pub struct PlanArrays<
     pub constraint_body_positions: [u16; E],
 }
 
-impl<const B: usize, const B1: usize, const C: usize, const C1: usize, const E: usize>
-    PlanArrays<B, B1, C, C1, E>
-{
+impl<const B: usize, const B1: usize, const C: usize, const C1: usize, const E: usize> PlanArrays<
+    B,
+    B1,
+    C,
+    C1,
+    E,
+> {
     // Tables that hold these two values everywhere.
-    pub fn filled(flag: u8, number: u16) -> Self {
+    pub fn filled(flag: u8, number: u16) -> Self
+        ensures { (result.dynamic_bodies ≡ replicate B flag) × (result.endpoints ≡ replicate E number) × (result.body_offsets ≡ replicate B1 number)
+            × (result.body_constraints ≡ replicate E number) × (result.scratch_offsets ≡ replicate E number) × (result.constraint_colors ≡ replicate C number)
+            × (result.color_stamps ≡ replicate C number) × (result.body_stamps ≡ replicate B number) × (result.color_offsets ≡ replicate C1 number)
+            × (result.colored_constraints ≡ replicate C number) × (result.color_body_offsets ≡ replicate C1 number) × (result.color_bodies ≡ replicate E number)
+            × (result.constraint_body_positions ≡ replicate E number) }
+    {
         PlanArrays {
             dynamic_bodies: [flag; B],
             endpoints: [number; E],
@@ -50,7 +62,13 @@ impl<const B: usize, const B1: usize, const C: usize, const C1: usize, const E: 
     }
 
     // The tables, lent.
-    pub fn tables(&mut self) -> PlanTables<'_> {
+    pub fn tables(&mut self) -> PlanTables<'_>
+        ensures { (result.dynamic_bodies.now ≡ self.old.dynamic_bodies) × (result.endpoints.now ≡ self.old.endpoints) × (result.body_offsets.now ≡ self.old.body_offsets)
+            × (result.body_constraints.now ≡ self.old.body_constraints) × (result.scratch_offsets.now ≡ self.old.scratch_offsets) × (result.constraint_colors.now ≡ self.old.constraint_colors)
+            × (result.color_stamps.now ≡ self.old.color_stamps) × (result.body_stamps.now ≡ self.old.body_stamps) × (result.color_offsets.now ≡ self.old.color_offsets)
+            × (result.colored_constraints.now ≡ self.old.colored_constraints) × (result.color_body_offsets.now ≡ self.old.color_body_offsets) × (result.color_bodies.now ≡ self.old.color_bodies)
+            × (result.constraint_body_positions.now ≡ self.old.constraint_body_positions) }
+    {
         PlanTables {
             dynamic_bodies: &mut self.dynamic_bodies,
             endpoints: &mut self.endpoints,
