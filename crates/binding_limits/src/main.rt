@@ -7,13 +7,20 @@
 ghost use Rattle.std.specs.Prelude.{[], ◌∷◌};
 ghost use Rattle.colored_bodies.specs.Answers.{Takes, TakesAt};
 
-use colored_bodies::multi::{MultiStep, TakenAt};
-use colored_bodies::{BodyBinding, Step, Take};
+use colored_bodies::multi::TakenAt;
+use colored_bodies::{BodyBinding, Step, Taken};
+use frame::Refusal;
+use frame::refusal::refusal_number;
 use std::{array, io};
+
+// A take of two positions, and one of several, as each answers.
+type Take = Result<Taken, Refusal>;
+
+type SeveralTaken = Result<TakenAt, Refusal>;
 
 fn show_bind(rt: &impl Print, types: &[u8], indices: &[u16]) -> io::Result<BodyBinding> {
     let bound = BodyBinding::bind(types, indices);
-    let refusal = bound.refusal;
+    let refusal = refusal_number(&bound.asked);
     let binding = bound.binding;
     let (given, listed, count) = (types.len(), indices.len(), binding.count);
     println!(rt; "bind {given} {listed} {refusal} {count}")?;
@@ -22,17 +29,13 @@ fn show_bind(rt: &impl Print, types: &[u8], indices: &[u16]) -> io::Result<BodyB
 
 fn print_take(rt: &impl Print, take: Take) -> io::Result<()> {
     match take {
-        Take::Taken {
-            first,
-            first_dynamic,
-            second,
-            second_dynamic,
-        } => {
-            let first_mark = u8::from(first_dynamic);
-            let second_mark = u8::from(second_dynamic);
+        Ok(taken) => {
+            let Taken { first, second, .. } = taken;
+            let first_mark = u8::from(taken.first_dynamic);
+            let second_mark = u8::from(taken.second_dynamic);
             println!(rt; " 0 {first} {first_mark} {second} {second_mark}")
         }
-        Take::Refused(n) => println!(rt; " {n}"),
+        Err(refusal) => println!(rt; " {}", refusal.number()),
     }
 }
 
@@ -45,14 +48,14 @@ fn show_takes<F>(
     take: F,
 ) -> io::Result<BodyBinding>
 where
-    F: Fn(BodyBinding, usize, usize) -> Step + Drop,
+    F: Fn(BodyBinding, usize, usize) -> Step<Take> + Drop,
     requires { F.IsAlwaysCallable take }
 {
     let mut binding = bound;
     for (a, b) in pairs {
         let step = take(binding, *a, *b);
         print!(rt; "{word} {a} {b}")?;
-        print_take(rt, step.take)?;
+        print_take(rt, step.taken)?;
         binding = step.binding;
     }
     Ok(binding)
@@ -79,20 +82,22 @@ fn take_at(
 }
 
 // A take over a binding that this function keeps, and lends.
-fn take_kept(mut binding: BodyBinding, a: usize, b: usize) -> Step
-    ensures { Takes binding (a ∷ b ∷ []) result.take result.binding }
+fn take_kept(mut binding: BodyBinding, a: usize, b: usize) -> Step<Take>
+    ensures { Takes binding (a ∷ b ∷ []) result.taken result.binding }
 {
-    let take = colored_bodies::take_at(&mut binding, a, b);
-    Step { binding, take }
+    let taken = colored_bodies::take_at(&mut binding, a, b);
+    Step { binding, taken }
 }
 
 // The refusal of a take of several positions, and the bodies that it hands.
-fn print_taken(rt: &impl Print, taken: TakenAt) -> io::Result<()> {
-    print!(rt; " {}", taken.refusal)?;
-    let bodies = taken.bodies;
-    let dynamic = taken.dynamic;
-    for (body, dynamic) in bodies.iter().zip(&dynamic).take(taken.count) {
-        print!(rt; " {body} {}", u8::from(*dynamic))?;
+fn print_taken(rt: &impl Print, taken: SeveralTaken) -> io::Result<()> {
+    print!(rt; " {}", refusal_number(&taken))?;
+    if let Ok(taken) = taken {
+        let bodies = taken.bodies;
+        let dynamic = taken.dynamic;
+        for (body, dynamic) in bodies.iter().zip(&dynamic).take(taken.count) {
+            print!(rt; " {body} {dynamic}")?;
+        }
     }
     println!(rt; "")
 }
@@ -106,7 +111,7 @@ fn show_several<F>(
     take: F,
 ) -> io::Result<BodyBinding>
 where
-    F: FnOnce(BodyBinding, &[u16]) -> MultiStep + Drop,
+    F: FnOnce(BodyBinding, &[u16]) -> Step<SeveralTaken> + Drop,
     requires { F.IsAlwaysCallable take }
 {
     print!(rt; "{word} {}", positions.len())?;
@@ -128,11 +133,11 @@ fn bodies_at(rt: &impl Print, binding: BodyBinding, positions: &[u16]) -> io::Re
     )
 }
 
-fn several_kept(mut binding: BodyBinding, positions: &[u16]) -> MultiStep
+fn several_kept(mut binding: BodyBinding, positions: &[u16]) -> Step<SeveralTaken>
     ensures { TakesAt binding positions.now result.taken result.binding }
 {
     let taken = colored_bodies::multi::take_bodies_at(&mut binding, positions);
-    MultiStep { binding, taken }
+    Step { binding, taken }
 }
 
 fn take_bodies_at(

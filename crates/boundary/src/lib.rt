@@ -181,7 +181,7 @@ pub extern "C" fn engkarupi_bind(
     *bodies = bound_bodies;
     *marks = bound_marks;
     *count = binding.count;
-    frame::refusal::refusal_number(&bound.asked)
+    refusal_number(&bound.asked)
 }
 
 // A take from a binding: two bodies in the order asked, each with 1 for "dynamic"; answers the refusal or 0.

@@ -4,6 +4,7 @@ ghost use Rattle.plan_questions.specs.Plans.{tables_of};
 ghost use Rattle.run_answer.specs.Lent.{lent_of};
 ghost use Rattle.boundary.specs.Exports.{Runs};
 
+use frame::refusal::refusal_number;
 use frame_tables::{ByIsland, FrameTables};
 use island::IslandTables;
 use plan_questions::PlanTables;
@@ -108,5 +109,5 @@ pub extern "C" fn engkarupi_run(
         carried.takes,
         carried.degree,
     ];
-    frame::refusal::refusal_number(&answer)
+    refusal_number(&answer)
 }

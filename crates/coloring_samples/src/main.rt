@@ -6,69 +6,51 @@
 mod counts;
 
 use constraint_coloring::{ConstraintColoring, Update};
-use plan_questions::PlanTables;
+use plan_arrays::PlanArrays;
+use std::{fmt, io};
 
-// Standard output, by its file descriptor.
-const STDOUT: i32 = 1;
+// The tables of at most 5 bodies and 6 constraints.
+type Arrays = PlanArrays<5, 6, 6, 7, 12>;
 
-fn put(n: u16) {
-    io::write_all(STDOUT, b" ");
-    io::print_decimal(STDOUT, n as u64);
-}
-
-fn show(answer: Update<ConstraintColoring>, constraint_colors: &[u16; 6]) {
+// What an update answers: `changed` where the plan changed.
+fn print_answer<P: Copy, D: fmt::Display + Drop>(
+    rt: &impl Print,
+    answer: Update<P>,
+    changed: D,
+) -> io::Result<()> {
     match answer {
-        Update::Changed(plan) => {
-            io::print_decimal(STDOUT, plan.color_count as u64);
-        }
-        Update::Unchanged => {
-            io::write_all(STDOUT, b"unchanged");
-        }
-        Update::Refused(refusal) => {
-            io::write_all(STDOUT, b"refused ");
-            io::print_decimal(STDOUT, refusal.number() as u64);
-        }
+        Update::Changed(_) => print!(rt; "{changed}"),
+        Update::Unchanged => print!(rt; "unchanged"),
+        Update::Refused(refusal) => print!(rt; "refused {}", refusal.number()),
     }
-    put(constraint_colors[0]);
-    put(constraint_colors[1]);
-    put(constraint_colors[2]);
-    put(constraint_colors[3]);
-    put(constraint_colors[4]);
-    put(constraint_colors[5]);
-    io::write_all(STDOUT, b"\n");
 }
 
-// At most 5 bodies and 6 constraints.
-fn sample(flags: &[u8], pairs: &[u16]) {
-    let mut constraint_colors = [9u16; 6];
-    let plan = ConstraintColoring::new();
-    let mut tables = PlanTables {
-        dynamic_bodies: &mut [9u8; 5],
-        endpoints: &mut [9u16; 12],
-        body_offsets: &mut [9u16; 6],
-        body_constraints: &mut [9u16; 12],
-        scratch_offsets: &mut [9u16; 6],
-        constraint_colors: &mut constraint_colors,
-        color_stamps: &mut [9u16; 6],
-        body_stamps: &mut [1u16; 5],
-        color_offsets: &mut [9u16; 7],
-        colored_constraints: &mut [9u16; 6],
-        color_body_offsets: &mut [9u16; 7],
-        color_bodies: &mut [9u16; 12],
-        constraint_body_positions: &mut [9u16; 12],
-    };
-    let answer = plan.update(flags, pairs, &mut tables);
-    show(answer, &constraint_colors);
+// Numbers, each behind a space.
+fn print_numbers(rt: &impl Print, numbers: &[u16]) -> io::Result<()> {
+    for number in numbers {
+        print!(rt; " {number}")?;
+    }
+    Ok(())
 }
 
-fn main() {
-    sample(&[1, 1, 1], &[2, 1, 0, 1]);
-    sample(&[1, 0, 1], &[0, 1, 2, 1]);
-    sample(&[1, 1], &[0, 1, 0, 1, 0, 1]);
-    sample(&[0, 0], &[0, 1]);
-    sample(&[1, 1], &[]);
-    sample(&[1, 1, 1, 1], &[0, 1, 1, 2, 2, 3, 3, 0]);
-    sample(&[1, 1, 1, 1, 1], &[0, 1, 2, 3, 1, 2, 3, 4, 0, 4]);
-    sample(&[1, 1, 1, 0], &[0, 1, 0, 2, 0, 3, 1, 2, 1, 3, 2, 3]);
-    counts::samples();
+fn sample(rt: &impl Print, flags: &[u8], pairs: &[u16]) -> io::Result<()> {
+    let mut arrays = Arrays::filled(9, 9);
+    arrays.body_stamps.fill(1);
+    let before = ConstraintColoring::new();
+    let answer = before.update(flags, pairs, &mut arrays.tables());
+    print_answer(rt, answer, answer.plan_after(before).color_count)?;
+    print_numbers(rt, &arrays.constraint_colors)?;
+    println!(rt; "")
+}
+
+fn main(rt: HostRuntime) -> io::Result<()> {
+    sample(&rt, &[1, 1, 1], &[2, 1, 0, 1])?;
+    sample(&rt, &[1, 0, 1], &[0, 1, 2, 1])?;
+    sample(&rt, &[1, 1], &[0, 1, 0, 1, 0, 1])?;
+    sample(&rt, &[0, 0], &[0, 1])?;
+    sample(&rt, &[1, 1], &[])?;
+    sample(&rt, &[1, 1, 1, 1], &[0, 1, 1, 2, 2, 3, 3, 0])?;
+    sample(&rt, &[1, 1, 1, 1, 1], &[0, 1, 2, 3, 1, 2, 3, 4, 0, 4])?;
+    sample(&rt, &[1, 1, 1, 0], &[0, 1, 0, 2, 0, 3, 1, 2, 1, 3, 2, 3])?;
+    counts::samples(&rt)
 }

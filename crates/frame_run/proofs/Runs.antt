@@ -127,11 +127,11 @@ module _ (bs : List ℕ) (e : asked (file_questions bs) ≡ 0) where
     sound-labels : all_sound f ≡ true → labels ≡ map (label f) (constraints f)
     sound-labels t = labels_are bs e is is' (refused_by r) (islands_in r) h.islands ∙ rw t
 
-    sound-islands : all_sound f ≡ true → (islands_in r) ≡ island_count f
+    sound-islands : all_sound f ≡ true → islands_in r ≡ island_count f
     unfolding sound_refusal
     sound-islands t = rw t at h.islands.count
 
-    no_islands : all_sound f ≡ false → (islands_in r) ≡ 0
+    no_islands : all_sound f ≡ false → islands_in r ≡ 0
     unfolding sound_refusal
     no_islands t = rw t at h.islands.count
 
@@ -147,7 +147,7 @@ module _ (bs : List ℕ) (e : asked (file_questions bs) ≡ 0) where
         (λ t. rw t (run_room bs (file_accepted bs e t) tt l))
         (λ t. rw t (record { places = omega arith; count = omega arith })))
 
-    all_accepted : (i : ℕ) → i < (islands_in r) → fresh_refusal fs (counts_among cs (members labels i)) (ends_among cs ps (members labels i)) ≡ 0
+    all_accepted : (i : ℕ) → i < islands_in r → fresh_refusal fs (counts_among cs (members labels i)) (ends_among cs ps (members labels i)) ≡ 0
     all_accepted i l = by_cases (all_sound f)
         (λ t. rw (h.decoded.flags, h.decoded.ends, h.decoded.counts, sound-labels t) (updates_accepted bs (file_accepted bs e t) i (omega (arith, sound-islands t))))
         (λ t. absurd (omega (arith, no_islands t)))

@@ -2,37 +2,24 @@
 // FNV-1a hash of 32 bits. The lent bytes are 0xab before the call.
 #![tactic(auto)]
 
-use generator::Generated;
+use frame::Refusal;
+use frame::refusal::refusal_number;
+use frame_file::Sizes;
 use std::io;
 
-// A sample: its name, the four numbers that ask for a lift, and how many bytes are lent.
+// A sample: its name, the numbers that ask for a lift, and how many bytes are lent.
 #[derive(Clone, Copy)]
 struct Lift<'a> {
     name: &'a str,
     seed: u32,
-    bodies: usize,
-    manifolds: usize,
-    joints: usize,
+    sizes: Sizes,
     lent: usize,
 }
 
-// The call of a sample.
-fn generate(sample: Lift<'_>, bytes: &mut [u8]) -> Generated {
-    generator::generate(
-        sample.seed,
-        sample.bodies,
-        sample.manifolds,
-        sample.joints,
-        bytes,
-    )
-}
-
 // The answer's number, 0 where a frame was made, and the frame's length, 0 where it was refused.
-fn print_answer(rt: &impl Print, name: &str, answer: Generated) -> io::Result<()> {
-    match answer {
-        Generated::Frame(length) => print!(rt; "{name} 0 {length}"),
-        Generated::Refused(number) => print!(rt; "{name} {number} 0"),
-    }
+fn print_answer(rt: &impl Print, name: &str, answer: Result<usize, Refusal>) -> io::Result<()> {
+    let (number, length) = (refusal_number(&answer), answer.unwrap_or(0));
+    print!(rt; "{name} {number} {length}")
 }
 
 fn sum(bytes: &[u8]) -> u32 {
@@ -57,7 +44,7 @@ fn lent<'a>(sample: Lift<'_>, bytes: &'a mut [u8]) -> &'a mut [u8] {
 fn show_short(rt: &impl Print, sample: Lift<'_>) -> io::Result<()> {
     let mut bytes = [171; 99];
     let bytes = lent(sample, &mut bytes);
-    let answer = generate(sample, bytes);
+    let answer = generator::generate(sample.seed, sample.sizes, bytes);
     print_answer(rt, sample.name, answer)?;
     if !bytes.is_empty() {
         print!(rt; " ")?;
@@ -72,7 +59,7 @@ fn show_short(rt: &impl Print, sample: Lift<'_>) -> io::Result<()> {
 fn show_long(rt: &impl Print, sample: Lift<'_>) -> io::Result<()> {
     let mut bytes = [171; generator::MAX_BYTES];
     let bytes = lent(sample, &mut bytes);
-    let answer = generate(sample, bytes);
+    let answer = generator::generate(sample.seed, sample.sizes, bytes);
     print_answer(rt, sample.name, answer)?;
     println!(rt; " sum {} fnv {}", sum(bytes), fnv(bytes))
 }
@@ -85,12 +72,15 @@ fn sample<'a>(
     joints: usize,
     lent: usize,
 ) -> Lift<'a> {
-    Lift {
-        name,
-        seed,
+    let sizes = Sizes {
         bodies,
         manifolds,
         joints,
+    };
+    Lift {
+        name,
+        seed,
+        sizes,
         lent,
     }
 }

@@ -2,7 +2,9 @@
 // (none is 65535), and the parent of body 0 with the size there.
 #![tactic(auto)]
 
-use island::Answer;
+use frame::{Lists, Refusal};
+use island::IslandTables;
+use island_arrays::{IslandArrays, Room};
 use std::{array, io};
 
 // As many bodies as a frame may have, and one more; the joints have the same limit.
@@ -18,28 +20,8 @@ const ENDS: usize = 4 * MOST;
 
 const TOO_MANY_ENDS: usize = 4 * TOO_MANY;
 
-// How many places of each table are lent.
-#[derive(Clone, Copy)]
-struct Room {
-    parents: usize,
-    sizes: usize,
-    bodies: usize,
-    manifolds: usize,
-    joints: usize,
-}
-
-impl Room {
-    // Just enough for so many bodies, manifolds and joints.
-    fn exact(bodies: usize, manifolds: usize, joints: usize) -> Self {
-        Room {
-            parents: bodies,
-            sizes: bodies,
-            bodies,
-            manifolds,
-            joints,
-        }
-    }
-}
+// The tables of the most bodies, manifolds and joints, and of one more.
+type Arrays = IslandArrays<TOO_MANY, TOO_MANY, TOO_MANY>;
 
 // The chain 0-1, 1-2, 2-3, ..
 fn rising_chain() -> [u16; PAIRS] {
@@ -61,12 +43,6 @@ fn ends_of_fours<const N: usize>() -> [u16; N] {
     array::from_fn(|k| ((k / 4 + k % 4) % 4096) as u16)
 }
 
-// The first places of a table, at most `count`.
-fn first(table: &mut [u16], count: usize) -> &mut [u16] {
-    let count = count.min(table.len());
-    &mut table[..count]
-}
-
 // The parent of body 0 and the size there: in every frame here body 0 is at most one link from the root of its set, so this is that
 // root and the number of bodies in the set.
 fn print_first_set(rt: &impl Print, parents: &[u16], sizes: &[u16]) -> io::Result<()> {
@@ -79,13 +55,8 @@ fn print_first_set(rt: &impl Print, parents: &[u16], sizes: &[u16]) -> io::Resul
 }
 
 // What a frame of islands shows.
-fn print_islands(
-    rt: &impl Print,
-    islands: u16,
-    parents: &[u16],
-    sizes: &[u16],
-    labels: &[u16],
-) -> io::Result<()> {
+fn print_islands(rt: &impl Print, islands: u16, tables: &IslandTables<'_>) -> io::Result<()> {
+    let labels = &tables.body_islands;
     print!(rt; " islands {islands}")?;
     if let Some(last) = labels.last() {
         print!(rt; " last {last}")?;
@@ -94,33 +65,22 @@ fn print_islands(
         .iter()
         .fold(0, |sum, x| u32::from(*x).wrapping_add(sum));
     print!(rt; " sum {sum}")?;
-    print_first_set(rt, parents, sizes)
+    print_first_set(rt, tables.parents, tables.sizes)
 }
 
 // The line of one frame, on tables of these lengths; `build` is the call.
 fn show<F>(rt: &impl Print, name: &str, room: Room, build: F) -> io::Result<()>
 where
-    F: FnOnce(&mut [u16], &mut [u16], &mut [u16], &mut [u16], &mut [u16]) -> Answer + Drop,
+    F: FnOnce(&mut IslandTables<'_>) -> Result<u16, Refusal> + Drop,
     requires { F.IsAlwaysCallable build }
 {
-    let (mut parents, mut sizes, mut body_islands) = ([0; TOO_MANY], [0; TOO_MANY], [0; TOO_MANY]);
-    let (mut manifold_islands, mut joint_islands) = ([0; TOO_MANY], [0; TOO_MANY]);
-    let parents = first(&mut parents, room.parents);
-    let sizes = first(&mut sizes, room.sizes);
-    let body_islands = first(&mut body_islands, room.bodies);
-    let manifold_islands = first(&mut manifold_islands, room.manifolds);
-    let joint_islands = first(&mut joint_islands, room.joints);
-    let answer = build(
-        parents,
-        sizes,
-        body_islands,
-        manifold_islands,
-        joint_islands,
-    );
+    let mut arrays = Arrays::filled(0);
+    let mut tables = arrays.tables(room);
+    let answer = build(&mut tables);
     print!(rt; "{name}")?;
     match answer {
-        Answer::Islands(islands) => print_islands(rt, islands, parents, sizes, body_islands)?,
-        Answer::Refused(number) => print!(rt; " refused {number}")?,
+        Ok(islands) => print_islands(rt, islands, &tables)?,
+        Err(refusal) => print!(rt; " refused {}", refusal.number())?,
     }
     println!(rt; "")
 }
@@ -137,16 +97,7 @@ fn show_manifolds(
         rt,
         name,
         room,
-        |parents, sizes, body_islands, manifold_islands, _| {
-            island::build(
-                types,
-                manifolds,
-                parents,
-                sizes,
-                body_islands,
-                manifold_islands,
-            )
-        },
+        |tables| island::build(types, manifolds, tables),
     )
 }
 
@@ -155,27 +106,22 @@ fn show_joints(
     rt: &impl Print,
     name: &str,
     types: &[u8],
-    joints: &[u16],
+    joint_ends: &[u16],
     enabled: &[u8],
     room: Room,
 ) -> io::Result<()> {
+    let lists = Lists {
+        types,
+        manifolds: &[],
+        joint_ends,
+        joint_counts: &[],
+        enabled,
+    };
     show(
         rt,
         name,
         room,
-        |parents, sizes, body_islands, manifold_islands, joint_islands| {
-            island::build_with_joints(
-                types,
-                &[],
-                joints,
-                enabled,
-                parents,
-                sizes,
-                body_islands,
-                manifold_islands,
-                joint_islands,
-            )
-        },
+        |tables| island::build_with_joints(lists, tables),
     )
 }
 
@@ -184,30 +130,21 @@ fn show_fours(
     rt: &impl Print,
     name: &str,
     types: &[u8],
-    ends: &[u16],
-    counts: &[u8],
+    joint_ends: &[u16],
+    joint_counts: &[u8],
     enabled: &[u8],
 ) -> io::Result<()> {
-    let room = Room::exact(types.len(), 0, counts.len());
-    show(
-        rt,
-        name,
-        room,
-        |parents, sizes, body_islands, manifold_islands, joint_islands| {
-            island::build_with_multi_joints(
-                types,
-                &[],
-                ends,
-                counts,
-                enabled,
-                parents,
-                sizes,
-                body_islands,
-                manifold_islands,
-                joint_islands,
-            )
-        },
-    )
+    let lists = Lists {
+        types,
+        manifolds: &[],
+        joint_ends,
+        joint_counts,
+        enabled,
+    };
+    let room = Room::exact(types.len(), 0, joint_counts.len());
+    show(rt, name, room, |tables| {
+        island::build_with_multi_joints(lists, tables)
+    })
 }
 
 // 4,096 bodies in one chain, and 4,095 on one static body.
@@ -227,51 +164,52 @@ fn last_endpoint(rt: &impl Print) -> io::Result<()> {
     show_manifolds(rt, "endpoint B", &[2; 2], &[0, 2], exact)
 }
 
-// One table an entry short, or one longer than there are bodies, in a frame whose exact tables `most_bodies` lent.
-fn other_tables(rt: &impl Print) -> io::Result<()> {
-    let exact = Room::exact(MOST, MOST - 1, 0);
-    let rooms = [
-        (
-            "parents short",
-            Room {
-                parents: MOST - 1,
-                ..exact
-            },
-        ),
-        (
-            "body labels short",
-            Room {
-                bodies: MOST - 1,
-                ..exact
-            },
-        ),
-        (
-            "manifold labels short",
-            Room {
-                manifolds: MOST - 2,
-                ..exact
-            },
-        ),
-        (
-            "sizes short",
-            Room {
-                sizes: MOST - 1,
-                ..exact
-            },
-        ),
-        (
-            "sizes long",
-            Room {
-                sizes: MOST + 1,
-                ..exact
-            },
-        ),
-    ];
+// The rising chain on tables of these lengths.
+fn show_chains(rt: &impl Print, rooms: &[(&str, Room)]) -> io::Result<()> {
     let pairs = rising_chain();
     for (name, room) in rooms {
-        show_manifolds(rt, name, &[2; MOST], &pairs, room)?;
+        show_manifolds(rt, name, &[2; MOST], &pairs, *room)?;
     }
     Ok(())
+}
+
+// One table an entry short, in a frame whose exact tables `most_bodies` lent.
+fn short_tables(rt: &impl Print) -> io::Result<()> {
+    let exact = Room::exact(MOST, MOST - 1, 0);
+    let parents = Room {
+        parents: MOST - 1,
+        ..exact
+    };
+    let bodies = Room {
+        bodies: MOST - 1,
+        ..exact
+    };
+    let manifolds = Room {
+        manifolds: MOST - 2,
+        ..exact
+    };
+    show_chains(
+        rt,
+        &[
+            ("parents short", parents),
+            ("body labels short", bodies),
+            ("manifold labels short", manifolds),
+        ],
+    )
+}
+
+// The table of sizes an entry short, and one longer than there are bodies.
+fn other_sizes(rt: &impl Print) -> io::Result<()> {
+    let exact = Room::exact(MOST, MOST - 1, 0);
+    let short = Room {
+        sizes: MOST - 1,
+        ..exact
+    };
+    let long = Room {
+        sizes: MOST + 1,
+        ..exact
+    };
+    show_chains(rt, &[("sizes short", short), ("sizes long", long)])
 }
 
 // The chain by joints, with the joint labels exact and one short.
@@ -327,7 +265,8 @@ fn too_many_bodies(rt: &impl Print) -> io::Result<()> {
 fn main(rt: HostRuntime) -> io::Result<()> {
     most_bodies(&rt)?;
     last_endpoint(&rt)?;
-    other_tables(&rt)?;
+    short_tables(&rt)?;
+    other_sizes(&rt)?;
     joint_tables(&rt)?;
     most_joints(&rt)?;
     too_many_bodies(&rt)

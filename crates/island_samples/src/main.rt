@@ -4,7 +4,9 @@
 // not lent is a dash too; every lent place holds 9 before the call.
 #![tactic(auto)]
 
-use island::Answer;
+use frame::{Lists, Refusal};
+use island::IslandTables;
+use island_arrays::{IslandArrays, Room};
 use std::io;
 
 // The label of what has no island.
@@ -31,15 +33,8 @@ impl Sample<'_> {
     }
 }
 
-// How many places of each table are lent.
-#[derive(Clone, Copy)]
-struct Room {
-    parents: usize,
-    sizes: usize,
-    bodies: usize,
-    manifolds: usize,
-    joints: usize,
-}
+// The tables of at most 16 bodies, 8 manifolds and 7 joints.
+type Arrays = IslandArrays<16, 8, 7>;
 
 // Enough for each sample.
 const AMPLE: Room = Room {
@@ -123,94 +118,60 @@ fn put_values(rt: &impl Print, word: &str, count: usize, values: &[u16]) -> io::
 // The answer and the sets: by their roots after acceptance, else the two tables as they are.
 fn put_answer(
     rt: &impl Print,
-    answer: Answer,
+    answer: Result<u16, Refusal>,
     bodies: usize,
-    parents: &[u16],
-    sizes: &[u16],
+    tables: &IslandTables<'_>,
 ) -> io::Result<()> {
     match answer {
-        Answer::Islands(count) => {
+        Ok(count) => {
             print!(rt; " islands {count}")?;
-            put_sets(rt, bodies, parents, sizes)
+            put_sets(rt, bodies, tables.parents, tables.sizes)
         }
-        Answer::Refused(number) => {
-            print!(rt; " refused {number}")?;
-            put_values(rt, "parents", bodies, parents)?;
-            put_values(rt, "sizes", bodies, sizes)
+        Err(refusal) => {
+            print!(rt; " refused {}", refusal.number())?;
+            put_values(rt, "parents", bodies, tables.parents)?;
+            put_values(rt, "sizes", bodies, tables.sizes)
         }
     }
-}
-
-// The first places of a table, at most `count`.
-fn first(table: &mut [u16], count: usize) -> &mut [u16] {
-    let count = count.min(table.len());
-    &mut table[..count]
 }
 
 // The islands call of a sample.
-fn build(
-    sample: Sample<'_>,
-    parents: &mut [u16],
-    sizes: &mut [u16],
-    body_islands: &mut [u16],
-    manifold_islands: &mut [u16],
-    joint_islands: &mut [u16],
-) -> Answer {
+fn build(sample: Sample<'_>, tables: &mut IslandTables<'_>) -> Result<u16, Refusal> {
+    let lists = Lists {
+        types: sample.types,
+        manifolds: sample.manifolds,
+        joint_ends: sample.joint_ends,
+        joint_counts: sample.joint_counts.unwrap_or(&[]),
+        enabled: sample.enabled,
+    };
     match sample.joint_counts {
-        None => island::build_with_joints(
-            sample.types,
-            sample.manifolds,
-            sample.joint_ends,
-            sample.enabled,
-            parents,
-            sizes,
-            body_islands,
-            manifold_islands,
-            joint_islands,
-        ),
-        Some(joint_counts) => island::build_with_multi_joints(
-            sample.types,
-            sample.manifolds,
-            sample.joint_ends,
-            joint_counts,
-            sample.enabled,
-            parents,
-            sizes,
-            body_islands,
-            manifold_islands,
-            joint_islands,
-        ),
+        None => island::build_with_joints(lists, tables),
+        Some(_) => island::build_with_multi_joints(lists, tables),
     }
 }
 
-// The line of a sample, at most 16 bodies, 8 manifolds and 7 joints, on tables of these lengths.
-fn show(rt: &impl Print, sample: Sample<'_>, room: Room) -> io::Result<()> {
-    let (mut parents, mut sizes, mut body_islands) = ([9; 16], [9; 16], [9; 16]);
-    let (mut manifold_islands, mut joint_islands) = ([9; 8], [9; 7]);
-    let parents = first(&mut parents, room.parents);
-    let sizes = first(&mut sizes, room.sizes);
-    let body_islands = first(&mut body_islands, room.bodies);
-    let manifold_islands = first(&mut manifold_islands, room.manifolds);
-    let joint_islands = first(&mut joint_islands, room.joints);
-    let answer = build(
-        sample,
-        parents,
-        sizes,
-        body_islands,
-        manifold_islands,
-        joint_islands,
-    );
+// What a sample's line says behind its name.
+fn put_line(
+    rt: &impl Print,
+    sample: Sample<'_>,
+    answer: Result<u16, Refusal>,
+    tables: &IslandTables<'_>,
+) -> io::Result<()> {
     let bodies = sample.types.len();
+    let manifolds = sample.manifolds.len() / 2;
+    put_answer(rt, answer, bodies, tables)?;
+    put_values(rt, "bodies", bodies, tables.body_islands)?;
+    put_values(rt, "manifolds", manifolds, tables.manifold_islands)?;
+    put_values(rt, "joints", sample.joints(), tables.joint_islands)
+}
+
+// The line of a sample, on tables of these lengths.
+fn show(rt: &impl Print, sample: Sample<'_>, room: Room) -> io::Result<()> {
+    let mut arrays = Arrays::filled(9);
+    let mut tables = arrays.tables(room);
+    let answer = build(sample, &mut tables);
     print!(rt; "{}", sample.name)?;
-    put_answer(rt, answer, bodies, parents, sizes)?;
-    put_values(rt, "bodies", bodies, body_islands)?;
-    put_values(
-        rt,
-        "manifolds",
-        sample.manifolds.len() / 2,
-        manifold_islands,
-    )?;
-    put_values(rt, "joints", sample.joints(), joint_islands)?;
+    put_line(rt, sample, answer, &tables)?;
     println!(rt; "")
 }
 
@@ -368,7 +329,11 @@ fn counted_samples(rt: &impl Print) -> io::Result<()> {
         &[0, 1, 2, 3],
         &[4],
         &[1],
-    )?;
+    )
+}
+
+// Joints beside manifolds, a disabled joint, and none.
+fn mixed_samples(rt: &impl Print) -> io::Result<()> {
     counted_sample(
         rt,
         "two, three and four",
@@ -408,7 +373,7 @@ fn counted_samples(rt: &impl Print) -> io::Result<()> {
     counted_sample(rt, "no counts", &[2; 2], &[0, 1], &[], &[], &[])
 }
 
-// What questions 4, 5 and 7 refuse of joints with counts. Question 5 is asked of disabled joints too, and question 7 is not.
+// What questions 4 and 5 refuse of joints with counts. Question 5 is asked of disabled joints too.
 fn refused_counts(rt: &impl Print) -> io::Result<()> {
     counted_sample(rt, "count 5", &[2; 5], &[], &[0, 1, 2, 3, 4], &[5], &[1])?;
     counted_sample(
@@ -447,7 +412,11 @@ fn refused_counts(rt: &impl Print) -> io::Result<()> {
         &[0, 1, 2, 3, 4, 5],
         &[1, 4],
         &[1, 1],
-    )?;
+    )
+}
+
+// What questions 4 and 7 refuse of their ends. Question 7 is not asked of disabled joints.
+fn refused_ends(rt: &impl Print) -> io::Result<()> {
     counted_sample(rt, "ends without counts", &[2; 2], &[], &[0, 1], &[], &[])?;
     counted_sample(rt, "one end twice", &[2; 3], &[], &[0, 1, 0], &[3], &[1])?;
     counted_sample(
@@ -477,13 +446,7 @@ fn room_sample(rt: &impl Print, name: &str, room: Room) -> io::Result<()> {
 
 // Tables of just its size, and each of them with an entry too few.
 fn room_samples(rt: &impl Print) -> io::Result<()> {
-    let exact = Room {
-        parents: 3,
-        sizes: 3,
-        bodies: 3,
-        manifolds: 1,
-        joints: 1,
-    };
+    let exact = Room::exact(3, 1, 1);
     room_sample(rt, "room", exact)?;
     room_sample(
         rt,
@@ -515,6 +478,8 @@ fn main(rt: HostRuntime) -> io::Result<()> {
     refused_samples(&rt)?;
     logged_samples(&rt)?;
     counted_samples(&rt)?;
+    mixed_samples(&rt)?;
     refused_counts(&rt)?;
+    refused_ends(&rt)?;
     room_samples(&rt)
 }
