@@ -1,7 +1,7 @@
 -- A piece stands in the buffer where its opening was put and the lines behind it.
-use Rattle.std.proofs.Common.{ℕ, zero, suc, ◌+◌, ◌-◌, ◌*◌, ◌≤◌, ◌<◌, ◌≡◌, refl, sym, ap, ap₂, ◌∙◌, true, List, [], ◌++◌, Result, arith, ltb, eqb, length, take, drop, length-append, length-drop, drop-drop, take_at, le-leb, lt-ltb, ltb-true, eqb-true}
+use Rattle.std.proofs.Common.{ℕ, zero, suc, ◌+◌, ◌-◌, ◌*◌, ◌≤◌, ◌<◌, ◌≡◌, sym, ap, ap₂, ◌∙◌, true, List, [], ◌++◌, Result, arith, ltb, eqb, length, take, drop, length-append, length-drop, drop-drop, take_at, le-leb, lt-ltb, ltb-true, eqb-true}
 use Rattle.std.proofs.lemmas.Bool.{eqb-false}
-use Rattle.lists.specs.Basics.{one, over, put}
+use Rattle.lists.specs.Basics.{one, put}
 use Rattle.lists.proofs.Laws.{by_cases}
 use Rattle.lists.proofs.Puts.{put_first}
 use Rattle.frame.specs.declared.refusal.Refusal.{Refusal}
