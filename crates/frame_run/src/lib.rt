@@ -42,6 +42,29 @@ fn labels_in<'a>(islands: &'a IslandTables<'_>, manifolds: usize, joints: usize)
     }
 }
 
+// The filled tables, to be read only.
+fn filled_in<'a>(
+    tables: &'a FrameTables<'_>,
+    labels: IslandLabels<'a>,
+    numbers: &'a [u16],
+) -> FilledFrame<'a>
+    ensures types { result.types.now ≡ tables.now.types.now }
+    ensures flags { result.flags.now ≡ tables.now.flags.now }
+    ensures ends { result.ends.now ≡ tables.now.pairs.now }
+    ensures counts { result.counts.now ≡ tables.now.counts.now }
+    ensures labels { labels_of result.labels ≡ labels_of labels.entry }
+    ensures numbers { result.numbers.now ≡ numbers.now }
+{
+    FilledFrame {
+        types: tables.types,
+        flags: tables.flags,
+        ends: tables.pairs,
+        counts: tables.counts,
+        labels,
+        numbers,
+    }
+}
+
 // The run of a file that passed questions 1 to 6, on frame tables of its sizes: the tables of the constraints by island, and the plan's
 // counts, are cut to them.
 fn run_sized(
@@ -81,15 +104,8 @@ fn run_sized(
         &mut numbers[..constraints],
         plan,
     );
-    let seen = frame_tables::view_of(tables);
-    let filled = FilledFrame {
-        types: seen.types,
-        flags: seen.flags,
-        ends: seen.ends,
-        counts: seen.counts,
-        labels: labels_in(islands, asked.manifolds, asked.joints),
-        numbers: &numbers[..constraints],
-    };
+    let labels = labels_in(islands, asked.manifolds, asked.joints);
+    let filled = filled_in(tables, labels, &numbers[..constraints]);
     let tally = island_run::run_islands(
         count_of(filling),
         filled,

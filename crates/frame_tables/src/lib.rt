@@ -33,30 +33,6 @@ pub struct ByIsland<'a> {
     pub counts: &'a mut [u8],
 }
 
-// The filled tables that the islands are run from, to be read only.
-#[derive(Clone, Copy)]
-pub struct Filled<'a> {
-    pub types: &'a [u8],
-    pub flags: &'a [u8],
-    pub ends: &'a [u16],
-    pub counts: &'a [u8],
-}
-
-// The tables to be read only.
-pub fn view_of<'a>(tables: &'a FrameTables<'_>) -> Filled<'a>
-    ensures types { result.types.now ≡ tables.now.types.now }
-    ensures flags { result.flags.now ≡ tables.now.flags.now }
-    ensures ends { result.ends.now ≡ tables.now.pairs.now }
-    ensures counts { result.counts.now ≡ tables.now.counts.now }
-{
-    Filled {
-        types: tables.types,
-        flags: tables.flags,
-        ends: tables.pairs,
-        counts: tables.counts,
-    }
-}
-
 // The frame that stands in the tables.
 fn lists_in<'a>(tables: &'a FrameTables<'_>, manifolds: usize) -> Lists<'a>
     requires { 2 * manifolds ≤ length tables.now.pairs.now }
