@@ -1,5 +1,6 @@
 -- Answers as numbers: plans, positions, and the bodies that a take hands.
-use Rattle.std.specs.Prelude.{ℕ, Result, Ok, Err, List, [], ◌∷◌, get_or}
+use Rattle.std.specs.Prelude.{ℕ, Result, Ok, Err, List, [], ◌∷◌, map, get_or}
+use Rattle.std.specs.List.{range_with_len}
 use Rattle.std.specs.Borrow.{Bor}
 use Rattle.lists.specs.Basics.{one}
 use Rattle.frame.specs.declared.refusal.Refusal.{Refusal}
@@ -15,6 +16,10 @@ plan_of_numbers p = record { body_count = get_or p 0 0; constraint_count = get_o
 
 abbrev pub plan_numbers : ConstraintColoring → List ℕ
 plan_numbers p = p.body_count ∷ p.constraint_count ∷ p.color_count ∷ p.max_color_constraint_count ∷ []
+
+-- positions in n places; those past the last are 0
+abbrev pub placed : ℕ → List ℕ → List ℕ
+placed n xs = map (λ (k : ℕ). get_or xs k 0) (range_with_len 0 n)
 
 -- the positions of a constraint; both 0 where they are refused
 abbrev pub position_numbers : Result (Bor (List ℕ)) Refusal → List ℕ
@@ -32,11 +37,6 @@ multi_plan_of_numbers p = record { plan = plan_of_numbers p }
 
 abbrev pub multi_plan_numbers : MultiColoring → List ℕ
 multi_plan_numbers p = plan_numbers p.plan
-
--- two to four positions in four places; those past them are 0, and all are where they are refused
-abbrev pub places_numbers : Result (Bor (List ℕ)) Refusal → List ℕ
-places_numbers answer =
-    get_or (positions_values answer) 0 0 ∷ get_or (positions_values answer) 1 0 ∷ get_or (positions_values answer) 2 0 ∷ get_or (positions_values answer) 3 0 ∷ []
 
 -- the bodies that a take of two to four positions hands: four times a body and 1 for "dynamic" or 0 for "read-only"; 0 past the last, and
 -- all 0 where it is refused

@@ -1,15 +1,17 @@
 // Answers as numbers, for the calls of C. Internal to the boundary.
 #![tactic(auto)]
 
-ghost use Rattle.std.specs.Prelude.{◌≡◌, cond, eqb, length, get_or};
+ghost use Rattle.std.specs.Prelude.{◌≡◌, cond, eqb, get_or};
 ghost use Rattle.frame.specs.Refusals.{refused_by};
 ghost use Rattle.constraint_coloring.specs.Calls.{positions_values};
-ghost use Rattle.answer_numbers.specs.Numbers.{plan_of_numbers, plan_numbers, position_numbers, places_numbers, handed_numbers, taken_numbers};
+ghost use Rattle.answer_numbers.specs.Numbers.{plan_of_numbers, plan_numbers, placed, handed_numbers, taken_numbers};
 
 use colored_bodies::Taken;
 use colored_bodies::multi::TakenAt;
 use constraint_coloring::ConstraintColoring;
 use frame::Refusal;
+use frame::refusal::refusal_number;
+use std::array;
 
 // The plan that four numbers give.
 pub fn plan_from(plan: &[usize; 4]) -> ConstraintColoring
@@ -55,20 +57,13 @@ fn place_at(places: &[u16], place: usize) -> u16
     places.get(place).copied().unwrap_or(0)
 }
 
-// The answer of a lookup of two positions as numbers.
-pub fn locate(answer: Result<&[u16], Refusal>, places: &mut [u16; 2]) -> u8
-    ensures { (result ≡ refused_by answer.entry) × (places.new ≡ position_numbers answer.entry) }
+// The answer of a lookup of positions as numbers, in so many places: those past the last position are 0, and all are where it is refused.
+pub fn locate<const N: usize>(answer: Result<&[u16], Refusal>, places: &mut [u16; N]) -> u8
+    ensures { (result ≡ refused_by answer.entry) × (places.new ≡ placed N (positions_values answer.entry)) }
 {
-    match answer {
-        Ok(found) => {
-            *places = [place_at(found, 0), place_at(found, 1)];
-            0
-        }
-        Err(refusal) => {
-            *places = [0, 0];
-            refusal.number()
-        }
-    }
+    let found = answer.unwrap_or(&[]);
+    *places = array::from_fn(|place| place_at(found, place));
+    refusal_number(&answer)
 }
 
 // The answer of a take as numbers.
@@ -87,33 +82,6 @@ pub fn hand(taken: Result<Taken, Refusal>, handed: &mut [u16; 4]) -> u8
         }
         Err(refusal) => {
             *handed = [0, 0, 0, 0];
-            refusal.number()
-        }
-    }
-}
-
-// The answer of a lookup of two to four positions as numbers, and how many they are.
-pub fn locate_places(
-    answer: Result<&[u16], Refusal>,
-    places: &mut [u16; 4],
-    count: &mut usize,
-) -> u8
-    ensures { (result ≡ refused_by answer.entry) × (places.new ≡ places_numbers answer.entry) × (count.new ≡ length (positions_values answer.entry)) }
-{
-    match answer {
-        Ok(found) => {
-            *places = [
-                place_at(found, 0),
-                place_at(found, 1),
-                place_at(found, 2),
-                place_at(found, 3),
-            ];
-            *count = found.len();
-            0
-        }
-        Err(refusal) => {
-            *places = [0, 0, 0, 0];
-            *count = 0;
             refusal.number()
         }
     }

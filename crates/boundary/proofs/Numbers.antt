@@ -11,7 +11,7 @@ use Rattle.plan_questions.specs.Plans.{part, group_part}
 use Rattle.constraint_coloring.specs.Calls.{positions_values}
 use Rattle.multi_coloring.specs.Counts.{count_read, multi_positions_refusal, positions_in}
 use Rattle.multi_coloring.specs.Calls.{MultiLocated}
-use Rattle.answer_numbers.specs.Numbers.{plan_of_numbers, places_numbers}
+use Rattle.answer_numbers.specs.Numbers.{plan_of_numbers, placed}
 use Rattle.boundary.specs.Exports.{Found, MultiLocates}
 
 empty : (xs table : List ℕ) (start : ℕ) → xs ≡ [] → take (length xs) (drop start table) ≡ xs
@@ -83,12 +83,12 @@ four_places (a ∷ b ∷ c ∷ d ∷ []) h = refl
 four_places (a ∷ b ∷ c ∷ d ∷ e ∷ r) h = absurd (omega arith)
 
 pub located_by : {p : ConstraintColoring} (plan : List ℕ) {counts table : List ℕ} {r number count : ℕ} {places : List ℕ} (answer : Result (Bor (List ℕ)) Refusal)
-    → p ≡ plan_of_numbers plan → MultiLocated p.constraint_count counts table r answer → (number ≡ refused_by answer) × (places ≡ places_numbers answer) × (count ≡ length (positions_values answer))
+    → p ≡ plan_of_numbers plan → MultiLocated p.constraint_count counts table r answer → count ≡ length (positions_values answer) → (number ≡ refused_by answer) × (places ≡ placed 4 (positions_values answer))
     → MultiLocates (get_or plan 1 0) counts table r number places count
-located_by plan {counts} {table} {r} answer e l h = record {
+located_by plan {counts} {table} {r} answer e l many h = record {
   answer = answer;
   located = subst (λ (x : ConstraintColoring). MultiLocated x.constraint_count counts table r answer) e l;
   refusal = h.0;
   numbers = h.1 ∙ four_places (positions_values answer) (located_few l);
-  counted = h.2;
+  counted = many;
 }

@@ -129,7 +129,8 @@ pub extern "C" fn engkarupi_positions_multi(
         constraint_body_positions,
         constraint,
     );
-    answer_numbers::locate_places(answer, places, count)
+    *count = answer.unwrap_or(&[]).len();
+    answer_numbers::locate(answer, places)
 }
 
 // A take from a binding by two to four positions: the bodies in the order asked, each with 1 for "dynamic"; answers the refusal or 0.

@@ -25,10 +25,7 @@ use run_answer::{Asked, Report};
 fn count_of(filling: Result<Filling, Refusal>) -> u16
     ensures { result ≡ islands_in filling }
 {
-    match filling {
-        Ok(filled) => filled.islands,
-        Err(_) => 0,
-    }
+    filling.map_or(0, |filled| filled.islands)
 }
 
 // The labels of so many manifolds and joints.

@@ -29,11 +29,11 @@ fn main(rt: HostRuntime) {
     let mut text = [0; LINE];
     let read = read_full(&mut rt.reader(), &mut text);
     let mut out = [0; generator::MAX_BYTES];
-    let size = lift_print::put_print(&text[..read], &mut out);
-    if size == 0 {
+    let Some(size) = lift_print::put_print(&text[..read], &mut out) else {
         let _ = eprintln!(rt;
             "generate_frame: write one line of four numbers of at most 19 digits, parted by one space: seed bodies manifolds joints (the seed at most 4294967295)"
         );
-    }
+        return;
+    };
     let _ = rt.write_all(out.get(..size).unwrap_or(&[]));
 }

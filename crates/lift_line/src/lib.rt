@@ -7,6 +7,9 @@ ghost use Rattle.lift_line.specs.Lines.{end_of, number_at, followed, line_of};
 
 use frame_file::Sizes;
 
+// The digits that a number can have.
+const MOST_DIGITS: usize = 19;
+
 // What a line asks for.
 #[derive(Clone, Copy, Debug, PartialEq, Eq)]
 pub struct Wanted {
@@ -33,17 +36,19 @@ fn number_at(text: &[u8], at: usize) -> Number
     ensures { (result.value ≡ number_at text.now at) × (result.end ≡ end_of text.now at) }
 {
     let mut value = 0;
-    let mut end = at;
-    // `value` is the number of the first `read` digits, which end at `end`.
-    for read in 0..19usize {
+    // `value` is the number of the first `read` digits.
+    for read in 0..MOST_DIGITS {
+        let end = at + read;
         let byte = byte_at(text, end, 0);
         if !byte.is_ascii_digit() {
             return Number { value, end };
         }
         value = 10 * value + (byte - b'0') as usize;
-        end += 1;
     }
-    Number { value, end }
+    Number {
+        value,
+        end: at + MOST_DIGITS,
+    }
 }
 
 // The number at a place, if it has digits and the byte `stop` follows. Behind the text's end `past` follows.

@@ -1,5 +1,5 @@
-// What the program `generate_frame` prints for a text, made in a buffer: the test lift that its line asks for, a refusal, or nothing where the
-// line can't be read. Each function answers how many bytes it made.
+// What the program `generate_frame` prints for a text, made in a buffer: the test lift that its line asks for, or its refusal. Each function
+// answers how many bytes it made.
 #![tactic(auto)]
 
 ghost use Rattle.std.specs.Prelude.{◌≡◌, length};
@@ -7,7 +7,7 @@ ghost use Rattle.frame.specs.Refusals.{number_of};
 ghost use Rattle.lift_line.specs.Lines.{line_of};
 ghost use Rattle.print_fields.specs.Puts.{longest};
 ghost use Rattle.schedules.specs.Print.{refusal_line};
-ghost use Rattle.lift_print.specs.Prints.{lift_of, lift_asked, Printed};
+ghost use Rattle.lift_print.specs.Prints.{lift_of, Printed, LiftPrinted};
 
 use frame::refusal::Refusal;
 use lift_line::Wanted;
@@ -34,12 +34,10 @@ fn put_lift(out: &mut [u8], wanted: Wanted) -> usize
     }
 }
 
-// The print of a text.
-pub fn put_print(text: &[u8], out: &mut [u8; generator::MAX_BYTES]) -> usize
-    ensures { Printed (lift_asked (line_of text.now)) out.old out.new result }
+// The print of a text, if its line can be read.
+pub fn put_print(text: &[u8], out: &mut [u8; generator::MAX_BYTES]) -> Option<usize>
+    ensures { LiftPrinted (line_of text.now) out.old out.new result }
 {
-    match lift_line::read_line(text) {
-        Some(wanted) => put_lift(out, wanted),
-        None => 0,
-    }
+    let wanted = lift_line::read_line(text)?;
+    Some(put_lift(out, wanted))
 }

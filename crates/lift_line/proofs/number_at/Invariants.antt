@@ -3,4 +3,4 @@ use Rattle.lift_line.proofs.Numbers.{NumberRead}
 use Rattle.lift_line.proofs.number_at.Given as goal
 
 abbrev pub invariant-loop-read : goal.invariant-loop-read
-invariant-loop-read l = NumberRead l.text l.at l.value l.end l.read
+invariant-loop-read l = NumberRead l.text l.at l.value l.read
