@@ -25,7 +25,10 @@ use run_answer::{Asked, Report};
 fn count_of(filling: Result<Filling, Refusal>) -> u16
     ensures { result ≡ islands_in filling }
 {
-    filling.map_or(0, |filled| filled.islands)
+    match filling {
+        Ok(filled) => filled.islands,
+        Err(_) => 0,
+    }
 }
 
 // The labels of so many manifolds and joints.
