@@ -4,7 +4,7 @@
 // ends the list.
 #![tactic(auto)]
 
-ghost use Rattle.std.specs.Prelude.{◌≡◌, ◌↔◌, IsTrue};
+ghost use Rattle.std.specs.Prelude.{◌≡◌, ◌↔◌, IsTrue, take};
 
 mod reader;
 mod writer;
@@ -93,6 +93,14 @@ impl<R: Read> List<R> {
             answer,
         }))
     }
+}
+
+// The first places of a table, at most `count`.
+pub fn first<T>(table: &mut [T], count: usize) -> &mut [T]
+    ensures { result.now ≡ take count table.old }
+{
+    let count = count.min(table.len());
+    &mut table[..count]
 }
 
 // Whether an answer is the stored one.
