@@ -2,6 +2,8 @@
 //
 // A list is records of a kind, the lengths of the question and of the answer in 16 bits each, the question and the answer. A head of zeros
 // ends the list.
+//
+// Besides, the first places of a table, for the programs that lend only those.
 #![tactic(auto)]
 
 ghost use Rattle.std.specs.Prelude.{◌≡◌, ◌↔◌, IsTrue, take};
