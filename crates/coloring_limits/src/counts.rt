@@ -1,11 +1,12 @@
 // Updates of constraints that have a count each: as many as there may be, of four bodies each, and one more. Then one constraint of three on
 // tables of just the lengths that are asked for, and with each of them one place short; and the lookup of its positions, in tables that are
 // one place short and past the last constraint: the refusal, how many positions, and these.
-use crate::{cut, cut_tables, first, show};
+use crate::{cut, cut_tables, show};
 use constraint_coloring::ConstraintColoring;
 use frame::Refusal;
 use multi_coloring::MultiColoring;
 use plan_arrays::PlanArrays;
+use records::first;
 use std::{array, io};
 
 // The tables of four bodies in the most constraints.
@@ -13,15 +14,15 @@ type Arrays = PlanArrays<4, 5, 8192, 8193, 32768>;
 
 // The same four bodies in as many constraints as there may be, the same input again, and one constraint more.
 fn most(rt: &impl Print) -> io::Result<()> {
-    let ends: [u16; 32772] = array::from_fn(|place| (place % 4) as u16);
+    let mut ends: [u16; 32772] = array::from_fn(|place| (place % 4) as u16);
     let mut counts = [0; 8192];
     let mut arrays = Arrays::filled(0, 0);
     let mut plan = MultiColoring::new();
     for (case, constraints) in [8192, 8192, 8193].iter().enumerate() {
         let answer = plan.update(
             &[1; 4],
-            first(&ends, 4 * *constraints),
-            first(&[4; 8193], *constraints),
+            first(&mut ends, 4 * *constraints),
+            first(&mut [4; 8193], *constraints),
             &mut counts,
             &mut arrays.tables(),
         );

@@ -10,6 +10,7 @@ mod counts;
 use constraint_coloring::{ConstraintColoring, Update};
 use plan_arrays::PlanArrays;
 use plan_questions::PlanTables;
+use records::first;
 use std::{array, io};
 
 // How many flags and entries an input may have: one body and one pair more than an update takes.
@@ -102,11 +103,6 @@ impl Case {
     }
 }
 
-// The first places of a list, at most `count`.
-fn first<T>(list: &[T], count: usize) -> &[T] {
-    &list[..count.min(list.len())]
-}
-
 // A checksum of a list.
 fn checksum(list: &[u16]) -> u32 {
     list.iter().fold(0, |sum, x| {
@@ -139,13 +135,13 @@ fn next(
     before: ConstraintColoring,
     arrays: &mut Arrays,
 ) -> io::Result<ConstraintColoring> {
-    let (flags, pairs) = (case.flags(), case.pairs());
-    let flags = first(&flags, case.bodies);
-    let pairs = first(&pairs, case.entries);
+    let (mut flags, mut pairs) = (case.flags(), case.pairs());
+    let flags = first(&mut flags, case.bodies);
+    let pairs = first(&mut pairs, case.entries);
     let answer = before.update(flags, pairs, &mut arrays.tables());
     let plan = answer.plan_after(before);
     let count = plan.constraint_count.saturating_mul(2);
-    let positions = first(&arrays.constraint_body_positions, count);
+    let positions = first(&mut arrays.constraint_body_positions, count);
     show(rt, number, answer, plan, positions)?;
     Ok(plan)
 }
@@ -195,7 +191,7 @@ fn exact(rt: &impl Print, short: usize) -> io::Result<()> {
     let answer = before.update(&[1, 1], &[0, 1], &mut cut_tables(&mut arrays, short));
     let plan = answer.plan_after(before);
     let count = plan.constraint_count.saturating_mul(2);
-    let positions = first(&arrays.constraint_body_positions, count);
+    let positions = first(&mut arrays.constraint_body_positions, count);
     show(rt, short, answer, plan, positions)
 }
 

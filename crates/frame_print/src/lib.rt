@@ -2,18 +2,10 @@
 // what they are. Nothing goes to standard error.
 #![tactic(auto)]
 
-ghost use Rattle.std.specs.Prelude.{◌≤◌, length};
-
 // Standard input and output, by their file descriptors.
 const STDIN: i32 = 0;
 
 const STDOUT: i32 = 1;
-
-fn write_first(text: &[u8], size: usize)
-    requires { size ≤ length text.now }
-{
-    io::write_all(STDOUT, &text[..size]);
-}
 
 // Prints an input.
 pub fn print_frame(frame: &[u8]) {
@@ -23,7 +15,7 @@ pub fn print_frame(frame: &[u8]) {
     let mut piece = print_pieces::first_piece(frame, &mut turns, &mut places, &mut out);
     // All pieces before this one are written.
     while 0 < piece.size {
-        write_first(&out, piece.size);
+        io::write_all(STDOUT, &out[..piece.size]);
         piece = print_pieces::next_piece(frame, &turns, &places, &mut out, piece);
     }
 }

@@ -5,6 +5,7 @@
 use frame::Refusal;
 use frame::refusal::refusal_number;
 use frame_file::Sizes;
+use records::first;
 use std::io;
 
 // A sample: its name, the numbers that ask for a lift, and how many bytes are lent.
@@ -34,16 +35,10 @@ fn fnv(bytes: &[u8]) -> u32 {
     })
 }
 
-// The first bytes, as many as a sample lends, at most all.
-fn lent<'a>(sample: Lift<'_>, bytes: &'a mut [u8]) -> &'a mut [u8] {
-    let count = sample.lent.min(bytes.len());
-    &mut bytes[..count]
-}
-
 // A sample with at most 99 bytes lent.
 fn show_short(rt: &impl Print, sample: Lift<'_>) -> io::Result<()> {
     let mut bytes = [171; 99];
-    let bytes = lent(sample, &mut bytes);
+    let bytes = first(&mut bytes, sample.lent);
     let answer = generator::generate(sample.seed, sample.sizes, bytes);
     print_answer(rt, sample.name, answer)?;
     if !bytes.is_empty() {
@@ -58,7 +53,7 @@ fn show_short(rt: &impl Print, sample: Lift<'_>) -> io::Result<()> {
 // A sample with at most as many bytes lent as the largest frame has.
 fn show_long(rt: &impl Print, sample: Lift<'_>) -> io::Result<()> {
     let mut bytes = [171; generator::MAX_BYTES];
-    let bytes = lent(sample, &mut bytes);
+    let bytes = first(&mut bytes, sample.lent);
     let answer = generator::generate(sample.seed, sample.sizes, bytes);
     print_answer(rt, sample.name, answer)?;
     println!(rt; " sum {} fnv {}", sum(bytes), fnv(bytes))

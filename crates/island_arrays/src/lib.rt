@@ -4,6 +4,7 @@
 ghost use Rattle.std.specs.Prelude.{◌≡◌, replicate, take};
 
 use island::IslandTables;
+use records::first;
 
 // How many places of each table are lent.
 #[derive(Clone, Copy)]
@@ -38,14 +39,6 @@ pub struct IslandArrays<const B: usize, const M: usize, const J: usize> {
     body_islands: [u16; B],
     manifold_islands: [u16; M],
     joint_islands: [u16; J],
-}
-
-// The first places of a table, at most `count`.
-fn first(table: &mut [u16], count: usize) -> &mut [u16]
-    ensures { result.now ≡ take count table.old }
-{
-    let count = count.min(table.len());
-    &mut table[..count]
 }
 
 impl<const B: usize, const M: usize, const J: usize> IslandArrays<B, M, J> {

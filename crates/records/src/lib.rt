@@ -2,9 +2,11 @@
 //
 // A list is records of a kind, the lengths of the question and of the answer in 16 bits each, the question and the answer. A head of zeros
 // ends the list.
+//
+// Besides, the first places of a table, for the programs that lend only those.
 #![tactic(auto)]
 
-ghost use Rattle.std.specs.Prelude.{◌≡◌, ◌↔◌, IsTrue};
+ghost use Rattle.std.specs.Prelude.{◌≡◌, ◌↔◌, IsTrue, take};
 
 mod reader;
 mod writer;
@@ -93,6 +95,14 @@ impl<R: Read> List<R> {
             answer,
         }))
     }
+}
+
+// The first places of a table, at most `count`.
+pub fn first<T>(table: &mut [T], count: usize) -> &mut [T]
+    ensures { result.now ≡ take count table.old }
+{
+    let count = count.min(table.len());
+    &mut table[..count]
 }
 
 // Whether an answer is the stored one.

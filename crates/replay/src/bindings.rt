@@ -22,9 +22,9 @@ fn put_take(taken: Result<Taken, Refusal>, out: &mut Answer) {
 fn put_binding(binding: &BodyBinding, out: &mut Answer) {
     let last = binding.count.min(Frame::MAX_BODIES - 1);
     out.half(last as u16);
-    for i in 0..last + 1 {
-        out.half(binding.bodies[i]);
-        out.byte(binding.marks[i]);
+    for (body, mark) in binding.bodies.iter().zip(&binding.marks).take(last + 1) {
+        out.half(*body);
+        out.byte(*mark);
     }
 }
 

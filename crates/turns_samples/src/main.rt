@@ -8,10 +8,9 @@ use std::io::{ErrorKind, Read};
 
 // The next input's length.
 fn read_length(input: &mut impl Read) -> io::Result<usize> {
-    let mut length = [0; 3];
-    input.read_exact(&mut length)?;
-    let [high, middle, low] = length;
-    Ok(65536 * usize::from(high) + 256 * usize::from(middle) + usize::from(low))
+    let mut length = [0; 4];
+    input.read_exact(&mut length[1..])?;
+    Ok(u32::from_be_bytes(length) as usize)
 }
 
 // Reads the next input and prints what `turns` writes for it.
