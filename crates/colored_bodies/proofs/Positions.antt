@@ -35,16 +35,9 @@ all_under : (ps : List ℕ) (count : ℕ) → all (λ p. ltb p (cond (ltb count 
 all_under [] count = refl
 all_under (p ∷ ps) count = rw (under p count, all_under ps count)
 
-module _ (ps : List ℕ) (count limit : ℕ) (t : Bool) (k : 2 ≤ length ps) (h : length ps ≤ 4) (l : limit ≡ cond (ltb count 4096) count 4096) (e : t ≡ (distinct ps && all (λ p. ltb p limit) ps)) where
-  found : t ≡ placed count ps
-  unfolding placed
-  found = e ∙ ap (λ (m : ℕ). distinct ps && all (λ p. ltb p m) ps) l ∙ ap (λ (u : Bool). distinct ps && u) (all_under ps count)
-
-  pub ask_nine : t ≡ false → 9 ≡ ask_refusal count ps
-  ask_nine f = rw (le-leb 2 (length ps) k, le-leb (length ps) 4 h, sym found ∙ f)
-
-  pub ask_none : t ≡ true → 0 ≡ ask_refusal count ps
-  ask_none f = rw (le-leb 2 (length ps) k, le-leb (length ps) 4 h, sym found ∙ f)
+pub positions_placed : (ps : List ℕ) (count limit : ℕ) (t : Bool) → limit ≡ cond (ltb count 4096) count 4096 → t ≡ (distinct ps && all (λ p. ltb p limit) ps) → t ≡ placed count ps
+unfolding placed
+positions_placed ps count limit t l e = e ∙ ap (λ (m : ℕ). distinct ps && all (λ p. ltb p m) ps) l ∙ ap (λ (u : Bool). distinct ps && u) (all_under ps count)
 
 pub ask_passed : (ps : List ℕ) (count : ℕ) → 0 ≡ ask_refusal count ps → (length ps ≤ 4) × Places ps
 unfolding placed

@@ -12,7 +12,7 @@ ghost use Rattle.frame.specs.Refusals.{refused_by};
 ghost use Rattle.colored_bodies.specs.Bindings.{last_below, bind_refusal, Known, mark_of, padded, bind_of, placed, spend, refusal_from, marks_from};
 ghost use Rattle.colored_bodies.specs.Answers.{Fillable, Binds, Takes, Marks};
 
-use frame::{Frame, Refusal};
+use frame::{Frame, Refusal, ask};
 
 pub mod multi;
 
@@ -77,26 +77,22 @@ fn rises_below(indices: &[u16], n: usize) -> bool
 }
 
 // Question 8, the only one left of known types.
+#[tactic(auto, unfolding(crate::specs::Bindings::bind_refusal))]
 fn known_refusal(types: &[u8], indices: &[u16]) -> Result<(), Refusal>
     requires { Known types.now }
     ensures { refused_by result ≡ bind_refusal types.now indices.now }
 {
-    if !rises_below(indices, types.len()) {
-        return Err(Refusal::BodyList);
-    }
-    Ok(())
+    ask(rises_below(indices, types.len()), Refusal::BodyList)
 }
 
 // Questions 3, 5 and 8, in that order.
+#[tactic(auto, unfolding(crate::specs::Bindings::bind_refusal))]
 fn bind_refusal(types: &[u8], indices: &[u16]) -> Result<(), Refusal>
     ensures { refused_by result ≡ bind_refusal types.now indices.now }
 {
-    if Frame::MAX_BODIES < types.len() {
-        return Err(Refusal::TooMany);
-    }
-    if !frame::at_most(types, Frame::MAX_TYPE) {
-        return Err(Refusal::Values);
-    }
+    ask(types.len() <= Frame::MAX_BODIES, Refusal::TooMany)?;
+    let known = frame::at_most(types, Frame::MAX_TYPE);
+    ask(known, Refusal::Values)?;
     known_refusal(types, indices)
 }
 

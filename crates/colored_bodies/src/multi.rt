@@ -7,7 +7,7 @@ ghost use Rattle.colored_bodies.specs.Bindings.{ask_refusal, refusal_from, marks
 ghost use Rattle.colored_bodies.specs.Answers.{Handable, MarksAt, TakesAt};
 
 use crate::{BodyBinding, HELD, Step, take_body};
-use frame::{Frame, Refusal};
+use frame::{Frame, Refusal, ask};
 
 // What a take hands: how many bodies, their numbers in the order asked, and for each 1 ("dynamic") or 0 ("read-only"). Places past the
 // bodies are 0.
@@ -26,19 +26,13 @@ fn limit_of(count: usize) -> usize
 }
 
 // Questions 5 and 9.
+#[tactic(auto, using(crate::proofs::Positions::positions_placed))]
 fn ask_refusal(count: usize, positions: &[u16]) -> Result<(), Refusal>
     ensures { refused_by result ≡ ask_refusal count positions.now }
 {
-    if positions.len() < Frame::MIN_ENDS {
-        return Err(Refusal::Values);
-    }
-    if Frame::MAX_ENDS < positions.len() {
-        return Err(Refusal::Values);
-    }
-    if !frame::multi::distinct_below(positions, limit_of(count)) {
-        return Err(Refusal::Positions);
-    }
-    Ok(())
+    ask(frame::multi::counted(positions.len()), Refusal::Values)?;
+    let placed = frame::multi::distinct_below(positions, limit_of(count));
+    ask(placed, Refusal::Positions)
 }
 
 // The flags of the positions asked, by the marks as they stand.
