@@ -12,7 +12,7 @@ ghost use Rattle.writer.specs.Wrote.{Wrote};
 ghost use Rattle.generator.specs.Draws.{next_state, state_after, draw, pair_drawn, types_drawn, pairs_drawn, enabled_drawn, generated_bytes};
 ghost use Rattle.generator.specs.Calls.{pairs_possible, generate_refusal, Makes};
 
-use frame::refusal::Refusal;
+use frame::refusal::{Refusal, ask};
 use frame_file::Sizes;
 use writer::Writer;
 
@@ -139,16 +139,9 @@ fn pairs_possible(sizes: Sizes) -> bool
 fn first_refusal(sizes: Sizes, room: usize) -> Result<(), Refusal>
     ensures { refused_by result ≡ generate_refusal sizes.bodies sizes.manifolds sizes.joints room }
 {
-    if !sizes.are_few() {
-        return Err(Refusal::TooMany);
-    }
-    if !pairs_possible(sizes) {
-        return Err(Refusal::NoPair);
-    }
-    if room < sizes.file_length() {
-        return Err(Refusal::Room);
-    }
-    Ok(())
+    ask(sizes.are_few(), Refusal::TooMany)?;
+    ask(pairs_possible(sizes), Refusal::NoPair)?;
+    ask(sizes.file_length() <= room, Refusal::Room)
 }
 
 // Makes the frame of a seed with these sizes in the lent bytes; answers its length.
