@@ -37,13 +37,13 @@ impl Sizes {
 }
 
 // A number of 16 bits, the upper byte first.
+#[tactic(auto, unfolding(crate::specs::Written::half_bytes))]
 fn put_half(file: &mut Writer<'_>, n: usize)
     requires room { file.old.at + 2 ≤ length file.old.out.now }
     requires half { n < 65536 }
     ensures { Wrote (half_bytes n) file.old file.new }
 {
-    file.put_byte((n / 256) as u8);
-    file.put_byte((n % 256) as u8);
+    file.put_word(&(n as u16).to_be_bytes());
 }
 
 // A number of 32 bits, the upper byte first.
@@ -53,8 +53,7 @@ fn put_whole(file: &mut Writer<'_>, n: usize)
     requires word { n < 4294967296 }
     ensures { Wrote (word_bytes n) file.old file.new }
 {
-    put_half(file, n / 65536);
-    put_half(file, n % 65536);
+    file.put_word(&(n as u32).to_be_bytes());
 }
 
 // The endpoints of a constraint.
