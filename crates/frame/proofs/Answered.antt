@@ -9,6 +9,7 @@ use Rattle.frame.specs.Refusals.{number_of}
 use Rattle.frame.specs.declared.Frame.{Frame}
 use Rattle.frame.specs.declared.refusal.Refusal.{Refusal}
 use Rattle.frame.specs.declared.refusal.Refusal.TheVariants.{Version, FileLength, TooMany, Lengths, Values, Room, Endpoints, BodyList, Positions, LowerTaken, HigherTaken, NoConstraint, NoPair}
+use Rattle.frame.proofs.Questions.{passed}
 use Rattle.frame.proofs.Files.{known, file-asked}
 
 -- no refusal has the number 0
@@ -52,10 +53,10 @@ module _ (bs : List ℕ) where
           (λ t. absurd (numbered r (e ∙ rw t)))
           (λ t. read_bytes r (e ∙ rw t) (rw t))
 
-      pub read_enabled : types_known (types_in bs) ≡ true → (r : Refusal) → number_of r ≡ cond (bits (live_in bs)) 0 5 → Read bs (Err r)
+      pub read_enabled : ◌≡◌ {A = ℕ} 0 (cond (types_known (types_in bs)) 0 5) → (r : Refusal) → number_of r ≡ cond (bits (live_in bs)) 0 5 → Read bs (Err r)
       read_enabled k r e = by_cases (bits (live_in bs))
           (λ t. absurd (numbered r (e ∙ rw t)))
-          (λ t. read_bytes r (e ∙ rw t) (rw (k, t)))
+          (λ t. read_bytes r (e ∙ rw t) (rw (t, (passed (types_known (types_in bs)) 0 4 (sym k)).0)))
 
       pub read-sizes : known bs ≡ true → (f : Frame) → f ≡ sizes_of bs → Read bs (Ok f)
       read-sizes e f i =

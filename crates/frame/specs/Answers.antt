@@ -1,5 +1,5 @@
 -- The answer of reading a file: its values.
-use Rattle.std.specs.Prelude.{ℕ, ◌≡◌, not, cond, List, eqb, length, Result, Ok, Err, is_err}
+use Rattle.std.specs.Prelude.{ℕ, ◌≡◌, not, ◌||◌, cond, List, eqb, length, Result, Ok, Err, is_err, IfOk}
 use Rattle.frame.specs.declared.Frame.{Frame}
 use Rattle.frame.specs.declared.Version.{Version}
 use Rattle.frame.specs.declared.Version.TheVariants.{First, Second}
@@ -11,6 +11,11 @@ use Rattle.frame.specs.Files.{second, count_b, count_m, count_j, joint_ends_in, 
 -- the version of a file that has one of the two
 abbrev pub version_of : List ℕ → Version
 version_of bs = cond (second bs) Second First
+
+-- a version by its byte, 1 or 2; of any other byte question 1 is refused
+pub record Versioned (byte : ℕ) (r : Result Version Refusal) : Type 0 where
+  pub refusal : refused_by r ≡ cond (eqb byte 1 || eqb byte 2) 0 1
+  pub version : IfOk r (λ v. v ≡ cond (eqb byte 2) Second First)
 
 -- the version, B, M, J and the number of the joints' endpoints; where it was refused the first version, and all 0
 abbrev pub no_sizes : Frame

@@ -121,9 +121,12 @@ decode bs = frame_with (types_in bs) (manifolds_in bs) (joint_ends_in bs) (count
 
 -- ---- the questions: 1 to 3 of either version; then of version 1 question 4 of the length, of version 2 the walk's answers, 5 before 4; then 5
 -- of types and enabled bytes
+abbrev pub version_question : List ℕ → Question
+version_question bs = question 1 (ltb 0 (length bs) && (eqb (byte bs 0) 1 || second bs))
+
 abbrev pub head_questions : List ℕ → List Question
 head_questions bs =
-    question 1 (ltb 0 (length bs) && (eqb (byte bs 0) 1 || second bs))
+    version_question bs
     ∷ question 2 (leb 11 (length bs) && eqb (word bs 1) (length bs - 5))
     ∷ question 3 (few_each (count_b bs) (count_m bs) (count_j bs))
     ∷ []

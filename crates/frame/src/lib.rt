@@ -9,18 +9,19 @@ pub mod entries;
 pub mod multi;
 pub mod refusal;
 
-ghost use Rattle.std.specs.Prelude.{◌≡◌, ◌&&◌, ◌||◌, map, ◌+◌, ◌-◌, ◌*◌, ◌/◌, ◌%◌, ◌≤◌, ◌<◌, leb, ltb, eqb, length, get_or, take, drop, replicate};
+ghost use Rattle.std.specs.Prelude.{◌≡◌, ◌&&◌, ◌||◌, map, ◌+◌, ◌-◌, ◌*◌, ◌/◌, ◌%◌, ◌≤◌, ◌<◌, leb, ltb, eqb, length, get_or, take, drop, replicate, IfOk, ◌∷◌, []};
 ghost use Rattle.lists.specs.Basics.{all};
 ghost use Rattle.frame.specs.Frames.{constraints_of, sound, conflicts, flag_of};
 ghost use Rattle.frame.specs.Questions.{asked, few_each, bits};
-ghost use Rattle.frame.specs.Files.{byte, half, word, second, pairs_from, enabled_from, count_m, count_j, joints_at, live_in, ends_at, head_questions};
+ghost use Rattle.frame.specs.Files.{byte, half, word, second, pairs_from, enabled_from, count_m, count_j, joints_at, live_in, ends_at, version_question, head_questions};
 ghost use Rattle.frame.specs.Joints.{JointsRead, Passed};
 ghost use Rattle.frame.specs.Decodes.{Decodable, Decoded};
-ghost use Rattle.frame.specs.Answers.{version_of, Read};
+ghost use Rattle.frame.specs.Answers.{version_of, Versioned, Read};
 ghost use Rattle.frame.specs.Refusals.{refused_by};
 
 use crate::constraints::Pairs;
 pub use crate::refusal::{Refusal, ask};
+use tables::entry_or;
 
 // The file form: how many bytes stand before the types, and how many a manifold and a joint have.
 pub const HEADER: usize = 11;
@@ -34,6 +35,20 @@ pub const JOINT: usize = 5;
 pub enum Version {
     First = 1,
     Second = 2,
+}
+
+impl TryFrom<u8> for Version {
+    type Error = Refusal;
+
+    ghost try_from_gives = { λ byte r. Versioned byte r };
+
+    fn try_from(byte: u8) -> Result<Version, Refusal> {
+        match byte {
+            1 => Ok(Version::First),
+            2 => Ok(Version::Second),
+            _ => Err(Refusal::Version),
+        }
+    }
 }
 
 // A file's version, how many bodies, manifolds and joints its frame has, and how many endpoints the joints have together.
@@ -73,14 +88,12 @@ fn word_at(bytes: &[u8], i: usize) -> usize
     half_at(bytes, i) * 65536 + half_at(bytes, i + 2)
 }
 
-// Question 1.
-fn version_known(bytes: &[u8]) -> bool
-    ensures { result ≡ (ltb 0 (length bytes.now) && (eqb (byte bytes.now 0) 1 || second bytes.now)) }
+// Question 1, and the version of a file that passes it.
+fn read_version(bytes: &[u8]) -> Result<Version, Refusal>
+    ensures refusal { refused_by result ≡ asked (version_question bytes.now ∷ []) }
+    ensures version { IfOk result (λ v. v ≡ version_of bytes.now) }
 {
-    if bytes.len() == 0 {
-        return false;
-    }
-    (bytes[0] == 1) | (bytes[0] == 2)
+    Version::try_from(entry_or(bytes, 0, 0))
 }
 
 // Whether a file's version is 2.
@@ -88,16 +101,6 @@ pub fn is_second(bytes: &[u8]) -> bool
     ensures { result ≡ second bytes.now }
 {
     byte_or_zero(bytes, 0) == 2
-}
-
-// The version of a file that has one of the two.
-fn version_of(bytes: &[u8]) -> Version
-    ensures { result ≡ version_of bytes.now }
-{
-    if is_second(bytes) {
-        return Version::Second;
-    }
-    Version::First
 }
 
 // Question 2.
@@ -119,16 +122,16 @@ pub fn few_each(bodies: usize, manifolds: usize, joints: usize) -> bool
         & (joints <= Frame::MAX_JOINTS)
 }
 
-// Questions 1 to 3.
-fn ask_head(bytes: &[u8]) -> Result<(), Refusal>
-    ensures { refused_by result ≡ asked (head_questions bytes.now) }
+// Questions 1 to 3, and the version.
+fn ask_head(bytes: &[u8]) -> Result<Version, Refusal>
+    ensures refusal { refused_by result ≡ asked (head_questions bytes.now) }
+    ensures version { IfOk result (λ v. v ≡ version_of bytes.now) }
 {
-    ask(version_known(bytes), Refusal::Version)?;
+    let version = read_version(bytes)?;
     ask(length_right(bytes), Refusal::FileLength)?;
-    ask(
-        few_each(half_at(bytes, 5), half_at(bytes, 7), half_at(bytes, 9)),
-        Refusal::TooMany,
-    )
+    let few = few_each(half_at(bytes, 5), half_at(bytes, 7), half_at(bytes, 9));
+    ask(few, Refusal::TooMany)?;
+    Ok(version)
 }
 
 // Questions 5 (of counts) and 4 of the joints that start at `from`: the walk of version 2, the length of version 1. How many endpoints they
@@ -211,7 +214,7 @@ impl Frame {
     pub fn read(bytes: &[u8]) -> Result<Frame, Refusal>
         ensures { Read bytes.now result }
     {
-        ask_head(bytes)?;
+        let version = ask_head(bytes)?;
         let bodies = half_at(bytes, 5);
         let manifolds = half_at(bytes, 7);
         let joints = half_at(bytes, 9);
@@ -221,7 +224,7 @@ impl Frame {
         ask(at_most(types, Frame::MAX_TYPE), Refusal::Values)?;
         ask(live_known(bytes, from, joints), Refusal::Values)?;
         Ok(Frame {
-            version: version_of(bytes),
+            version,
             bodies,
             manifolds,
             joints,
@@ -332,7 +335,7 @@ pub fn decode(
 pub fn byte_or_zero(bytes: &[u8], i: usize) -> usize
     ensures { (result ≡ byte bytes.now i) × (result < 256) }
 {
-    usize::from(bytes.get(i).copied().unwrap_or(0))
+    usize::from(entry_or(bytes, i, 0))
 }
 
 // The 16-bit number at any place, big-endian. The print reads with it, whose file need not be an accepted one.
@@ -368,7 +371,7 @@ pub fn ends_at(bytes: &[u8], constraint: usize) -> usize
 pub fn live_at(enabled: &[u8], i: usize) -> bool
     ensures { result ≡ eqb (get_or enabled.now i 1) 1 }
 {
-    enabled.get(i).copied().unwrap_or(1) == 1
+    entry_or(enabled, i, 1) == 1
 }
 
 // Question 7 of a list of endpoint pairs; those with an enabled byte 0 are not looked at.
