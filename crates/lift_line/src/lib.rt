@@ -2,10 +2,11 @@
 // every text. A number has at most 19 digits, so that 64 bits hold it.
 #![tactic(auto)]
 
-ghost use Rattle.std.specs.Prelude.{◌≡◌, true, false, MatchOption, get_or};
+ghost use Rattle.std.specs.Prelude.{◌≡◌, true, false, MatchOption};
 ghost use Rattle.lift_line.specs.Lines.{end_of, number_at, followed, line_of};
 
 use frame_file::Sizes;
+use tables::entry_or;
 
 // The digits that a number can have.
 const MOST_DIGITS: usize = 19;
@@ -24,13 +25,6 @@ struct Number {
     end: usize,
 }
 
-// The byte at a place; behind the text's end it is `past`.
-fn byte_at(text: &[u8], at: usize, past: u8) -> u8
-    ensures { result ≡ get_or text.now at past }
-{
-    text.get(at).copied().unwrap_or(past)
-}
-
 // The number at a place: its digits, at most 19. Without a digit it is 0 and ends where it starts.
 fn number_at(text: &[u8], at: usize) -> Number
     ensures { (result.value ≡ number_at text.now at) × (result.end ≡ end_of text.now at) }
@@ -39,11 +33,11 @@ fn number_at(text: &[u8], at: usize) -> Number
     // `value` is the number of the first `read` digits.
     for read in 0..MOST_DIGITS {
         let end = at + read;
-        let byte = byte_at(text, end, 0);
+        let byte = entry_or(text, end, 0);
         if !byte.is_ascii_digit() {
             return Number { value, end };
         }
-        value = 10 * value + (byte - b'0') as usize;
+        value = 10 * value + usize::from(byte - b'0');
     }
     Number {
         value,
@@ -56,7 +50,7 @@ fn number_before(text: &[u8], at: usize, stop: u8, past: u8) -> Option<Number>
     ensures { MatchOption result (followed text.now at stop past ≡ false) (λ n. (followed text.now at stop past ≡ true) × (n.value ≡ number_at text.now at) × (n.end ≡ end_of text.now at)) }
 {
     let number = number_at(text, at);
-    if at < number.end && byte_at(text, number.end, past) == stop {
+    if at < number.end && entry_or(text, number.end, past) == stop {
         Some(number)
     } else {
         None
