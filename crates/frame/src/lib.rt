@@ -1,6 +1,7 @@
 // Frames in the file form: the limits, questions 1 to 5 over a file's bytes, the decoding of an accepted file into lent
-// tables, and the questions that several calls put to their lists (5 and 7); `multi` has those of constraints with a count
-// each, and `entries` the joints of a version 2 file. `Frame::read` answers every byte string.
+// tables, and the questions that several calls put to their lists (5 and 7). `refusal` has the refusals and how a question is
+// put, `constraints` a list's constraints one after another and question 7 of them, `multi` the questions of constraints with
+// a count each, and `entries` the joints of a version 2 file. `Frame::read` answers every byte string.
 // `decode` is internal: a stage of the frame run, which calls it on a file that `Frame::read` accepted.
 #![tactic(auto)]
 

@@ -33,6 +33,13 @@ fn next_state(s: u32) -> u32
     std::num::wrapping_add_u32(wrapping_mul(1664525, s), 1013904223)
 }
 
+// How many bodies pairs are drawn of, at most 4,096.
+#[derive(Clone, Copy)]
+struct Bodies {
+    count: u32,
+    ghost few: { count ≤ 4096 },
+}
+
 // A generator by its state.
 #[derive(Drop)]
 struct Generator {
@@ -62,22 +69,22 @@ impl Generator {
     }
 
     // Draws a pair of two different bodies.
-    fn draw_pair(&mut self, file: &mut Writer<'_>, bodies: u32)
+    fn draw_pair(&mut self, file: &mut Writer<'_>, bodies: Bodies)
         requires room { file.old.at + 4 ≤ length file.old.out.now }
-        requires bodies { (2 ≤ bodies) × (bodies ≤ 4096) }
-        ensures wrote { Wrote (pair_bytes (pair_drawn bodies 0 self.old.state)) file.old file.new }
+        requires bodies { 2 ≤ bodies.count }
+        ensures wrote { Wrote (pair_bytes (pair_drawn bodies.count 0 self.old.state)) file.old file.new }
         ensures state { self.new.state ≡ state_after 2 self.old.state }
     {
-        let a = self.draw() % bodies;
-        let b = (a + 1 + self.draw() % (bodies - 1)) % bodies;
+        let a = self.draw() % bodies.count;
+        let b = (a + 1 + self.draw() % (bodies.count - 1)) % bodies.count;
         frame_file::put_pair(file, a as usize, b as usize);
     }
 
     // Draws a joint: its pair, then its enabled byte.
-    fn draw_joint(&mut self, file: &mut Writer<'_>, bodies: u32)
+    fn draw_joint(&mut self, file: &mut Writer<'_>, bodies: Bodies)
         requires room { file.old.at + 5 ≤ length file.old.out.now }
-        requires bodies { (2 ≤ bodies) × (bodies ≤ 4096) }
-        ensures wrote { Wrote (pair_bytes (pair_drawn bodies 0 self.old.state) ++ (draw 2 self.old.state % 2) ∷ []) file.old file.new }
+        requires bodies { 2 ≤ bodies.count }
+        ensures wrote { Wrote (pair_bytes (pair_drawn bodies.count 0 self.old.state) ++ (draw 2 self.old.state % 2) ∷ []) file.old file.new }
         ensures state { self.new.state ≡ state_after 3 self.old.state }
     {
         self.draw_pair(file, bodies);
@@ -85,10 +92,10 @@ impl Generator {
     }
 
     // Draws manifolds.
-    fn draw_manifolds(&mut self, file: &mut Writer<'_>, bodies: u32, count: usize)
+    fn draw_manifolds(&mut self, file: &mut Writer<'_>, bodies: Bodies, count: usize)
         requires room { file.old.at + 4 * count ≤ length file.old.out.now }
-        requires bodies { (pairs_possible bodies count 0 ≡ true) × (bodies ≤ 4096) }
-        ensures wrote { Wrote (pair_bytes (pairs_drawn bodies 0 2 count self.old.state)) file.old file.new }
+        requires bodies { pairs_possible bodies.count count 0 ≡ true }
+        ensures wrote { Wrote (pair_bytes (pairs_drawn bodies.count 0 2 count self.old.state)) file.old file.new }
         ensures state { self.new.state ≡ state_after (2 * count) self.old.state }
     {
         // The first i pairs are drawn.
@@ -98,10 +105,10 @@ impl Generator {
     }
 
     // Draws joints.
-    fn draw_joints(&mut self, file: &mut Writer<'_>, bodies: u32, count: usize)
+    fn draw_joints(&mut self, file: &mut Writer<'_>, bodies: Bodies, count: usize)
         requires room { file.old.at + 5 * count ≤ length file.old.out.now }
-        requires bodies { (pairs_possible bodies 0 count ≡ true) × (bodies ≤ 4096) }
-        ensures { Wrote (joint_bytes (pairs_drawn bodies 0 3 count self.old.state) (enabled_drawn 0 count self.old.state)) file.old file.new }
+        requires bodies { pairs_possible bodies.count 0 count ≡ true }
+        ensures { Wrote (joint_bytes (pairs_drawn bodies.count 0 3 count self.old.state) (enabled_drawn 0 count self.old.state)) file.old file.new }
     {
         // The first i joints are drawn.
         for i in 0..count {
@@ -119,7 +126,9 @@ fn write_lift(out: &mut [u8], seed: u32, sizes: Sizes)
 {
     let mut file = Writer { out, at: 0 };
     let mut generator = Generator { state: seed };
-    let bodies = sizes.bodies as u32;
+    let bodies = Bodies {
+        count: sizes.bodies as u32,
+    };
     frame_file::put_header(&mut file, sizes);
     generator.draw_types(&mut file, sizes.bodies);
     generator.draw_manifolds(&mut file, bodies, sizes.manifolds);

@@ -12,6 +12,11 @@ use Rattle.generator.proofs.write_lift.Goals as goal
 pub overflow_cast-bodies : goal.overflow_cast-bodies
 overflow_cast-bodies c = omega (arith, few-each c.args.sizes.bodies c.args.sizes.manifolds c.args.sizes.joints c.requires.few)
 
+pub invariant_of-bodies : goal.invariant_of-bodies
+invariant_of-bodies c =
+    let s = c.args.sizes in
+    record { few = (few-each s.bodies s.manifolds s.joints c.requires.few).0 }
+
 pub draw_types-requires : goal.draw_types-requires
 draw_types-requires c =
     let w = c.put_header.ensures in
@@ -27,7 +32,7 @@ draw_manifolds-requires-clause-room c =
 pub draw_manifolds-requires-clause-bodies : goal.draw_manifolds-requires-clause-bodies
 draw_manifolds-requires-clause-bodies c =
     let s = c.args.sizes in
-    (fewer_pairs s.bodies s.manifolds s.joints s.manifolds 0 c.requires.pairs (omega arith), (few-each s.bodies s.manifolds s.joints c.requires.few).0)
+    fewer_pairs s.bodies s.manifolds s.joints s.manifolds 0 c.requires.pairs (omega arith)
 
 pub draw_joints-requires-clause-room : goal.draw_joints-requires-clause-room
 draw_joints-requires-clause-room c =
@@ -41,7 +46,7 @@ draw_joints-requires-clause-room c =
 pub draw_joints-requires-clause-bodies : goal.draw_joints-requires-clause-bodies
 draw_joints-requires-clause-bodies c =
     let s = c.args.sizes in
-    (fewer_pairs s.bodies s.manifolds s.joints 0 s.joints c.requires.pairs (omega arith), (few-each s.bodies s.manifolds s.joints c.requires.few).0)
+    fewer_pairs s.bodies s.manifolds s.joints 0 s.joints c.requires.pairs (omega arith)
 
 pub returns : goal.returns
 returns c =
