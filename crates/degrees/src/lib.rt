@@ -51,12 +51,12 @@ fn count_one(types: &[u8], constraint: Lent<'_>, counts: &mut [u16])
 }
 
 // Every constraint; those that are not live are not counted.
-fn count_each<'a, C: Constraints<'a>>(types: &[u8], mut constraints: C, counts: &mut [u16])
+fn count_each<'a, C: Constraints<'a>>(types: &[u8], constraints: C, counts: &mut [u16])
     requires { Countable types.now (C.left constraints) counts.old }
     ensures { Counted types.now (C.left constraints) counts.old counts.new }
 {
     // Each body's count has grown by the constraints that count for it among those before the ones left.
-    while let Some(constraint) = constraints.next() {
+    for constraint in constraints {
         count_one(types, constraint, counts);
     }
 }

@@ -128,9 +128,10 @@ fn join_one(
 }
 
 // Every constraint, up to the first that does not pass question 7.
+#[tactic(auto, using(crate::proofs::Joining::joining_starts, crate::proofs::Joining::joining_turns))]
 fn join_each<'a, C: Constraints<'a>>(
     body_types: &[u8],
-    mut constraints: C,
+    constraints: C,
     parents: &mut [u16],
     sizes: &mut [u16],
     body_islands: &mut [u16],
@@ -140,7 +141,7 @@ fn join_each<'a, C: Constraints<'a>>(
         parents.old body_islands.old parents.new sizes.new body_islands.new result }
 {
     // The constraints before those left passed question 7 and are joined.
-    while let Some(constraint) = constraints.next() {
+    for constraint in constraints {
         if !join_one(body_types, constraint, parents, sizes, body_islands) {
             return false;
         }

@@ -82,18 +82,14 @@ fn label_one(body_islands: &[u16], constraint: Lent<'_>) -> u16
 }
 
 // The label of each constraint.
-pub fn label_each<'a, C: Constraints<'a>>(
-    mut constraints: C,
-    body_islands: &[u16],
-    labels: &mut [u16],
-)
+pub fn label_each<'a, C: Constraints<'a>>(constraints: C, body_islands: &[u16], labels: &mut [u16])
     requires { (length labels.old ≡ length (C.left constraints))
         × (all (sound (length body_islands.now)) (C.left constraints) ≡ true) }
     ensures { labels.new ≡ map (label_by body_islands.now) (C.left constraints) }
 {
-    // The constraints passed have their labels; there are as many left as labels.
-    for label in labels.iter_mut() {
-        *label = label_one(body_islands, constraints.next().unwrap());
+    // The constraints passed have their labels.
+    for (number, constraint) in constraints.enumerate() {
+        labels[number] = label_one(body_islands, constraint);
     }
 }
 
