@@ -5,8 +5,8 @@
 // number. Cost: a constraint is met once for each color up to its own.
 #![tactic(auto)]
 
-ghost use Rattle.std.specs.Prelude.{◌≡◌, true, ℕ, ◌<◌, ◌≤◌, ltb, length, get_or, take};
-ghost use Rattle.lists.specs.Basics.{all, range};
+ghost use Rattle.std.specs.Prelude.{◌≡◌, true, ℕ, ◌<◌, ◌≤◌, ltb, length, get_or};
+ghost use Rattle.lists.specs.Basics.{all};
 ghost use Rattle.parts.specs.Parts.{Bounded, parts_at};
 ghost use Rattle.coloring.specs.Coloring.{Ready, Colored, Opened, Walked};
 ghost use Rattle.coloring.specs.Steps.{MadeBusy, MadeIdle, Closable, Closed};
@@ -16,16 +16,6 @@ use parts::Ends;
 // Which constraints fit one of the first colors, this many, the processor can't predict, so these walks don't branch on it. Later walks
 // leave most constraints uncolored, so they pass one at its first busy body.
 const UNPREDICTED: usize = 8;
-
-// Lists all constraints, in list order.
-fn list_all(remaining: &mut [u16], constraint_count: usize)
-    requires { (constraint_count ≤ length remaining.old) × (constraint_count ≤ 8192) }
-    ensures { take constraint_count remaining.new ≡ range constraint_count }
-{
-    for (constraint, place) in remaining[..constraint_count].iter_mut().enumerate() {
-        *place = constraint as u16;
-    }
-}
 
 // Makes those of the bodies busy that are dynamic, if the color fits (1); if not (0), none.
 fn make_busy(dynamic_bodies: &[u8], bodies: &[u16], fits: u16, busy_bodies: &mut [u16])
@@ -134,7 +124,7 @@ pub fn color_constraints(
 {
     let constraint_count = constraint_colors.len();
     busy_bodies.fill(0);
-    list_all(remaining, constraint_count);
+    tables::number_all(&mut remaining[..constraint_count]);
     color_offsets[0] = 0;
     let mut uncolored_count = constraint_count;
     // The first `uncolored_count` of the remaining are promised no color below `color`; all others have theirs, and are listed.

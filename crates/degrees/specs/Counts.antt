@@ -1,7 +1,7 @@
 -- Constraints counted on each body.
 use Rattle.std.specs.Prelude.{ℕ, ◌+◌, ◌≤◌, ◌<◌, ◌≡◌, Bool, true, ◌&&◌, cond, List, [], ltb, eqb, length, get_or}
 use Rattle.lists.specs.Basics.{all, sum_of, count}
-use Rattle.frame.specs.Frames.{Constraint, frame_of, on, touches, sound, conflicts, end_count}
+use Rattle.frame.specs.Frames.{Constraint, frame_of, on, touches, sound, conflicts}
 
 -- a constraint counts for body b: it touches a dynamic body of these types, and is on b
 abbrev pub counts_for : List ℕ → ℕ → Constraint → Bool
@@ -20,10 +20,6 @@ pub record Counted (ts : List ℕ) (cs : List Constraint) (old new : List ℕ) :
 -- what a body of type t with n constraints counts for: only bodies that make conflicts do
 abbrev pub counted : ℕ → ℕ → ℕ
 counted t n = cond (conflicts t) n 0
-
--- counts that make these endpoints, without gaps; without counts they are pairs
-abbrev pub CountsOf : List ℕ → List ℕ → Type 0
-CountsOf counts ends = (length counts ≡ 0 → ⊥) → end_count counts ≡ length ends
 
 -- what body b gets if each of these endpoints counts this amount
 abbrev pub added : ℕ → List ℕ → ℕ → ℕ

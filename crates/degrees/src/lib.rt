@@ -5,11 +5,12 @@ ghost use Rattle.std.specs.Prelude.{◌≤◌, ◌≡◌, true, [], ◌∷◌, l
 ghost use Rattle.lists.specs.Basics.{all, max_of, range};
 ghost use Rattle.frame.specs.Constraints.{lent};
 ghost use Rattle.frame.specs.Frames.{constraints, frame_of, touches, all_sound, degree_max};
-ghost use Rattle.frame.specs.Lists.{frame_in};
-ghost use Rattle.degrees.specs.Counts.{CountsOf, Addable, Added, Countable, Counted, counted};
+ghost use Rattle.frame.specs.Asked.{joints_in, frame_asked};
+ghost use Rattle.degrees.specs.Counts.{Addable, Added, Countable, Counted, counted};
 
-use frame::constraints::{Constraints, Lent, Pairs};
-use frame::{Frame, Lists};
+use frame::Frame;
+use frame::asked::{AskedLists, Joints};
+use frame::constraints::{Constraints, Lent};
 
 // Whether one of these endpoints of a live constraint is a dynamic body: then it has an island.
 #[inline(always)]
@@ -20,7 +21,7 @@ fn touches(types: &[u8], ends: &[u16]) -> bool
     let mut touched = false;
     // `touched` tells whether one of the endpoints passed is a dynamic body.
     for end in ends {
-        touched = touched | (types[*end as usize] == Frame::DYNAMIC);
+        touched = touched | (types[usize::from(*end)] == Frame::DYNAMIC);
     }
     touched
 }
@@ -33,7 +34,7 @@ fn count_ends(ends: &[u16], amount: u16, counts: &mut [u16])
 {
     // The endpoints passed have counted.
     for end in ends {
-        counts[*end as usize] += amount;
+        counts[usize::from(*end)] += amount;
     }
 }
 
@@ -44,41 +45,31 @@ fn count_one(types: &[u8], constraint: Lent<'_>, counts: &mut [u16])
     ensures { Counted types.now (lent constraint.entry ∷ []) counts.old counts.new }
 {
     if constraint.live {
-        let one = touches(types, constraint.ends) as u16;
+        let one = u16::from(touches(types, constraint.ends));
         count_ends(constraint.ends, one, counts);
     }
 }
 
 // Every constraint; those that are not live are not counted.
-fn count_each<'a, C: Constraints<'a>>(types: &[u8], mut constraints: C, counts: &mut [u16])
+fn count_each<'a, C: Constraints<'a>>(types: &[u8], constraints: C, counts: &mut [u16])
     requires { Countable types.now (C.left constraints) counts.old }
     ensures { Counted types.now (C.left constraints) counts.old counts.new }
 {
     // Each body's count has grown by the constraints that count for it among those before the ones left.
-    while let Some(constraint) = constraints.next() {
+    for constraint in constraints {
         count_one(types, constraint, counts);
     }
 }
 
-// The joints; without counts they are pairs.
-fn count_joints(lists: Lists<'_>, counts: &mut [u16])
-    requires { CountsOf lists.joint_counts.now lists.joint_ends.now × Countable lists.types.now (frame_in lists).joints counts.old }
-    ensures { Counted lists.entry.types.now (frame_in lists.entry).joints counts.old counts.new }
+// The joints, whichever way they are lent.
+fn count_joints(types: &[u8], joints: Joints<'_>, counts: &mut [u16])
+    requires { Countable types.now (joints_in joints) counts.old }
+    ensures { Counted types.now (joints_in joints.entry) counts.old counts.new }
 {
-    if lists.joint_counts.len() == 0 {
-        let pairs = Pairs {
-            pairs: lists.joint_ends,
-            enabled: lists.enabled,
-        };
-        count_each(lists.types, pairs, counts);
-        return;
+    match joints {
+        Joints::Paired(pairs) => count_each(types, pairs, counts),
+        Joints::WithCounts(counted) => count_each(types, counted, counts),
     }
-    let counted = frame::constraints::Counted {
-        ends: lists.joint_ends,
-        counts: lists.joint_counts,
-        enabled: lists.enabled,
-    };
-    count_each(lists.types, counted, counts);
 }
 
 // What a body counts for.
@@ -101,21 +92,16 @@ fn largest(types: &[u8], counts: &[u16]) -> usize
     for body in 0..types.len() {
         most = most.max(degree_of(types[body], counts[body]));
     }
-    most as usize
+    usize::from(most)
 }
 
-// D of a frame that passed question 7, whose joints have these counts; without counts they are pairs. The table `on_bodies` is free.
-pub fn degree(lists: Lists<'_>, on_bodies: &mut [u16]) -> usize
-    requires { (length on_bodies.old ≡ length lists.types.now) × CountsOf lists.joint_counts.now lists.joint_ends.now
-        × (all_sound (frame_in lists) ≡ true) × (length (constraints (frame_in lists)) ≤ 8192) }
-    ensures { result ≡ degree_max (frame_in lists.entry) }
+// D of a frame that passed question 7. The table `on_bodies` is free.
+pub fn degree(lists: AskedLists<'_>, on_bodies: &mut [u16]) -> usize
+    requires { (length on_bodies.old ≡ length lists.types.now) × (all_sound (frame_asked lists) ≡ true) × (length (constraints (frame_asked lists)) ≤ 8192) }
+    ensures { result ≡ degree_max (frame_asked lists.entry) }
 {
     on_bodies.fill(0);
-    let pairs = Pairs {
-        pairs: lists.manifolds,
-        enabled: &[],
-    };
-    count_each(lists.types, pairs, on_bodies);
-    count_joints(lists, on_bodies);
+    count_each(lists.types, lists.manifolds, on_bodies);
+    count_joints(lists.types, lists.joints, on_bodies);
     largest(lists.types, on_bodies)
 }

@@ -1,8 +1,9 @@
 // The constraints of a list, one after another, whichever way the list is lent: as endpoint pairs, or as endpoints with a count for each
 // constraint. What is asked of every constraint is written once over the trait `Constraints`, and used at both.
-ghost use Rattle.std.specs.Prelude.{◌≡◌, ◌∷◌, [], ◌≤◌, List, eqb, get_or, length, drop, MatchOption};
+ghost use Rattle.std.specs.Prelude.{◌≡◌, ◌∷◌, [], ◌≤◌, List, eqb, get_or, length, drop, refl};
+ghost use Rattle.std.specs.Iterator.{YieldsFirstBy, item_count};
 ghost use Rattle.lists.specs.Basics.{all};
-ghost use Rattle.frame.specs.Constraints.{lent};
+ghost use Rattle.frame.specs.Constraints.{lent, GivesLeft};
 ghost use Rattle.frame.specs.Frames.{Constraint, constraints_of, counted_of, end_count, sound};
 
 use crate::multi::ends_fit;
@@ -14,12 +15,11 @@ pub struct Lent<'a> {
     pub live: bool,
 }
 
-// Constraints that are given one after another; `left` are those that are still to come.
-pub trait Constraints<'a>: Drop {
+// Iterators over constraints as they are lent; `left` are those that are still to come.
+pub trait Constraints<'a>: Iterator<Item = Lent<'a>> + Drop {
     ghost left: { Self → List Constraint };
 
-    fn next(&mut self) -> Option<Lent<'a>>
-        ensures { MatchOption result (left self.old ≡ []) (λ c. left self.old ≡ lent c ∷ left self.new) };
+    ghost gives_left: { GivesLeft left Self.can_next Self.next_gives Self.remaining };
 }
 
 // Constraints that are endpoint pairs a, b, a, b, ..; one without an enabled byte is live, and a last odd entry is no pair.
@@ -49,8 +49,12 @@ fn split_live(enabled: &[u8]) -> (bool, &[u8])
     }
 }
 
-impl<'a> Constraints<'a> for Pairs<'a> {
-    ghost left = { λ s. constraints_of s.pairs.now s.enabled.now };
+impl<'a> Iterator for Pairs<'a> {
+    type Item = Lent<'a>;
+
+    ghost next_gives = { YieldsFirstBy lent (λ s. constraints_of s.pairs.now s.enabled.now) };
+
+    ghost remaining = { item_count (λ s. constraints_of s.pairs.now s.enabled.now) };
 
     #[inline(always)]
     #[tactic(auto, using(crate::proofs::Pairs::pairs_first))]
@@ -63,8 +67,18 @@ impl<'a> Constraints<'a> for Pairs<'a> {
     }
 }
 
-impl<'a> Constraints<'a> for Counted<'a> {
-    ghost left = { λ s. counted_of s.counts.now s.ends.now s.enabled.now };
+impl<'a> Constraints<'a> for Pairs<'a> {
+    ghost left = { λ s. constraints_of s.pairs.now s.enabled.now };
+
+    ghost gives_left = { record { ready = λ s. tt; first = λ s r t h. h; ends = λ s. refl } };
+}
+
+impl<'a> Iterator for Counted<'a> {
+    type Item = Lent<'a>;
+
+    ghost next_gives = { YieldsFirstBy lent (λ s. counted_of s.counts.now s.ends.now s.enabled.now) };
+
+    ghost remaining = { item_count (λ s. counted_of s.counts.now s.ends.now s.enabled.now) };
 
     #[inline(always)]
     fn next(&mut self) -> Option<Lent<'a>> {
@@ -76,6 +90,12 @@ impl<'a> Constraints<'a> for Counted<'a> {
         self.enabled = enabled;
         Some(Lent { ends, live })
     }
+}
+
+impl<'a> Constraints<'a> for Counted<'a> {
+    ghost left = { λ s. counted_of s.counts.now s.ends.now s.enabled.now };
+
+    ghost gives_left = { record { ready = λ s. tt; first = λ s r t h. h; ends = λ s. refl } };
 }
 
 // Question 7 of one constraint.
@@ -93,11 +113,11 @@ pub fn sound_one(bodies: usize, constraint: Lent<'_>) -> bool
 }
 
 // Question 7 of every constraint; those that are not live are not looked at.
-pub fn all_sound<'a, C: Constraints<'a>>(bodies: usize, mut constraints: C) -> bool
+pub fn all_sound<'a, C: Constraints<'a>>(bodies: usize, constraints: C) -> bool
     ensures { result ≡ all (sound bodies) (C.left constraints) }
 {
     // The constraints before those left pass question 7.
-    while let Some(constraint) = constraints.next() {
+    for constraint in constraints {
         if !sound_one(bodies, constraint) {
             return false;
         }

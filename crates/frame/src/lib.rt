@@ -5,6 +5,7 @@
 // `decode` is internal: a stage of the frame run, which calls it on a file that `Frame::read` accepted.
 #![tactic(auto)]
 
+pub mod asked;
 pub mod constraints;
 pub mod entries;
 pub mod multi;

@@ -19,9 +19,9 @@ standing_refusal counted l r = cond counted
     (multi_island_refusal l.types.now l.manifolds.now l.joint_ends.now l.joint_counts.now l.enabled.now r)
     (island_refusal l.types.now l.manifolds.now l.joint_ends.now l.enabled.now r)
 
--- they passed question 7; the joints' counts make their endpoints
+-- they passed question 7; the joints' counts make no more endpoints than there are
 pub record Countable (l : Lists) (on_bodies : List ℕ) : Type 0 where
-  pub joints : (length l.joint_counts.now ≡ 0 → ⊥) → end_count l.joint_counts.now ≡ length l.joint_ends.now
+  pub joints : end_count l.joint_counts.now ≤ length l.joint_ends.now
   pub counts : length l.types.now ≤ length on_bodies
   pub sound : all_sound (frame_in l) ≡ true
   pub few : length (constraints (frame_in l)) ≤ 8192

@@ -62,7 +62,7 @@ pub fn degree_of(lists: Lists<'_>, on_bodies: &mut [u16]) -> usize
     requires { Countable lists on_bodies.old }
     ensures { result ≡ degree_max (frame_in lists.entry) }
 {
-    degrees::degree(lists, &mut on_bodies[..lists.types.len()])
+    degrees::degree(lists.asked(), &mut on_bodies[..lists.types.len()])
 }
 
 // The numbers by island, where the label tables hold at least so many manifolds and the rest joints.

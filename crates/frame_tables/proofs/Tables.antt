@@ -43,6 +43,12 @@ module _ (bs : List ℕ) where
       (c, omega (arith, ends-second_long bs v, ap end_count c, counts-second_long bs v, ap length c)))
       (λ v. (rw v, ends-first_long bs v))
 
+  -- they make no more endpoints than there are
+  pub ends_enough : end_count (counts_in bs) ≤ length (joint_ends_in bs)
+  ends_enough = by_cases (second bs)
+      (λ v. omega (arith, ends-second_long bs v))
+      (λ v. let none : counts_in bs ≡ [] = rw v in omega (arith, ap end_count none))
+
   pub some_counts : (length (all_counts bs) ≡ 0 → ⊥) → second bs ≡ true
   some_counts n = by_cases (second bs) (λ v. v) (λ v. absurd (n (rw v)))
 
@@ -194,7 +200,7 @@ module _ (bs : List ℕ) (e : asked (file_questions bs) ≡ 0) where
 
           pub countable : refused_by r ≡ 0 → Countable l ds
           countable z = record {
-            joints = λ n. rw (joints-counted, rest) (ends-second_long bs (counted-second (λ y. n (no_joint_counts y))));
+            joints = rw (joints-counted, rest) (ends_enough bs);
             counts = omega (arith, ap length types-are, types_long bs e, room.on_bodies);
             sound = rw frame_is (accepted-sound z);
             few = subst (λ (g : Frame). length (constraints g) ≤ 8192) (sym frame_is) few_constraints;

@@ -5,17 +5,20 @@
 // a few passes over the bodies and the constraints.
 #![tactic(auto)]
 
-ghost use Rattle.std.specs.Prelude.{◌≡◌, ◌&&◌, cond, [], ◌/◌, ◌%◌, ◌≤◌, eqb, length, replicate};
+ghost use Rattle.std.specs.Prelude.{◌≡◌, ◌&&◌, [], ◌/◌, ◌%◌, ◌≤◌, eqb, length, replicate};
 ghost use Rattle.lists.specs.Basics.{range};
+ghost use Rattle.frame.specs.Asked.{frame_asked};
 ghost use Rattle.frame.specs.Frames.{frame_of, end_count, none, counts_known};
 ghost use Rattle.frame.specs.Lists.{frame_in};
 ghost use Rattle.frame.specs.Questions.{asked, types_known, bits};
-ghost use Rattle.frame.specs.Refusals.{number_of, refused_by};
+ghost use Rattle.frame.specs.Refusals.{refused_by};
 ghost use Rattle.island.specs.Calls.{rooms_of, roomy, early_questions, island_refusal, multi_early_questions, multi_island_refusal, Built};
 ghost use Rattle.island.specs.Answers.{answer_islands};
 ghost use Rattle.island.specs.Lent.{tables_in, SameTables};
 ghost use Rattle.island.specs.Steps.{Sized, Ready, Labelled, BuiltSized, Room, BuiltFront};
 
+use frame::asked::AskedLists;
+use frame::refusal::ask;
 use frame::{Frame, Lists, Refusal};
 use island_labels::NONE;
 
@@ -27,6 +30,19 @@ pub struct IslandTables<'a> {
     pub body_islands: &'a mut [u16],
     pub manifold_islands: &'a mut [u16],
     pub joint_islands: &'a mut [u16],
+}
+
+impl IslandTables<'_> {
+    // Question 6 of so many bodies, manifolds and joints.
+    pub fn has_room_for(&self, bodies: usize, manifolds: usize, joints: usize) -> bool
+        ensures { result ≡ roomy bodies manifolds joints (rooms_of (tables_in self.now)) }
+    {
+        (bodies <= self.parents.len())
+            & (bodies <= self.sizes.len())
+            & (bodies <= self.body_islands.len())
+            & (manifolds <= self.manifold_islands.len())
+            & (joints <= self.joint_islands.len())
+    }
 }
 
 // Every body alone, and no body constrained.
@@ -41,41 +57,33 @@ fn reset(parents: &mut [u16], sizes: &mut [u16], body_islands: &mut [u16])
 
 // The labels of a frame whose constraints are joined. Answers how many islands there are.
 fn label_frame(
-    lists: Lists<'_>,
+    lists: AskedLists<'_>,
     parents: &[u16],
     body_islands: &mut [u16],
     manifold_islands: &mut [u16],
     joint_islands: &mut [u16],
 ) -> u16
-    requires ready { Ready (frame_in lists) parents.now body_islands.old manifold_islands.old joint_islands.old }
-    requires ends_len { end_count lists.joint_counts.now ≤ length lists.joint_ends.now }
-    ensures { Labelled (frame_in lists.entry) body_islands.new manifold_islands.new joint_islands.new result }
+    requires { Ready (frame_asked lists) parents.now body_islands.old manifold_islands.old joint_islands.old }
+    ensures { Labelled (frame_asked lists.entry) body_islands.new manifold_islands.new joint_islands.new result }
 {
     let islands = island_labels::number(lists.types, parents, body_islands);
-    island_labels::label_all(lists.manifolds, &[], body_islands, manifold_islands);
-    island_labels::label_joints(
-        lists.joint_ends,
-        lists.joint_counts,
-        lists.enabled,
-        body_islands,
-        joint_islands,
-    );
+    island_labels::label_each(lists.manifolds, body_islands, manifold_islands);
+    island_labels::label_joints(lists.joints, body_islands, joint_islands);
     islands
 }
 
-// A frame on tables of just its sizes: question 7 while it is joined, then its labels. Joints are pairs where there are no counts.
+// A frame on tables of just its sizes: question 7 while it is joined, then its labels.
 fn build_sized(
-    lists: Lists<'_>,
+    lists: AskedLists<'_>,
     parents: &mut [u16],
     sizes: &mut [u16],
     body_islands: &mut [u16],
     manifold_islands: &mut [u16],
     joint_islands: &mut [u16],
 ) -> Result<u16, Refusal>
-    requires sized { Sized (frame_in lists) parents.old body_islands.old manifold_islands.old joint_islands.old }
-    requires ends_len { end_count lists.joint_counts.now ≤ length lists.joint_ends.now }
+    requires sized { Sized (frame_asked lists) parents.old body_islands.old manifold_islands.old joint_islands.old }
     requires sizes_len { length sizes.old ≡ length parents.old }
-    ensures { BuiltSized (frame_in lists.entry) parents.new sizes.new body_islands.new manifold_islands.new joint_islands.new result }
+    ensures { BuiltSized (frame_asked lists.entry) parents.new sizes.new body_islands.new manifold_islands.new joint_islands.new result }
 {
     reset(parents, sizes, body_islands);
     if !island_joins::join_frame(lists, parents, sizes, body_islands) {
@@ -95,13 +103,12 @@ fn build_sized(
 
 // A frame of so many joints that passed questions 3 to 6, on the first places of its tables.
 fn build_front(
-    lists: Lists<'_>,
+    lists: AskedLists<'_>,
     joints: usize,
     tables: &mut IslandTables<'_>,
 ) -> Result<u16, Refusal>
-    requires room { Room (frame_in lists) (length lists.manifolds.now / 2) joints (tables_in tables.old) }
-    requires ends_len { end_count lists.joint_counts.now ≤ length lists.joint_ends.now }
-    ensures built { BuiltFront (frame_in lists.entry) (tables_in tables.old) (tables_in tables.new) result }
+    requires { Room (frame_asked lists) (length lists.manifolds.pairs.now / 2) joints (tables_in tables.old) }
+    ensures built { BuiltFront (frame_asked lists.entry) (tables_in tables.old) (tables_in tables.new) result }
     ensures same { SameTables tables.old tables.new }
 {
     let bodies = lists.types.len();
@@ -115,16 +122,9 @@ fn build_front(
         &mut parents[..bodies],
         &mut sizes[..bodies],
         &mut body_islands[..bodies],
-        &mut manifold_islands[..lists.manifolds.len() / 2],
+        &mut manifold_islands[..lists.manifolds.pairs.len() / 2],
         &mut joint_islands[..joints],
     )
-}
-
-// A question: a "no" is the refusal.
-fn ask(yes: bool, refusal: Refusal) -> Result<(), Refusal>
-    ensures { refused_by result ≡ cond yes 0 (number_of refusal) }
-{
-    if yes { Ok(()) } else { Err(refusal) }
 }
 
 // Question 4 of joints that are pairs.
@@ -156,17 +156,6 @@ fn values_known(lists: Lists<'_>) -> bool
     frame::at_most(lists.types, Frame::MAX_TYPE) & frame::at_most(lists.enabled, 1)
 }
 
-// Question 6 of so many bodies, manifolds and joints.
-fn room_enough(tables: &IslandTables<'_>, bodies: usize, manifolds: usize, joints: usize) -> bool
-    ensures { result ≡ roomy bodies manifolds joints (rooms_of (tables_in tables.now)) }
-{
-    (bodies <= tables.parents.len())
-        & (bodies <= tables.sizes.len())
-        & (bodies <= tables.body_islands.len())
-        & (manifolds <= tables.manifold_islands.len())
-        & (joints <= tables.joint_islands.len())
-}
-
 // Questions 3 to 6 of a frame whose joints are pairs.
 fn ask_pairs(lists: Lists<'_>, tables: &IslandTables<'_>) -> Result<(), Refusal>
     ensures { refused_by result ≡ asked (early_questions lists.entry.types.now lists.entry.manifolds.now lists.entry.joint_ends.now lists.entry.enabled.now
@@ -179,7 +168,7 @@ fn ask_pairs(lists: Lists<'_>, tables: &IslandTables<'_>) -> Result<(), Refusal>
     ask(pairs_agree(lists), Refusal::Lengths)?;
     ask(values_known(lists), Refusal::Values)?;
     ask(
-        room_enough(tables, bodies, manifolds, joints),
+        tables.has_room_for(bodies, manifolds, joints),
         Refusal::Room,
     )
 }
@@ -197,7 +186,7 @@ fn ask_counted(lists: Lists<'_>, tables: &IslandTables<'_>) -> Result<(), Refusa
     let known = values_known(lists) & frame::multi::counts_known(lists.joint_counts);
     ask(known, Refusal::Values)?;
     ask(
-        room_enough(tables, bodies, manifolds, joints),
+        tables.has_room_for(bodies, manifolds, joints),
         Refusal::Room,
     )
 }
@@ -215,7 +204,7 @@ pub fn build_with_joints(lists: Lists<'_>, tables: &mut IslandTables<'_>) -> Res
         joint_counts: &[],
         ..lists
     };
-    build_front(pairs, lists.joint_ends.len() / 2, tables)
+    build_front(pairs.asked(), lists.joint_ends.len() / 2, tables)
 }
 
 // The islands of a frame whose joints have two to four bodies each, with a count and an enabled byte each.
@@ -230,7 +219,7 @@ pub fn build_with_multi_joints(
     ensures same { SameTables tables.old tables.new }
 {
     ask_counted(lists, tables)?;
-    build_front(lists, lists.joint_counts.len(), tables)
+    build_front(lists.asked(), lists.joint_counts.len(), tables)
 }
 
 // The islands of a frame without joints; the table of the joints' labels may have any length, and stays as it was.

@@ -1,8 +1,7 @@
 -- What constraints join, and which bodies they constrain. A live pair of dynamic bodies has one edge, any other pair none; a live constraint on more bodies has an edge from its
 -- first dynamic body to each later one. A live constraint constrains its bodies. What is joined by one list and then by another is joined by both together: so a loop over the
 -- constraints joins them all.
-use Rattle.std.proofs.Common.{ℕ, ◌+◌, ◌*◌, ◌≤◌, ◌<◌, arith, add-one, ◌≡◌, refl, sym, ap, ◌∙◌, Bool, true, false, ◌&&◌, cond, List, [], ◌∷◌, ◌++◌, map, append_assoc, append-nil, eqb, length, get_or, take, drop, drop_of_length-le, drop-cons, eqb-true, eq-eqb, ne_eqb}
-use Rattle.std.proofs.Math.Decide.{dec_lt}
+use Rattle.std.proofs.Common.{ℕ, ◌+◌, ◌*◌, ◌≤◌, ◌<◌, arith, add-one, ◌≡◌, refl, sym, ap, ◌∙◌, Bool, true, false, ◌&&◌, cond, List, [], ◌∷◌, ◌++◌, map, append_assoc, append-nil, eqb, ltb, length, get_or, take, drop, drop_of_length-le, drop-cons, eqb-true, eq-eqb, ne_eqb, ltb-true}
 use Rattle.std.proofs.Math.Bool.{or-false}
 use Rattle.lists.specs.Basics.{filter, any, all, mem}
 use Rattle.lists.proofs.Laws.{and_left, and_right, and_both, not-true-false, any_append, all_append, cond-or}
@@ -13,7 +12,7 @@ use Rattle.island_sets.specs.Steps.{Sets}
 use Rattle.island_labels.specs.Labels.{bare}
 use Rattle.island_labels.proofs.Labelling.{tied}
 use Rattle.connected_sets.specs.Islands.{Edge, star, edges_of, edges, hang_all}
-use Rattle.island_joins.specs.Joins.{FirstDynamic, Joined, JoinedOrRefused}
+use Rattle.island_joins.specs.Joins.{dynamics, FirstDynamic, Joined, JoinedOrRefused}
 use Rattle.connected_sets.proofs.Weights.{hang_all-append}
 
 -- ---- what one pair joins
@@ -45,65 +44,84 @@ module _ (n : ℕ) (g : ℕ → ℕ) (ts : List ℕ) (a b : ℕ) where
     pub join-on : u * 256 + v ≡ 514 → hang n g a b ≡ hang_all n g (edges_of (bare ts) (constraint true a b))
     join-on e = sym (joined ∙ rw (eq-eqb (get_or ts a 0) 2 (omega arith), eq-eqb (get_or ts b 0) 2 (omega arith)))
 
--- ---- what bodies bs join: the first dynamic one is at place r
+-- ---- what bodies bs join: the first dynamic one
 module _ (ts bs : List ℕ) where
-  abbrev pub dynamics : ℕ → List ℕ
-  dynamics i = filter (dynamic (bare ts)) (drop i bs)
-
   abbrev pub at : ℕ → ℕ
   at i = get_or bs i 0
 
-  dynamics_next : (i : ℕ) → i < length bs → dynamics i ≡ cond (dynamic (bare ts) (at i)) (at i ∷ dynamics (i + 1)) (dynamics (i + 1))
-  dynamics_next i h = ap (filter (dynamic (bare ts))) (drop-cons bs i 0 h) ∙ ap (λ (n : ℕ). cond (dynamic (bare ts) (at i)) (at i ∷ dynamics n) (dynamics n)) (sym (add-one i))
+  dynamics_next : (i : ℕ) → i < length bs → dynamics ts (drop i bs) ≡ cond (dynamic (bare ts) (at i)) (at i ∷ dynamics ts (drop (i + 1) bs)) (dynamics ts (drop (i + 1) bs))
+  dynamics_next i h = ap (dynamics ts) (drop-cons bs i 0 h) ∙ ap (λ (n : ℕ). cond (dynamic (bare ts) (at i)) (at i ∷ dynamics ts (drop n bs)) (dynamics ts (drop n bs))) (sym (add-one i))
 
-  dynamics_end : (i : ℕ) → length bs ≤ i → dynamics i ≡ []
-  dynamics_end i h = ap (filter (dynamic (bare ts))) (drop_of_length-le bs {i = i} h)
+  dynamics_end : (i : ℕ) → length bs ≤ i → dynamics ts (drop i bs) ≡ []
+  dynamics_end i h = ap (dynamics ts) (drop_of_length-le bs {i = i} h)
+
+  abbrev pub below : ℕ → Bool
+  below b = ltb b (length ts)
 
   -- the search for it, at place i
-  pub first_turns : (i : ℕ) → dynamics i ≡ dynamics 0 → i < length bs → (get_or ts (at i) 0 ≡ 2 → ⊥) → dynamics (i + 1) ≡ dynamics 0
-  unfolding dynamic
-  first_turns i e h n = sym (dynamics_next i h ∙ rw (ne_eqb (get_or ts (at i) 0) 2 n)) ∙ e
+  pub record Searching (i : ℕ) : Type 0 where
+    pub skipped : dynamics ts (drop i bs) ≡ dynamics ts bs
+    pub inside : all below (drop i bs) ≡ true
 
-  pub first_found : (i : ℕ) → dynamics i ≡ dynamics 0 → i < length bs → get_or ts (at i) 0 ≡ 2 → FirstDynamic ts bs i
-  unfolding dynamic
-  first_found i e k t = record { inside = omega (arith, k); skipped = e; here = λ h. eq-eqb (get_or ts (at i) 0) 2 t }
+  module _ (i : ℕ) (w : Searching i) where
+    pub first_none : length bs ≤ i → dynamics ts bs ≡ []
+    first_none h = sym w.skipped ∙ dynamics_end i h
 
-  -- it is joined with each later one: the loop, at place i
-  pub record Starring (r : ℕ) (p₀ p s : List ℕ) (i : ℕ) : Type 0 where
-    pub above : r < i
+    module _ (h : i < length bs) where
+      inside_here : (below (at i) && all below (drop (i + 1) bs)) ≡ true
+      inside_here = ap (λ (n : ℕ). below (at i) && all below (drop n bs)) (add-one i) ∙ sym (ap (all below) (drop-cons bs i 0 h)) ∙ w.inside
+
+      pub first_turns : (get_or ts (at i) 0 ≡ 2 → ⊥) → Searching (i + 1)
+      unfolding dynamic
+      first_turns n = record {
+        skipped = sym (dynamics_next i h ∙ rw (ne_eqb (get_or ts (at i) 0) 2 n)) ∙ w.skipped;
+        inside = and_right (below (at i)) (all below (drop (i + 1) bs)) inside_here;
+      }
+
+      pub first_found : get_or ts (at i) 0 ≡ 2 → FirstDynamic ts bs (at i) (drop (i + 1) bs)
+      unfolding dynamic
+      first_found e = record {
+        dynamic_first = eq-eqb (get_or ts (at i) 0) 2 e;
+        inside_first = ltb-true (at i) (length ts) (and_left (below (at i)) (all below (drop (i + 1) bs)) inside_here);
+        inside_others = and_right (below (at i)) (all below (drop (i + 1) bs)) inside_here;
+        parted = sym w.skipped ∙ dynamics_next i h ∙ rw (eq-eqb (get_or ts (at i) 0) 2 e);
+      }
+
+-- bodies without a dynamic one join nothing
+pub joins_none : (ts bs p : List ℕ) → dynamics ts bs ≡ [] → root_of p ≡ hang_all (length ts) (root_of p) (edges_of (bare ts) (tied true bs))
+unfolding edges_of
+joins_none ts bs p e = sym (ap (λ (ds : List ℕ). hang_all (length ts) (root_of p) (star ds)) e)
+
+-- it is joined with each later one: the loop, at place i of those behind it
+module _ (ts bs : List ℕ) (first : ℕ) (others : List ℕ) (f : FirstDynamic ts bs first others) where
+  pub record Starring (p₀ p s : List ℕ) (i : ℕ) : Type 0 where
     pub sets : Sets p s
     pub long : length p ≡ length ts
-    pub roots : hang_all (length ts) (root_of p) (map (edge (at r)) (dynamics i)) ≡ hang_all (length ts) (root_of p₀) (edges_of (bare ts) (tied true bs))
+    pub roots : hang_all (length ts) (root_of p) (map (edge first) (dynamics ts (drop i others))) ≡ hang_all (length ts) (root_of p₀) (edges_of (bare ts) (tied true bs))
 
-  module _ (r : ℕ) (f : FirstDynamic ts bs r) where
-    star_is : star (dynamics 0) ≡ map (edge (at r)) (dynamics (r + 1))
-    star_is = go (dec_lt r (length bs))
-      where
-        go : Dec (r < length bs) → star (dynamics 0) ≡ map (edge (at r)) (dynamics (r + 1))
-        go (yes h) = ap star (sym f.skipped ∙ dynamics_next r h) ∙ rw (f.here h)
-        go (no n) = ap star (sym f.skipped ∙ dynamics_end r (omega arith)) ∙ ap (map (edge (at r))) (sym (dynamics_end (r + 1) (omega arith)))
+  pub starring_starts : (p s : List ℕ) → Sets p s → length p ≡ length ts → Starring p p s 0
+  unfolding edges_of
+  starring_starts p s h e = record { sets = h; long = e; roots = sym (ap (λ (ds : List ℕ). hang_all (length ts) (root_of p) (star ds)) f.parted) }
 
-    pub starring_starts : (p s : List ℕ) → Sets p s → length p ≡ length ts → Starring r p p s (r + 1)
+  module _ (p₀ p s : List ℕ) (i : ℕ) (w : Starring p₀ p s i) where
+    step : (t u : Bool) (g : ℕ → ℕ) (b : ℕ) (ds : List ℕ) → t ≡ true → hang_all (length ts) (hang_all (length ts) g (star (cond t (first ∷ cond u (b ∷ []) []) (cond u (b ∷ []) [])))) (map (edge first) ds) ≡ hang_all (length ts) g (map (edge first) (cond u (b ∷ ds) ds))
+    step t true g b ds e = rw e
+    step t false g b ds e = rw e
+
+    pub starring_turns : (p' s' : List ℕ) → i < length others → Sets p' s' → length p' ≡ length p → root_of p' ≡ hang_all (length ts) (root_of p) (edges_of (bare ts) (constraint true first (at ts others i))) → Starring p₀ p' s' (i + 1)
     unfolding edges_of
-    starring_starts p s h e = record { above = omega arith; sets = h; long = e; roots = ap (hang_all (length ts) (root_of p)) (sym star_is) }
+    starring_turns p' s' h k e q = record {
+      sets = k;
+      long = e ∙ w.long;
+      roots =
+          ap (λ (g : ℕ → ℕ). hang_all (length ts) g (map (edge first) (dynamics ts (drop (i + 1) others)))) q
+          ∙ step (dynamic (bare ts) first) (dynamic (bare ts) (at ts others i)) (root_of p) (at ts others i) (dynamics ts (drop (i + 1) others)) f.dynamic_first
+          ∙ ap (λ (ds : List ℕ). hang_all (length ts) (root_of p) (map (edge first) ds)) (sym (dynamics_next ts others i h))
+          ∙ w.roots;
+    }
 
-    module _ (p₀ p s : List ℕ) (i : ℕ) (w : Starring r p₀ p s i) where
-      step : (t u : Bool) (g : ℕ → ℕ) (b : ℕ) (ds : List ℕ) → t ≡ true → hang_all (length ts) (hang_all (length ts) g (star (cond t (at r ∷ cond u (b ∷ []) []) (cond u (b ∷ []) [])))) (map (edge (at r)) ds) ≡ hang_all (length ts) g (map (edge (at r)) (cond u (b ∷ ds) ds))
-      step t true g b ds e = rw e
-      step t false g b ds e = rw e
-
-      pub starring_turns : (p' s' : List ℕ) → i < length bs → Sets p' s' → length p' ≡ length p → root_of p' ≡ hang_all (length ts) (root_of p) (edges_of (bare ts) (constraint true (at r) (at i))) → Starring r p₀ p' s' (i + 1)
-      unfolding edges_of
-      starring_turns p' s' h k e q = record {
-        above = omega (arith, w.above);
-        sets = k;
-        long = e ∙ w.long;
-        roots =
-            ap (λ (g : ℕ → ℕ). hang_all (length ts) g (map (edge (at r)) (dynamics (i + 1)))) q
-            ∙ step (dynamic (bare ts) (at r)) (dynamic (bare ts) (at i)) (root_of p) (at i) (dynamics (i + 1)) (f.here (omega (arith, w.above)))
-            ∙ ap (λ (ds : List ℕ). hang_all (length ts) (root_of p) (map (edge (at r)) ds)) (sym (dynamics_next i h))
-            ∙ w.roots;
-      }
+    pub starring_ends : length others ≤ i → root_of p ≡ hang_all (length ts) (root_of p₀) (edges_of (bare ts) (tied true bs))
+    starring_ends h = sym (ap (λ (ds : List ℕ). hang_all (length ts) (root_of p) (map (edge first) ds)) (dynamics_end ts others i h)) ∙ w.roots
 
 -- ---- which bodies are constrained
 -- the loop over bodies bs, at place i
@@ -117,15 +135,23 @@ module _ (ts p l : List ℕ) (t : Bool) (bs : List ℕ) where
   unfolding edges edges_of on
   joined_dead s h e = record { sets = h; roots = rw e; constrained = λ x. rw e }
 
-  pub joined_live : (p' s' l' : List ℕ) → Sets p' s' → t ≡ true
-      → root_of p' ≡ hang_all (length ts) (root_of p) (edges_of (bare ts) (tied true bs)) → ((x : ℕ) → get_or l' x none ≡ cond (mem x bs) 0 (get_or l x none))
-      → Joined ts (tied t bs ∷ []) p l p' s' l'
-  unfolding edges on
-  joined_live p' s' l' h e r m = record {
-    sets = h;
-    roots = rw e (r ∙ ap (hang_all (length ts) (root_of p)) (sym (append-nil (edges_of (bare ts) (tied true bs)))));
-    constrained = λ x. rw e (m x ∙ ap (λ (u : Bool). cond u 0 (get_or l x none)) (sym (or-false (mem x bs))));
-  }
+-- the two of a list of two
+pub two_ends : (bs : List ℕ) → length bs ≡ 2 → bs ≡ get_or bs 0 0 ∷ get_or bs 1 0 ∷ []
+two_ends [] h = absurd (omega arith)
+two_ends (a ∷ []) h = absurd (omega arith)
+two_ends (a ∷ b ∷ []) h = refl
+two_ends (a ∷ b ∷ c ∷ bs) h = absurd (omega arith)
+
+-- a live one, on bodies bs
+pub joined_live : (ts bs p l p' s' l' : List ℕ) → Sets p' s'
+    → root_of p' ≡ hang_all (length ts) (root_of p) (edges_of (bare ts) (tied true bs)) → ((x : ℕ) → get_or l' x none ≡ cond (mem x bs) 0 (get_or l x none))
+    → Joined ts (tied true bs ∷ []) p l p' s' l'
+unfolding edges on
+joined_live ts bs p l p' s' l' h r m = record {
+  sets = h;
+  roots = r ∙ ap (hang_all (length ts) (root_of p)) (sym (append-nil (edges_of (bare ts) (tied true bs))));
+  constrained = λ x. m x ∙ ap (λ (u : Bool). cond u 0 (get_or l x none)) (sym (or-false (mem x bs)));
+}
 
 -- ---- two lists of constraints together
 edges-append : (f : Frame) (cs ds : List Constraint) → edges f (cs ++ ds) ≡ edges f cs ++ edges f ds

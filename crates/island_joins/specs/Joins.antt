@@ -1,5 +1,5 @@
 -- What joining constraints leaves.
-use Rattle.std.specs.Prelude.{ℕ, ◌≡◌, ◌<◌, ◌≤◌, Bool, true, cond, List, length, get_or, drop}
+use Rattle.std.specs.Prelude.{ℕ, ◌≡◌, ◌<◌, Bool, true, cond, List, ◌∷◌, ltb, length, get_or}
 use Rattle.lists.specs.Basics.{filter, any, all}
 use Rattle.frame.specs.Frames.{Constraint, dynamic, on, sound, none}
 use Rattle.connected_sets.specs.Islands.{edges, hang_all}
@@ -13,11 +13,16 @@ pub record Fit (ts p s l : List ℕ) : Type 0 where
   pub long_parents : length p ≡ length ts
   pub long_bodies : length l ≡ length ts
 
--- r is the place of the first dynamic body in bs, or its length where none is: the dynamic ones stand from there on
-pub record FirstDynamic (ts bs : List ℕ) (r : ℕ) : Type 0 where
-  pub inside : r ≤ length bs
-  pub skipped : filter (dynamic (bare ts)) (drop r bs) ≡ filter (dynamic (bare ts)) bs
-  pub here : r < length bs → dynamic (bare ts) (get_or bs r 0) ≡ true
+-- the dynamic ones of the bodies bs
+abbrev pub dynamics : List ℕ → List ℕ → List ℕ
+dynamics ts bs = filter (dynamic (bare ts)) bs
+
+-- the first dynamic one of bs is `first`, and `others` stand behind it
+pub record FirstDynamic (ts bs : List ℕ) (first : ℕ) (others : List ℕ) : Type 0 where
+  pub dynamic_first : dynamic (bare ts) first ≡ true
+  pub inside_first : first < length ts
+  pub inside_others : all (λ b. ltb b (length ts)) others ≡ true
+  pub parted : dynamics ts bs ≡ first ∷ dynamics ts others
 
 -- the constraints cs join the sets of p₀, in order, and constrain the bodies that they are on in l₀
 pub record Joined (ts : List ℕ) (cs : List Constraint) (p₀ l₀ p s l : List ℕ) : Type 0 where

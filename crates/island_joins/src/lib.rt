@@ -1,19 +1,20 @@
 // The constraints of a frame are asked question 7 and joined, one after another. Internal: a stage of an islands call.
 #![tactic(auto)]
 
-ghost use Rattle.std.specs.Prelude.{ℕ, ◌≡◌, true, cond, ◌∷◌, [], ◌<◌, ◌≤◌, ltb, length, get_or};
+ghost use Rattle.std.specs.Prelude.{ℕ, ◌≡◌, true, cond, ◌∷◌, [], ◌<◌, ltb, length, get_or, MatchOption};
 ghost use Rattle.lists.specs.Basics.{all, mem};
 ghost use Rattle.frame.specs.Constraints.{lent};
-ghost use Rattle.frame.specs.Frames.{constraint, constraints, end_count, none};
-ghost use Rattle.frame.specs.Lists.{frame_in};
+ghost use Rattle.frame.specs.Asked.{joints_in, frame_asked};
+ghost use Rattle.frame.specs.Frames.{constraint, constraints, none};
 ghost use Rattle.connected_sets.specs.Islands.{edges_of, hang_all};
 ghost use Rattle.island_sets.specs.Sets.{root_of};
 ghost use Rattle.island_sets.specs.Steps.{Sets};
 ghost use Rattle.island_labels.specs.Labels.{bare};
-ghost use Rattle.island_joins.specs.Joins.{Fit, FirstDynamic, JoinedOrRefused};
+ghost use Rattle.island_joins.specs.Joins.{Fit, dynamics, FirstDynamic, Joined, JoinedOrRefused};
 
-use frame::constraints::{Constraints, Counted, Lent, Pairs, sound_one};
-use frame::{Frame, Lists};
+use frame::Frame;
+use frame::asked::{AskedLists, Joints};
+use frame::constraints::{Constraints, Lent, sound_one};
 
 // The types of two dynamic bodies, 2 and 2, as the two bytes of one number.
 const BOTH_DYNAMIC: usize = 514;
@@ -26,25 +27,28 @@ fn join_dynamic(body_types: &[u8], parents: &mut [u16], sizes: &mut [u16], a: u1
     ensures { Sets parents.new sizes.new
         × (root_of parents.new ≡ hang_all (length body_types.now) (root_of parents.old) (edges_of (bare body_types.now) (constraint true a b))) }
 {
-    let types = usize::from(body_types[a as usize]) * 256 + usize::from(body_types[b as usize]);
+    let type_a = usize::from(body_types[usize::from(a)]);
+    let type_b = usize::from(body_types[usize::from(b)]);
+    let types = type_a * 256 + type_b;
     if types != BOTH_DYNAMIC {
         return;
     }
     island_sets::union(parents, sizes, a, b);
 }
 
-// The place of the first dynamic body of a list, or its length where none is dynamic.
-fn first_dynamic(body_types: &[u8], ends: &[u16]) -> usize
+// The first dynamic body of a list, and the bodies behind it.
+fn first_dynamic<'a>(body_types: &[u8], ends: &'a [u16]) -> Option<(u16, &'a [u16])>
     requires { all (λ b. ltb b (length body_types.now)) ends.now ≡ true }
-    ensures { FirstDynamic body_types.now ends.now result }
+    ensures { MatchOption result (dynamics body_types.now ends.entry.now ≡ []) (λ r. FirstDynamic body_types.now ends.entry.now r.0 r.1.now) }
 {
     // The bodies before `place` are not dynamic.
     for (place, body) in ends.iter().enumerate() {
-        if body_types[*body as usize] == Frame::DYNAMIC {
-            return place;
+        if body_types[usize::from(*body)] == Frame::DYNAMIC {
+            let (_, others) = ends.split_at(place + 1);
+            return Some((*body, others));
         }
     }
-    ends.len()
+    None
 }
 
 // The first dynamic body of a list is joined with each later dynamic one.
@@ -55,25 +59,11 @@ fn join_dynamics(body_types: &[u8], parents: &mut [u16], sizes: &mut [u16], ends
         × (root_of parents.new ≡ hang_all (length body_types.now) (root_of parents.old)
         (edges_of (bare body_types.now) (record { ends = ends.now; live = true }))) }
 {
-    let first = first_dynamic(body_types, ends);
-    // The first dynamic body is joined with every later one before `place`.
-    for place in first + 1..ends.len() {
-        join_dynamic(body_types, parents, sizes, ends[first], ends[place]);
-    }
-}
-
-// The dynamic bodies of a live constraint are joined. Most constraints are pairs, whose two bodies need no search.
-#[inline(always)]
-fn join_ends(body_types: &[u8], parents: &mut [u16], sizes: &mut [u16], ends: &[u16])
-    requires { Sets parents.old sizes.old × (length parents.old ≡ length body_types.now)
-        × (all (λ b. ltb b (length body_types.now)) ends.now ≡ true) }
-    ensures { Sets parents.new sizes.new
-        × (root_of parents.new ≡ hang_all (length body_types.now) (root_of parents.old)
-        (edges_of (bare body_types.now) (record { ends = ends.now; live = true }))) }
-{
-    match ends {
-        [a, b] => join_dynamic(body_types, parents, sizes, *a, *b),
-        ends => join_dynamics(body_types, parents, sizes, ends),
+    if let Some((first, others)) = first_dynamic(body_types, ends) {
+        // The first dynamic body is joined with the dynamic ones among those passed.
+        for other in others {
+            join_dynamic(body_types, parents, sizes, first, *other);
+        }
     }
 }
 
@@ -85,7 +75,33 @@ fn constrain(body_islands: &mut [u16], ends: &[u16])
 {
     // The bodies passed are constrained.
     for body in ends {
-        body_islands[*body as usize] = 0;
+        body_islands[usize::from(*body)] = 0;
+    }
+}
+
+// The dynamic bodies of a live constraint are joined, and all its bodies constrained. Most constraints are pairs: their two bodies need no
+// search, and are read before anything is written, so that they are not read again.
+#[inline(always)]
+fn join_live(
+    body_types: &[u8],
+    ends: &[u16],
+    parents: &mut [u16],
+    sizes: &mut [u16],
+    body_islands: &mut [u16],
+)
+    requires { Fit body_types.now parents.old sizes.old body_islands.old × (all (λ b. ltb b (length body_types.now)) ends.now ≡ true) }
+    ensures { Joined body_types.now (record { ends = ends.now; live = true } ∷ []) parents.old body_islands.old parents.new sizes.new body_islands.new }
+{
+    match ends {
+        [a, b] => {
+            let pair = [*a, *b];
+            join_dynamic(body_types, parents, sizes, pair[0], pair[1]);
+            constrain(body_islands, &pair);
+        }
+        ends => {
+            join_dynamics(body_types, parents, sizes, ends);
+            constrain(body_islands, ends);
+        }
     }
 }
 
@@ -107,15 +123,15 @@ fn join_one(
     if !constraint.live {
         return true;
     }
-    join_ends(body_types, parents, sizes, constraint.ends);
-    constrain(body_islands, constraint.ends);
+    join_live(body_types, constraint.ends, parents, sizes, body_islands);
     true
 }
 
 // Every constraint, up to the first that does not pass question 7.
+#[tactic(auto, using(crate::proofs::Joining::joining_starts, crate::proofs::Joining::joining_turns))]
 fn join_each<'a, C: Constraints<'a>>(
     body_types: &[u8],
-    mut constraints: C,
+    constraints: C,
     parents: &mut [u16],
     sizes: &mut [u16],
     body_islands: &mut [u16],
@@ -125,7 +141,7 @@ fn join_each<'a, C: Constraints<'a>>(
         parents.old body_islands.old parents.new sizes.new body_islands.new result }
 {
     // The constraints before those left passed question 7 and are joined.
-    while let Some(constraint) = constraints.next() {
+    for constraint in constraints {
         if !join_one(body_types, constraint, parents, sizes, body_islands) {
             return false;
         }
@@ -133,51 +149,39 @@ fn join_each<'a, C: Constraints<'a>>(
     true
 }
 
-// The joints of a frame: pairs where there are no counts.
+// The joints of a frame, whichever way they are lent.
 fn join_joints(
-    lists: Lists<'_>,
+    body_types: &[u8],
+    joints: Joints<'_>,
     parents: &mut [u16],
     sizes: &mut [u16],
     body_islands: &mut [u16],
 ) -> bool
-    requires fit { Fit lists.types.now parents.old sizes.old body_islands.old }
-    requires ends_len { end_count lists.joint_counts.now ≤ length lists.joint_ends.now }
-    ensures { JoinedOrRefused lists.entry.types.now (frame_in lists.entry).joints
+    requires { Fit body_types.now parents.old sizes.old body_islands.old }
+    ensures { JoinedOrRefused body_types.now (joints_in joints.entry)
         parents.old body_islands.old parents.new sizes.new body_islands.new result }
 {
-    if lists.joint_counts.len() == 0 {
-        let pairs = Pairs {
-            pairs: lists.joint_ends,
-            enabled: lists.enabled,
-        };
-        return join_each(lists.types, pairs, parents, sizes, body_islands);
+    match joints {
+        Joints::Paired(pairs) => join_each(body_types, pairs, parents, sizes, body_islands),
+        Joints::WithCounts(counted) => {
+            join_each(body_types, counted, parents, sizes, body_islands)
+        }
     }
-    let counted = Counted {
-        ends: lists.joint_ends,
-        counts: lists.joint_counts,
-        enabled: lists.enabled,
-    };
-    join_each(lists.types, counted, parents, sizes, body_islands)
 }
 
 // Every constraint of a frame.
 pub fn join_frame(
-    lists: Lists<'_>,
+    lists: AskedLists<'_>,
     parents: &mut [u16],
     sizes: &mut [u16],
     body_islands: &mut [u16],
 ) -> bool
-    requires fit { Fit lists.types.now parents.old sizes.old body_islands.old }
-    requires ends_len { end_count lists.joint_counts.now ≤ length lists.joint_ends.now }
-    ensures { JoinedOrRefused lists.entry.types.now (constraints (frame_in lists.entry))
+    requires { Fit lists.types.now parents.old sizes.old body_islands.old }
+    ensures { JoinedOrRefused lists.entry.types.now (constraints (frame_asked lists.entry))
         parents.old body_islands.old parents.new sizes.new body_islands.new result }
 {
-    let pairs = Pairs {
-        pairs: lists.manifolds,
-        enabled: &[],
-    };
-    if !join_each(lists.types, pairs, parents, sizes, body_islands) {
+    if !join_each(lists.types, lists.manifolds, parents, sizes, body_islands) {
         return false;
     }
-    join_joints(lists, parents, sizes, body_islands)
+    join_joints(lists.types, lists.joints, parents, sizes, body_islands)
 }

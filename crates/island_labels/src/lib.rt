@@ -4,12 +4,14 @@
 ghost use Rattle.std.specs.Prelude.{◌≡◌, true, cond, map, ◌<◌, ◌≤◌, length};
 ghost use Rattle.lists.specs.Basics.{all};
 ghost use Rattle.frame.specs.Constraints.{lent};
-ghost use Rattle.frame.specs.Frames.{constraints_of, end_count, joints_of, sound};
+ghost use Rattle.frame.specs.Asked.{joints_in};
+ghost use Rattle.frame.specs.Frames.{sound};
 ghost use Rattle.island_sets.specs.Steps.{Balanced};
 ghost use Rattle.island_labels.specs.Labels.{in_island_by, Numberable, Flagged, Stepped, NumberedByLowest, label_by};
 
 use frame::Frame;
-use frame::constraints::{Constraints, Counted, Lent, Pairs};
+use frame::asked::Joints;
+use frame::constraints::{Constraints, Lent};
 
 // The label of what has no island.
 pub const NONE: u16 = Frame::NONE;
@@ -37,14 +39,14 @@ fn number_one(parents: &[u16], body_islands: &mut [u16], body: usize, count: u16
     ensures { Stepped parents.now body_islands.old body count body_islands.new result }
 {
     let found = island_sets::root_of(parents, body);
-    let root = found.root as usize;
+    let root = usize::from(found.root);
     let label = body_islands[root];
     let first = label == UNNUMBERED;
     let number = tables::pick(first, count, label);
     let place = tables::pick(first, root, body);
     body_islands[place] = number;
     body_islands[body] = number;
-    count + first as u16
+    count + u16::from(first)
 }
 
 // The bodies in islands get their island's number, in rising order of the islands' lowest bodies. Answers how many islands there are.
@@ -74,58 +76,31 @@ fn label_one(body_islands: &[u16], constraint: Lent<'_>) -> u16
     let mut least = NONE;
     // `least` is the least of the labels of the bodies passed.
     for body in constraint.ends {
-        least = least.min(body_islands[*body as usize]);
+        least = least.min(body_islands[usize::from(*body)]);
     }
     least
 }
 
 // The label of each constraint.
-pub fn label_each<'a, C: Constraints<'a>>(
-    mut constraints: C,
-    body_islands: &[u16],
-    labels: &mut [u16],
-)
+pub fn label_each<'a, C: Constraints<'a>>(constraints: C, body_islands: &[u16], labels: &mut [u16])
     requires { (length labels.old ≡ length (C.left constraints))
         × (all (sound (length body_islands.now)) (C.left constraints) ≡ true) }
     ensures { labels.new ≡ map (label_by body_islands.now) (C.left constraints) }
 {
-    // The constraints passed have their labels; there are as many left as labels.
-    for label in labels.iter_mut() {
-        *label = label_one(body_islands, constraints.next().unwrap());
+    // The constraints passed have their labels.
+    for (number, constraint) in constraints.enumerate() {
+        labels[number] = label_one(body_islands, constraint);
     }
 }
 
-// The label of each constraint of a list of pairs.
-pub fn label_all(pairs: &[u16], enabled: &[u8], body_islands: &[u16], labels: &mut [u16])
-    requires { (length labels.old ≡ length (constraints_of pairs.now enabled.now))
-        × (all (sound (length body_islands.now)) (constraints_of pairs.now enabled.now) ≡ true) }
-    ensures { labels.new ≡ map (label_by body_islands.now) (constraints_of pairs.now enabled.now) }
-{
-    label_each(Pairs { pairs, enabled }, body_islands, labels);
-}
-
-// The labels of a frame's joints: pairs where there are no counts. A function of its own, so that the loop over pairs keeps its registers.
+// The labels of a frame's joints, whichever way they are lent. A function of its own, so that the loop over pairs keeps its registers.
 #[inline(never)]
-pub fn label_joints(
-    ends: &[u16],
-    counts: &[u8],
-    enabled: &[u8],
-    body_islands: &[u16],
-    labels: &mut [u16],
-)
-    requires { (end_count counts.now ≤ length ends.now)
-        × (length labels.old ≡ length (joints_of counts.now ends.now enabled.now))
-        × (all (sound (length body_islands.now)) (joints_of counts.now ends.now enabled.now) ≡ true) }
-    ensures { labels.new ≡ map (label_by body_islands.now) (joints_of counts.now ends.now enabled.now) }
+pub fn label_joints(joints: Joints<'_>, body_islands: &[u16], labels: &mut [u16])
+    requires { (length labels.old ≡ length (joints_in joints)) × (all (sound (length body_islands.now)) (joints_in joints) ≡ true) }
+    ensures { labels.new ≡ map (label_by body_islands.now) (joints_in joints.entry) }
 {
-    if counts.len() == 0 {
-        label_all(ends, enabled, body_islands, labels);
-        return;
+    match joints {
+        Joints::Paired(pairs) => label_each(pairs, body_islands, labels),
+        Joints::WithCounts(counted) => label_each(counted, body_islands, labels),
     }
-    let joints = Counted {
-        ends,
-        counts,
-        enabled,
-    };
-    label_each(joints, body_islands, labels);
 }

@@ -139,21 +139,11 @@ pub fn union(parents: &mut [u16], sizes: &mut [u16], left: u16, right: u16)
     join_roots(parents, sizes, root_left, root_right);
 }
 
-// Every body its own parent.
-fn fill_self(parents: &mut [u16])
-    requires { length parents.old ≤ 4096 }
-    ensures { parents.new ≡ range (length parents.old) }
-{
-    for (body, parent) in parents.iter_mut().enumerate() {
-        *parent = body as u16;
-    }
-}
-
-// Every body alone.
+// Every body alone: its own parent, and of size 1.
 pub fn reset(parents: &mut [u16], sizes: &mut [u16])
     requires { length parents.old ≤ 4096 }
     ensures { (parents.new ≡ range (length parents.old)) × (sizes.new ≡ replicate (length sizes.old) 1) }
 {
-    fill_self(parents);
+    tables::number_all(parents);
     sizes.fill(1);
 }

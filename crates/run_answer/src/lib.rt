@@ -72,11 +72,7 @@ fn has_room_for(
     let constraints = asked.manifolds + asked.joints;
     let entries = entries_for(asked.counted, asked.manifolds, asked.joints);
     let counts = counts_room(asked.counted, asked.manifolds, asked.joints);
-    (bodies <= islands.parents.len())
-        & (bodies <= islands.sizes.len())
-        & (bodies <= islands.body_islands.len())
-        & (asked.manifolds <= islands.manifold_islands.len())
-        & (asked.joints <= islands.joint_islands.len())
+    islands.has_room_for(bodies, asked.manifolds, asked.joints)
         & (3 * constraints <= turns.len())
         & (bodies <= tables.types.len())
         & (bodies <= tables.flags.len())

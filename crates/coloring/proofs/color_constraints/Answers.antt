@@ -1,7 +1,16 @@
 -- What a walk leaves is what the color is closed by, and then the following color is opened.
-use Rattle.std.proofs.Common.{ℕ, ◌+◌, ◌≤◌, ◌<◌, ◌≡◌, refl, ◌∙◌, List, arith, length}
+use Rattle.std.proofs.Common.{ℕ, ◌+◌, ◌≤◌, ◌<◌, ◌≡◌, refl, ap, ◌∙◌, List, ◌++◌, arith, length, take, drop, length-append, length-drop, length-take-le, take_at}
+use Rattle.lists.specs.Basics.{range}
+use Rattle.lists.proofs.Laws.{length-range}
 use Rattle.coloring.proofs.Walks.{Walks, walks_none, walks_few, color_small, closable, walks_more, walks_done}
 use Rattle.coloring.proofs.color_constraints.Goals as goal
+
+-- the first n places hold their numbers
+numbered : (old t : List ℕ) (n : ℕ) → n ≤ length old → t ≡ range (length (take n old)) → (length (t ++ drop n old) ≡ length old) × (take n (t ++ drop n old) ≡ range n)
+numbered old t n h e =
+    let s : t ≡ range n = e ∙ ap range (length-take-le n old h) in
+    let l : length t ≡ n = ap length s ∙ length-range 0 n in
+    (omega (arith, length-append t (drop n old), length-drop n old, l), take_at t (drop n old) n l ∙ s)
 
 -- a color is opened: there are few, and a place for where the group ends
 few : {flags : List ℕ} {cs : List (List ℕ)} {n k count : ℕ} {starts₀ remaining colors starts colored busy : List ℕ} → Walks flags cs n k count starts₀ remaining colors starts colored busy → (count ≡ 0 → ⊥)
@@ -9,7 +18,10 @@ few : {flags : List ℕ} {cs : List (List ℕ)} {n k count : ℕ} {starts₀ rem
 few v h = (omega (arith, v.all, color_small v h), omega (arith, v.all, v.opened.few), omega (arith, v.all, v.starts_length))
 
 pub colors-init : goal.colors-init
-colors-init c = walks_none c.requires.ready (length c.args.busy_bodies.now) _ _ c.list_all.auto.remaining c.list_all.ensures c.fill.auto.self (c.fill.ensures.after (λ y e. e))
+colors-init c =
+    let z = c.requires.ready in
+    let r = numbered c.args.remaining.now c.number_all.new.table (length c.args.constraint_colors.now) (omega (arith, z.sized, z.room)) c.number_all.ensures in
+    walks_none z (length c.args.busy_bodies.now) _ _ r.0 r.1 c.fill.auto.self (c.fill.ensures.after (λ y e. e))
 
 pub close_color-requires-clause-closable : goal.close_color-requires-clause-closable
 close_color-requires-clause-closable c =

@@ -6,7 +6,7 @@ use Rattle.degrees.proofs.touches.Goals as goal
 
 pub loop-end-preserved : goal.loop-end-preserved
 unfolding dynamic
-loop-end-preserved c = any_turn (dynamic (frame_of c.args.types.now [] [] [])) c.args.ends.now c.loop-end.end-index c.loop-end.touched c.loop-end-test.true c.loop-end.invariant
+loop-end-preserved c = rw c.from.ensures (any_turn (dynamic (frame_of c.args.types.now [] [] [])) c.args.ends.now c.loop-end.end-index c.loop-end.touched c.loop-end-test.true c.loop-end.invariant)
 
 pub returns : goal.returns
 unfolding touches

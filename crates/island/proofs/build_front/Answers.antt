@@ -5,7 +5,7 @@ use Rattle.island.proofs.build_front.Goals as goal
 
 pub returns-clause-built : goal.returns-clause-built
 returns-clause-built c =
-    let r = c.requires.room in
+    let r = c.requires in
     let b = c.build_sized in
     let n = length c.args.lists.types.now in
     let t = c.args.tables.now in

@@ -3,7 +3,7 @@ use Rattle.std.proofs.Common.{rules, ℕ, List, Bool, true, false, ◌≡◌, le
 use Rattle.lists.specs.Basics.{range}
 use Rattle.lists.proofs.Laws.{clashes}
 use Rattle.frame.specs.Frames.{Frame, constraints, all_sound, none}
-use Rattle.frame.specs.Lists.{frame_in}
+use Rattle.frame.specs.Asked.{frame_asked}
 use Rattle.island_sets.specs.Sets.{root_of}
 use Rattle.island_sets.specs.Steps.{Sets}
 use Rattle.island_sets.proofs.Starts.{fresh}
@@ -17,8 +17,8 @@ use Rattle.island.proofs.build_sized.Goals as goal
 alone : (f : Frame) (p₀ s₀ b m j p z : List ℕ) → Sized f p₀ b m j → length s₀ ≡ length p₀ → p ≡ range (length p₀) → z ≡ replicate (length s₀) 1 → Sets p z × (root_of p ≡ (λ (x : ℕ). x))
 alone f p₀ s₀ b m j p z h e = fresh (length p₀) (length s₀) p z (omega (arith, h.few, h.long_parents)) e
 
-pub join_frame-requires-clause-fit : goal.join_frame-requires-clause-fit
-join_frame-requires-clause-fit c =
+pub join_frame-requires : goal.join_frame-requires
+join_frame-requires c =
     let r = c.reset in
     let q = c.requires in
     record {
@@ -30,7 +30,7 @@ join_frame-requires-clause-fit c =
 pub returns-then-not-join_frame : goal.returns-then-not-join_frame
 unfolding all_sound
 returns-then-not-join_frame c =
-    let f = frame_in c.args.lists in
+    let f = frame_asked c.args.lists in
     let h = c.requires in
     let j = c.join_frame in
     let r = c.reset in
@@ -67,19 +67,19 @@ module _ (f : Frame) (p₀ s₀ b₀ m j p₁ s₁ b₁ p s b : List ℕ) (h : S
   joined_sets : WeighedSets f p s
   joined_sets = weighed-sets f p₁ b₁ p s b m j (length b₀) roots eb fits w
 
-pub label_frame-requires-clause-ready : goal.label_frame-requires-clause-ready
+pub label_frame-requires : goal.label_frame-requires
 unfolding all_sound
-label_frame-requires-clause-ready c =
+label_frame-requires c =
     let h = c.requires in
     let r = c.reset in
     let j = c.join_frame in
     let ok = c.if-not-join_frame.false in
-    joined_ready (frame_in c.args.lists) _ _ _ _ _ _ _ r.new.body_islands _ _ _ h.sized h.sizes_len r.ensures.0 r.ensures.1 r.ensures.2 (j.auto.parents ∙ r.auto.parents) (j.auto.body_islands ∙ r.auto.body_islands) (j.ensures.joined ok) (sym j.ensures.answer ∙ ok)
+    joined_ready (frame_asked c.args.lists) _ _ _ _ _ _ _ r.new.body_islands _ _ _ h.sized h.sizes_len r.ensures.0 r.ensures.1 r.ensures.2 (j.auto.parents ∙ r.auto.parents) (j.auto.body_islands ∙ r.auto.body_islands) (j.ensures.joined ok) (sym j.ensures.answer ∙ ok)
 
 pub returns : goal.returns
 unfolding all_sound
 returns c =
-    let f = frame_in c.args.lists in
+    let f = frame_asked c.args.lists in
     let h = c.requires in
     let r = c.reset in
     let j = c.join_frame in

@@ -7,17 +7,17 @@ use Rattle.island_joins.proofs.join_dynamic.Goals as goal
 pub returns-then-types-ne-BOTH_DYNAMIC : goal.returns-then-types-ne-BOTH_DYNAMIC
 returns-then-types-ne-BOTH_DYNAMIC c =
     let a = c.args in
-    let u = c.from in
-    let v = c.from-2 in
-    (c.requires.0, join_off (length a.body_types.now) (root_of a.parents.now) a.body_types.now a.a a.b u.result v.result u.ensures v.ensures (omega arith) c.if-types-ne-BOTH_DYNAMIC.true)
+    let u = c.from-type_a in
+    let v = c.from-type_b in
+    (c.requires.0, join_off (length a.body_types.now) (root_of a.parents.now) a.body_types.now a.a a.b u.result v.result (rw c.from.ensures at u.ensures) (rw c.from-2.ensures at v.ensures) (omega arith) c.if-types-ne-BOTH_DYNAMIC.true)
 
 pub returns : goal.returns
 returns c =
     let a = c.args in
-    let u = c.from in
-    let v = c.from-2 in
+    let u = c.from-type_a in
+    let v = c.from-type_b in
     let n = length a.body_types.now in (
       c.union.ensures.0,
       c.union.ensures.1 ∙ ap (λ (m : ℕ). hang m (root_of a.parents.now) a.a a.b) c.requires.1
-          ∙ join-on n (root_of a.parents.now) a.body_types.now a.a a.b u.result v.result u.ensures v.ensures (omega arith) c.if-types-ne-BOTH_DYNAMIC.false,
+          ∙ join-on n (root_of a.parents.now) a.body_types.now a.a a.b u.result v.result (rw c.from.ensures at u.ensures) (rw c.from-2.ensures at v.ensures) (omega arith) c.if-types-ne-BOTH_DYNAMIC.false,
     )

@@ -1,17 +1,20 @@
--- `island_joins::join_dynamics` meets its contract: the first dynamic body is joined with one more.
-use Rattle.island_joins.proofs.Joining.{starring_starts, starring_turns}
+-- `island_joins::join_dynamics` meets its contract: the first dynamic body is joined with one more of those behind it.
+use Rattle.island_joins.proofs.Joining.{joins_none, starring_starts, starring_turns, starring_ends}
 use Rattle.island_joins.proofs.join_dynamics.Goals as goal
 
-pub loop-place-init : goal.loop-place-init
-loop-place-init c =
-    let a = c.args in
-    let f = c.first_dynamic-first in
-    starring_starts a.body_types.now a.ends.now f.result f.ensures a.parents.now a.sizes.now c.requires.0 c.requires.1
+pub loop-other-init : goal.loop-other-init
+loop-other-init c = (c.in-Some.ensures, starring_starts _ _ _ _ c.in-Some.ensures c.args.parents.now c.args.sizes.now c.requires.0 c.requires.1)
 
-pub loop-place-preserved : goal.loop-place-preserved
-loop-place-preserved c =
-    let a = c.args in
-    let f = c.first_dynamic-first in
-    let l = c.loop-place in
+pub loop-other-preserved : goal.loop-other-preserved
+loop-other-preserved c =
+    let l = c.loop-other in
     let j = c.join_dynamic in
-    starring_turns a.body_types.now a.ends.now f.result f.ensures a.parents.now l.parents l.sizes l.place l.invariant j.new.parents j.new.sizes c.loop-place-test.true j.ensures.0 j.auto.parents j.ensures.1
+    (l.invariant.0, starring_turns _ _ _ _ l.invariant.0 c.args.parents.now l.parents l.sizes l.other-index l.invariant.1 j.new.parents j.new.sizes c.loop-other-test.true j.ensures.0 j.auto.parents j.ensures.1)
+
+pub returns-after-loop-other : goal.returns-after-loop-other
+returns-after-loop-other c =
+    let l = c.loop-other in
+    (l.invariant.1.sets, starring_ends _ _ _ _ l.invariant.0 c.args.parents.now l.parents l.sizes l.other-index l.invariant.1 c.loop-other-test.false)
+
+pub returns-in_default : goal.returns-in_default
+returns-in_default c = (c.requires.0, joins_none c.args.body_types.now c.args.ends.now c.args.parents.now c.in_default.ensures)

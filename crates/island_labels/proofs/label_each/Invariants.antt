@@ -6,8 +6,8 @@ use Rattle.frame.specs.Frames.{sound}
 use Rattle.island_labels.specs.Labels.{label_by}
 use Rattle.island_labels.proofs.label_each.Given as goal
 
-abbrev pub invariant-loop-label : goal.invariant-loop-label
-invariant-loop-label g l =
-    (l.label-index + length (g.C.Constraints.left l.constraints) ≡ length l.labels)
-    × (all (sound (length l.body_islands)) (g.C.Constraints.left l.constraints) ≡ true)
-    × (take l.label-index l.labels ++ map (label_by l.body_islands) (g.C.Constraints.left l.constraints) ≡ map (label_by l.body_islands) (g.C.Constraints.left l.initial.constraints))
+abbrev pub invariant-loop-number : goal.invariant-loop-number
+invariant-loop-number g l =
+    (l.number-iterator.count + length (g.C.Constraints.left l.number-iterator.iter) ≡ length l.labels)
+    × (all (sound (length l.body_islands)) (g.C.Constraints.left l.number-iterator.iter) ≡ true)
+    × (take l.number-iterator.count l.labels ++ map (label_by l.body_islands) (g.C.Constraints.left l.number-iterator.iter) ≡ map (label_by l.body_islands) (g.C.Constraints.left l.fn.constraints))

@@ -17,4 +17,4 @@ returns c =
     let t = nat_eq (get_or a.body_islands.now r.result.root 0) unnumbered in
     stepped a.parents.now a.body_islands.now a.body a.count r.result.root r.ensures.root
     (omega (arith, r.ensures.root, root_inside a.parents.now c.requires.0.0 c.requires.0.1.weighed a.body c.requires.2, c.requires.1))
-    c.pick-number.result c.pick-place.result c.pick-number.ensures c.pick-place.ensures _ (omega (arith, byte_one t))
+    c.pick-number.result c.pick-place.result (rw c.from-root.ensures at c.pick-number.ensures) (rw c.from-root.ensures at c.pick-place.ensures) _ (omega (arith, byte_one t, rw c.from-root.ensures at c.from.ensures))
