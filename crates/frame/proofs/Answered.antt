@@ -1,7 +1,8 @@
 -- The ways in which reading a file ends, each from what the code found.
-use Rattle.std.proofs.Common.{ℕ, ◌≡◌, sym, ◌∙◌, true, false, List, arith, eqb, ne_eqb, Ok, Err}
-use Rattle.frame.specs.Questions.{asked}
-use Rattle.frame.specs.Files.{head_questions, file_questions}
+use Rattle.std.proofs.Common.{ℕ, ◌≡◌, sym, ◌∙◌, true, false, cond, List, arith, eqb, ne_eqb, Ok, Err}
+use Rattle.lists.proofs.Laws.{by_cases}
+use Rattle.frame.specs.Questions.{asked, types_known, bits}
+use Rattle.frame.specs.Files.{types_in, live_in, head_questions, file_questions}
 use Rattle.frame.specs.Joints.{joints_refusal}
 use Rattle.frame.specs.Answers.{sizes_of, Read}
 use Rattle.frame.specs.Refusals.{number_of}
@@ -42,9 +43,19 @@ module _ (bs : List ℕ) where
     read-joints r e = refused r (e ∙ sym (file-asked bs ∙ rw (h, ne_eqb (joints_refusal bs) 0 (λ i. numbered r (e ∙ i)))))
 
     module _ (z : joints_refusal bs ≡ 0) where
-      -- types and enabled bytes
-      pub read_bytes : known bs ≡ false → Read bs (Err Values)
-      read_bytes e = refused Values (sym (file-asked bs ∙ rw (h, z, e)))
+      -- types, and then enabled bytes
+      read_bytes : (r : Refusal) → number_of r ≡ 5 → known bs ≡ false → Read bs (Err r)
+      read_bytes r e k = refused r (e ∙ sym (file-asked bs ∙ rw (h, z, k)))
+
+      pub read_types : (r : Refusal) → number_of r ≡ cond (types_known (types_in bs)) 0 5 → Read bs (Err r)
+      read_types r e = by_cases (types_known (types_in bs))
+          (λ t. absurd (numbered r (e ∙ rw t)))
+          (λ t. read_bytes r (e ∙ rw t) (rw t))
+
+      pub read_enabled : types_known (types_in bs) ≡ true → (r : Refusal) → number_of r ≡ cond (bits (live_in bs)) 0 5 → Read bs (Err r)
+      read_enabled k r e = by_cases (bits (live_in bs))
+          (λ t. absurd (numbered r (e ∙ rw t)))
+          (λ t. read_bytes r (e ∙ rw t) (rw (k, t)))
 
       pub read-sizes : known bs ≡ true → (f : Frame) → f ≡ sizes_of bs → Read bs (Ok f)
       read-sizes e f i =

@@ -1,6 +1,7 @@
 -- What the answer of questions 1 to 5 says of a file, by its version, and what constraints its frame has.
 use Rattle.std.proofs.Common.{ℕ, zero, suc, ◌+◌, ◌-◌, ◌*◌, ◌≤◌, ◌<◌, ◌≡◌, refl, sym, ap, ◌∙◌, Bool, true, false, not, ◌&&◌, ◌||◌, cond, List, [], ◌∷◌, ◌++◌, map, arith, mul-suc, leb, ltb, eqb, length, get_or, drop, replicate, length-append, length-drop, length-take-le, get_or-append-add, leb-true, eqb-true, eq-eqb, ne_eqb, ltb-true, ltb-false}
 use Rattle.std.proofs.Math.ListN.{length-map, length-replicate, get_or-append}
+use Rattle.std.proofs.lemmas.Bool.{eqb-false}
 use Rattle.lists.specs.Basics.{all}
 use Rattle.lists.proofs.Laws.{and_left, and_right, and_both, by_cases, all_append, get_or-map-lt}
 use Rattle.frame.specs.Frames.{Constraint, Frame, nothing, constraints, constraint_at, constraints_of, counted_of, frame_of, counts_known, end_count}
@@ -71,11 +72,14 @@ first_bytes bs e v z =
     let q = passed (eqb (word bs 1) (6 + count_b bs + 4 * count_m bs + 5 * count_j bs)) 0 3 (rw v at z) in
     omega (arith, h.rest, h.eleven, eqb-true _ _ q.0)
 
-pub first_right : (bs : List ℕ) → asked (head_questions bs) ≡ 0 → second bs ≡ false → length bs ≡ joints_at bs + 5 * count_j bs → 0 ≡ joints_refusal bs
-first_right bs e v l = let h = headed bs e in rw (v, eq-eqb (word bs 1) (6 + count_b bs + 4 * count_m bs + 5 * count_j bs) (omega (arith, h.rest, h.eleven)))
-
-pub first_wrong : (bs : List ℕ) → asked (head_questions bs) ≡ 0 → second bs ≡ false → (length bs ≡ joints_at bs + 5 * count_j bs → ⊥) → 4 ≡ joints_refusal bs
-first_wrong bs e v n = let h = headed bs e in rw (v, ne_eqb (word bs 1) (6 + count_b bs + 4 * count_m bs + 5 * count_j bs) (λ i. n (omega (arith, h.rest, h.eleven))))
+-- their refusal by that length
+pub first_length : (bs : List ℕ) (n : ℕ) → asked (head_questions bs) ≡ 0 → second bs ≡ false → n ≡ joints_at bs + 5 * count_j bs → cond (eqb (length bs) n) 0 4 ≡ joints_refusal bs
+first_length bs n e v i =
+    let h = headed bs e in
+    let rest = 6 + count_b bs + 4 * count_m bs + 5 * count_j bs in
+    by_cases (eqb (length bs) n)
+    (λ t. rw (v, t, eq-eqb (word bs 1) rest (omega (arith, h.rest, h.eleven, eqb-true (length bs) n t, i))))
+    (λ t. rw (v, t, ne_eqb (word bs 1) rest (λ k. eqb-false (length bs) n t (omega (arith, h.rest, h.eleven, k, i)))))
 
 -- and those of either version start inside it
 pub joints_inside : (bs : List ℕ) → asked (head_questions bs) ≡ 0 → joints_refusal bs ≡ 0 → joints_at bs ≤ length bs

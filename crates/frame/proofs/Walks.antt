@@ -1,8 +1,8 @@
 -- The joints of a version 2 file, entry after entry. An entry that passes lies inside the file and has a count of two to four; a walk that
 -- passes gives this of each entry in turn, and what a loop has found so far and the places still to come make up the whole.
-use Rattle.std.proofs.Common.{ℕ, zero, suc, ◌+◌, ◌-◌, ◌*◌, ◌≤◌, ◌<◌, ◌≡◌, refl, sym, ap, ◌∙◌, Bool, true, false, cond, List, [], ◌∷◌, ◌++◌, map, append_assoc, arith, leb, eqb, length, get_or, take, drop, set, length-append, length-drop, length-take-le, take_at, drop_at, leb-true, le-leb, eq-eqb, ne_eqb, eqb-true}
-use Rattle.std.proofs.Math.ListN.{length-map}
+use Rattle.std.proofs.Common.{ℕ, zero, suc, ◌+◌, ◌-◌, ◌*◌, ◌≤◌, ◌<◌, ◌≡◌, refl, sym, ap, ◌∙◌, Bool, true, false, cond, List, [], ◌∷◌, ◌++◌, map, append_assoc, arith, leb, eqb, length, get_or, take, drop, set, length-append, length-drop, length-take-le, take_at, drop_at, leb-true, leb-false, le-leb, eq-eqb, ne_eqb, eqb-true}
 use borrow.Rule.Slice.PartMut.{post_of, put_mid, same_len_mid}
+use Rattle.std.proofs.Math.ListN.{length-map}
 use Rattle.std.proofs.lemmas.Bool.{lt-leb}
 use Rattle.lists.specs.Basics.{join_map}
 use Rattle.lists.proofs.Laws.{and_left, and_right, and_both, by_cases}
@@ -11,25 +11,6 @@ use Rattle.frame.specs.Frames.{Constraint, counted, counted_of, joints_of, count
 use Rattle.frame.specs.Questions.{bits}
 use Rattle.frame.specs.Files.{byte, half, count_at, entry_end, entry_refusal, entries_refusal, places_from, halves_from, counts_from, ends_from, live_from}
 use Rattle.frame.proofs.Questions.{passed, zero-cond}
-
--- ---- one entry, as the code looks at it: c is its count
-module _ (bs : List ℕ) (s : ℕ) where
-  pub entry_short : length bs < s + 2 → 4 ≡ entry_refusal bs s
-  unfolding entry_refusal
-  entry_short h = rw (lt-leb (s + 2) (length bs) h)
-
-  module _ (h : s + 2 ≤ length bs) (c : ℕ) (e : c ≡ count_at bs s) where
-    pub entry_wrong : counted c ≡ false → 5 ≡ entry_refusal bs s
-    unfolding entry_refusal
-    entry_wrong l = rw (le-leb (s + 2) (length bs) h, ← e, l)
-
-    pub entry-cut : counted c ≡ true → length bs < s + (2 + 2 * c) → 4 ≡ entry_refusal bs s
-    unfolding entry_refusal
-    entry-cut k l = rw (le-leb (s + 2) (length bs) h, ← e, k, lt-leb (s + (2 + 2 * c)) (length bs) l)
-
-    pub entry-passes : counted c ≡ true → s + (2 + 2 * c) ≤ length bs → 0 ≡ entry_refusal bs s
-    unfolding entry_refusal
-    entry-passes k l = rw (le-leb (s + 2) (length bs) h, ← e, k, le-leb (s + (2 + 2 * c)) (length bs) l)
 
 -- an entry that passes
 pub record Whole (bs : List ℕ) (s : ℕ) : Type 0 where
@@ -68,18 +49,19 @@ module _ (bs : List ℕ) where
       let one : suc n - 1 ≡ n = omega arith in
       rw (one, i, eq-eqb (entry_refusal bs s) 0 e)
 
-  pub walk_over : (s n : ℕ) → n ≡ 0 → (s ≡ length bs → ⊥) → 4 ≡ entries_refusal bs s n
+  -- no entry is left
+  pub walk_over : (s n k : ℕ) → n ≡ 0 → k ≡ cond (eqb s (length bs)) 0 4 → k ≡ entries_refusal bs s n
   unfolding entries_refusal
-  walk_over s n e z = rw (e, ne_eqb s (length bs) z)
-
-  pub walk_done : (s n : ℕ) → n ≡ 0 → s ≡ length bs → 0 ≡ entries_refusal bs s n
-  unfolding entries_refusal
-  walk_done s n e z = rw (e, eq-eqb s (length bs) z)
+  walk_over s n k e i = rw e i
 
   -- a walk that starts past the end
-  pub walk_past : (s n : ℕ) → length bs < s → 4 ≡ entries_refusal bs s n
-  walk_past s zero h = walk_over s 0 refl (λ e. omega arith)
-  walk_past s (suc n) h = walk_stop s (suc n) 4 (omega arith) (entry_short bs s (omega arith)) (λ e. omega arith)
+  walk_past : (s n : ℕ) → length bs < s → 4 ≡ entries_refusal bs s n
+  unfolding entry_refusal
+  walk_past s zero h = walk_over s 0 4 refl (rw (ne_eqb s (length bs) (λ e. omega arith)))
+  walk_past s (suc n) h = walk_stop s (suc n) 4 (omega arith) (rw (lt-leb (s + 2) (length bs) (omega arith))) (λ e. omega arith)
+
+  pub walk_early : (s n k : ℕ) → k ≡ cond (leb s (length bs)) 0 4 → (k ≡ 0 → ⊥) → k ≡ entries_refusal bs s n
+  walk_early s n k e z = by_cases (leb s (length bs)) (λ t. absurd (z (e ∙ rw t))) (λ t. e ∙ rw t (walk_past s n (leb-false s (length bs) t)))
 
   -- its answer is 0, 4 or 5
   entry_cases : (P : ℕ → Type 0) → P 0 → P 4 → P 5 → (s : ℕ) → P (entry_refusal bs s)

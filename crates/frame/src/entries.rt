@@ -7,34 +7,25 @@ ghost use Rattle.frame.specs.Joints.{Walks, Walkable, Entered, Placeable};
 ghost use Rattle.frame.specs.Refusals.{refused_by};
 
 use crate::multi::counted;
-use crate::{HEADER, PAIR, Refusal, half_at};
+use crate::{HEADER, PAIR, Refusal, ask, half_at};
 
 // The entry at a place of the file: cut off before its count is met (4), a wrong count (5), or cut off behind it (4).
+#[tactic(auto, unfolding(crate::specs::Files::entry_refusal))]
 fn ask_entry(bytes: &[u8], at: usize) -> Result<(), Refusal>
     requires { at ≤ length bytes.now }
     ensures { refused_by result ≡ entry_refusal bytes.now at }
 {
-    let left = bytes.len() - at;
-    if left < 2 {
-        return Err(Refusal::Lengths);
-    }
+    ask(at + 2 <= bytes.len(), Refusal::Lengths)?;
     let count = usize::from(bytes[at + 1]);
-    if !counted(count) {
-        return Err(Refusal::Values);
-    }
-    if left - 2 < 2 * count {
-        return Err(Refusal::Lengths);
-    }
-    Ok(())
+    ask(counted(count), Refusal::Values)?;
+    ask(at + (2 + 2 * count) <= bytes.len(), Refusal::Lengths)
 }
 
 // The walk over the `joints` entries that start at `from`; behind the last one nothing may be left over. How many endpoints they have together.
 pub fn walk(bytes: &[u8], from: usize, joints: usize) -> Result<usize, Refusal>
     ensures { Walks bytes.now from joints result }
 {
-    if bytes.len() < from {
-        return Err(Refusal::Lengths);
-    }
+    ask(from <= bytes.len(), Refusal::Lengths)?;
     let mut at = from;
     let mut ends: usize = 0;
     // The entries before place `at` pass and have `ends` endpoints.
@@ -44,9 +35,7 @@ pub fn walk(bytes: &[u8], from: usize, joints: usize) -> Result<usize, Refusal>
         at += 2 + 2 * count;
         ends += count;
     }
-    if at != bytes.len() {
-        return Err(Refusal::Lengths);
-    }
+    ask(at == bytes.len(), Refusal::Lengths)?;
     Ok(ends)
 }
 

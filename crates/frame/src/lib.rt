@@ -20,7 +20,7 @@ ghost use Rattle.frame.specs.Answers.{version_of, Read};
 ghost use Rattle.frame.specs.Refusals.{refused_by};
 
 use crate::constraints::Pairs;
-pub use crate::refusal::Refusal;
+pub use crate::refusal::{Refusal, ask};
 
 // The file form: how many bytes stand before the types, and how many a manifold and a joint have.
 pub const HEADER: usize = 11;
@@ -123,16 +123,12 @@ pub fn few_each(bodies: usize, manifolds: usize, joints: usize) -> bool
 fn ask_head(bytes: &[u8]) -> Result<(), Refusal>
     ensures { refused_by result ≡ asked (head_questions bytes.now) }
 {
-    if !version_known(bytes) {
-        return Err(Refusal::Version);
-    }
-    if !length_right(bytes) {
-        return Err(Refusal::FileLength);
-    }
-    if !few_each(half_at(bytes, 5), half_at(bytes, 7), half_at(bytes, 9)) {
-        return Err(Refusal::TooMany);
-    }
-    Ok(())
+    ask(version_known(bytes), Refusal::Version)?;
+    ask(length_right(bytes), Refusal::FileLength)?;
+    ask(
+        few_each(half_at(bytes, 5), half_at(bytes, 7), half_at(bytes, 9)),
+        Refusal::TooMany,
+    )
 }
 
 // Questions 5 (of counts) and 4 of the joints that start at `from`: the walk of version 2, the length of version 1. How many endpoints they
@@ -144,9 +140,7 @@ fn walk_joints(bytes: &[u8], from: usize, joints: usize) -> Result<usize, Refusa
     if is_second(bytes) {
         return entries::walk(bytes, from, joints);
     }
-    if bytes.len() != from + JOINT * joints {
-        return Err(Refusal::Lengths);
-    }
+    ask(bytes.len() == from + JOINT * joints, Refusal::Lengths)?;
     Ok(2 * joints)
 }
 
@@ -223,12 +217,9 @@ impl Frame {
         let joints = half_at(bytes, 9);
         let from = HEADER + bodies + PAIR * manifolds;
         let joint_ends = walk_joints(bytes, from, joints)?;
-        if !at_most(&bytes[HEADER..HEADER + bodies], Frame::MAX_TYPE) {
-            return Err(Refusal::Values);
-        }
-        if !live_known(bytes, from, joints) {
-            return Err(Refusal::Values);
-        }
+        let types = &bytes[HEADER..HEADER + bodies];
+        ask(at_most(types, Frame::MAX_TYPE), Refusal::Values)?;
+        ask(live_known(bytes, from, joints), Refusal::Values)?;
         Ok(Frame {
             version: version_of(bytes),
             bodies,

@@ -1,7 +1,7 @@
 // Constraints of two to four endpoints. They have a count each, and their endpoints stand constraint after constraint without gaps: what
 // several calls ask of such lists (questions 4, 5 and 7).
 ghost use Rattle.std.specs.Prelude.{◌≡◌, ◌&&◌, ◌≤◌, ltb, length};
-ghost use Rattle.lists.specs.Basics.{all, mem, distinct};
+ghost use Rattle.lists.specs.Basics.{all, distinct};
 ghost use Rattle.frame.specs.Frames.{counted, counts_known, end_count, counted_of, fits, sound};
 
 use crate::constraints::Counted;

@@ -1,5 +1,5 @@
 // Refusals: which question got the first "no". Its number is what C is answered and what is printed.
-ghost use Rattle.std.specs.Prelude.{◌≡◌};
+ghost use Rattle.std.specs.Prelude.{◌≡◌, cond};
 ghost use Rattle.frame.specs.Refusals.{number_of, refused_by};
 
 #[derive(Clone, Copy, Debug, PartialEq, Eq)]
@@ -35,4 +35,12 @@ pub fn refusal_number<T: Drop>(answer: &Result<T, Refusal>) -> u8
         Ok(_) => 0,
         Err(refusal) => refusal.number(),
     }
+}
+
+// A question: its refusal if the answer is "no".
+#[inline(always)]
+pub fn ask(yes: bool, refusal: Refusal) -> Result<(), Refusal>
+    ensures { refused_by result ≡ cond yes 0 (number_of refusal) }
+{
+    if yes { Ok(()) } else { Err(refusal) }
 }

@@ -1,7 +1,8 @@
 -- `Frame::read`: the head's questions, then the joints', then 5 of types and enabled bytes.
-use Rattle.std.proofs.Common.{sym, arith, rules}
+use Rattle.std.proofs.Common.{◌+◌, ◌-◌, ◌≡◌, sym, ◌∙◌, arith, rules}
+use Rattle.std.proofs.lemmas.Result.{err_from_is_err_and}
 use Rattle.frame.proofs.Files.{joints_inside}
-use Rattle.frame.proofs.Answered.{read_head, read-joints}
+use Rattle.frame.proofs.Answered.{read_head, read-joints, read_types, read_enabled}
 use Rattle.frame.proofs.Frame.read.Goals as goal
 
 pub returns-in_err-ask_head : goal.returns-in_err-ask_head
@@ -10,5 +11,19 @@ returns-in_err-ask_head c = search (rules, read_head)
 pub returns-in_err-joint_ends : goal.returns-in_err-joint_ends
 returns-in_err-joint_ends c = let head = sym c.in_ok-ask_head.ensures in search (rules, read-joints)
 
-pub slice_bounds-at_most-end : goal.slice_bounds-at_most-end
-slice_bounds-at_most-end c = omega (arith, c.half_at-bodies.ensures.0, joints_inside c.args.bytes.now (sym c.in_ok-ask_head.ensures) (sym c.in_ok-joint_ends.ensures.refusal))
+pub slice_bounds-types-end : goal.slice_bounds-types-end
+slice_bounds-types-end c = omega (arith, c.half_at-bodies.ensures.0, joints_inside c.args.bytes.now (sym c.in_ok-ask_head.ensures) (sym c.in_ok-joint_ends.ensures.refusal))
+
+pub returns-in_err-ask : goal.returns-in_err-ask
+returns-in_err-ask c =
+    let head = sym c.in_ok-ask_head.ensures in
+    let joints = sym c.in_ok-joint_ends.ensures.refusal in
+    let size : 11 + c.half_at-bodies.result - 11 ≡ c.half_at-bodies.result = omega arith in
+    let p = err_from_is_err_and c.from_residual-in_err-ask.result c.from_residual-in_err-ask.ensures.1 in
+    rw (p.1, p.2) (read_types c.args.bytes.now head joints _ (c.in_err-ask.ensures ∙ rw (c.at_most.ensures, size, c.half_at-bodies.ensures.0)))
+
+pub returns-in_err-ask-2 : goal.returns-in_err-ask-2
+returns-in_err-ask-2 c =
+    let head = sym c.in_ok-ask_head.ensures in
+    let joints = sym c.in_ok-joint_ends.ensures.refusal in
+    search (rules, read_enabled)

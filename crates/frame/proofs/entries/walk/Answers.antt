@@ -2,18 +2,31 @@
 use Rattle.std.proofs.Common.{◌≡◌, ◌+◌, ◌*◌, ◌-◌, sym, ◌∙◌, arith}
 use Rattle.std.proofs.lemmas.Result.{err_from_is_err_and}
 use Rattle.frame.specs.Files.{entry_end}
-use Rattle.frame.proofs.Walks.{whole, walk_stop, walk_turn, walk_over, walk_done, walk_past, ends-next_long, ends-none_long}
+use Rattle.frame.proofs.Walks.{whole, walk_stop, walk_turn, walk_over, walk_early, ends-next_long, ends-none_long}
 use Rattle.frame.proofs.Answered.{numbered}
 use Rattle.frame.proofs.entries.walk.Goals as goal
 
-pub returns-then-bytes-from : goal.returns-then-bytes-from
-returns-then-bytes-from c = record { refusal = walk_past c.args.bytes.now c.args.from c.args.joints c.if-bytes-from.true; ends = tt }
+pub returns-in_err-ask : goal.returns-in_err-ask
+returns-in_err-ask c =
+    let p = err_from_is_err_and c.from_residual.result c.from_residual.ensures.1 in
+    rw (p.1, p.2) (record {
+      refusal = walk_early c.args.bytes.now c.args.from c.args.joints _ c.in_err-ask.ensures (numbered c.in_err-ask.field-0.0);
+      ends = tt;
+    })
 
 pub returns-in_err-ask_entry : goal.returns-in_err-ask_entry
 returns-in_err-ask_entry c =
-    let p = err_from_is_err_and c.from_residual.result c.from_residual.ensures.1 in
+    let p = err_from_is_err_and c.from_residual-in_err-ask_entry.result c.from_residual-in_err-ask_entry.ensures.1 in
     rw (p.1, p.2) (record {
       refusal = walk_stop c.args.bytes.now c.loop-j.at (c.args.joints - c.loop-j._j) _ (omega arith) c.in_err-ask_entry.ensures (numbered c.in_err-ask_entry.field-0.0) ∙ c.loop-j.invariant.refusal;
+      ends = tt;
+    })
+
+pub returns-in_err-ask-2 : goal.returns-in_err-ask-2
+returns-in_err-ask-2 c =
+    let p = err_from_is_err_and c.from_residual-in_err-ask-2.result c.from_residual-in_err-ask-2.ensures.1 in
+    rw (p.1, p.2) (record {
+      refusal = walk_over c.args.bytes.now c.loop-j.at (c.args.joints - c.loop-j._j) _ (omega arith) c.in_err-ask-2.ensures ∙ c.loop-j.invariant.refusal;
       ends = tt;
     })
 
@@ -36,18 +49,12 @@ loop-j-preserved c =
       ends = rw (← less) (omega (arith, l.invariant.ends, ends-next_long bs l.at left _ (omega arith) next, c.from-count.ensures));
     }
 
-pub returns-then-at-bytes : goal.returns-then-at-bytes
-returns-then-at-bytes c = record {
-  refusal = walk_over c.args.bytes.now c.loop-j.at (c.args.joints - c.loop-j._j) (omega arith) c.if-at-bytes.true ∙ c.loop-j.invariant.refusal;
-  ends = tt;
-}
-
 pub returns : goal.returns
 returns c =
     let bs = c.args.bytes.now in
     let l = c.loop-j in
     let left = c.args.joints - l._j in
     record {
-      refusal = walk_done bs l.at left (omega arith) c.if-at-bytes.false ∙ l.invariant.refusal;
+      refusal = walk_over bs l.at left 0 (omega arith) c.in_ok-ask-2.ensures ∙ l.invariant.refusal;
       ends = omega (arith, l.invariant.ends, ends-none_long bs l.at left (omega arith));
     }
