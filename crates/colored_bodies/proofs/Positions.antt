@@ -17,7 +17,7 @@ use Rattle.colored_bodies.specs.declared.BodyBinding.{BodyBinding}
 use Rattle.ordering.proofs.Sorting.{length-sorted}
 use Rattle.colored_bodies.proofs.Fills.{pad_to, taken_more}
 use Rattle.colored_bodies.proofs.Takes.{mem-sorted}
-use Rattle.colored_bodies.proofs.Pairs.{numbered}
+use Rattle.frame.proofs.Answered.{numbered}
 use Rattle.frame.specs.declared.refusal.Refusal.{Refusal}
 use Rattle.frame.specs.Refusals.{number_of}
 

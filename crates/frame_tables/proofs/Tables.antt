@@ -19,7 +19,7 @@ use Rattle.frame.proofs.Files.{Sized, manifolds-count, joints-count, constraint-
 use Rattle.connected_sets.specs.Islands.{label}
 use Rattle.island.specs.Calls.{IslandTables, Rooms, rooms_of, island_refusal, multi_island_refusal, labels_after, Built}
 use Rattle.island.specs.Answers.{answer_islands}
-use Rattle.island.proofs.Refusals.{numbered}
+use Rattle.frame.proofs.Answered.{numbered}
 use Rattle.schedules.proofs.Accepted.{Accepted, accepted}
 use Rattle.island_numbers.specs.Numbers.{Labels, Sortable, by_island}
 use Rattle.frame_parts.specs.Parts.{Standing, standing_refusal, Countable}

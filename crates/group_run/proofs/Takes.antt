@@ -15,7 +15,7 @@ use Rattle.constraint_coloring.specs.Calls.{Located}
 use Rattle.multi_coloring.specs.Counts.{count_read, counts_read, multi_positions_refusal}
 use Rattle.colored_bodies.specs.declared.BodyBinding.{BodyBinding}
 use Rattle.colored_bodies.specs.declared.Marked.{Marked}
-use Rattle.colored_bodies.proofs.Pairs.{numbered}
+use Rattle.frame.proofs.Answered.{numbered}
 use Rattle.frame.specs.Refusals.{number_of, refused_by}
 use Rattle.colored_bodies.specs.Bindings.{Handed, bind_of, handed_at, take_of, take_refusal, take_marks}
 use Rattle.colored_bodies.specs.Answers.{marked_dynamic, Marks, marked_flags, flags_of, MarksAt}

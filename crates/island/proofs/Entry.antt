@@ -5,6 +5,7 @@ use Rattle.std.proofs.Math.ListN.{length-map, length-replicate}
 use Rattle.std.proofs.lemmas.Bool.{eqb-false}
 use Rattle.lists.specs.Basics.{over}
 use Rattle.lists.proofs.Laws.{and_left, and_right, length-range}
+use Rattle.frame.proofs.Answered.{numbered}
 use Rattle.frame.specs.declared.refusal.Refusal.{Refusal}
 use Rattle.frame.specs.Refusals.{number_of, refused_by}
 use Rattle.frame.specs.Frames.{Frame, frame_of, frame_with, constraints_of, joints_of, counts_known, end_count, bodies, all_sound, none}
@@ -15,7 +16,7 @@ use Rattle.connected_sets.specs.Islands.{island_count, body_label, label}
 use Rattle.island.specs.Answers.{answer_islands}
 use Rattle.island.specs.Calls.{IslandTables, island_tables_of, rooms_of, roomy, early_questions, island_refusal, multi_early_questions, multi_island_refusal, SetsAfter, labels_after, Built}
 use Rattle.island.specs.Steps.{Sized, BuiltSized, Room, BuiltFront}
-use Rattle.island.proofs.Refusals.{numbered, early, refused, AllYes, all_yes, early_below, refused-early, refused_late}
+use Rattle.island.proofs.Refusals.{early, refused, AllYes, all_yes, early_below, refused-early, refused_late}
 
 -- ---- how many constraints there are
 pairs_bounds : (l es : List ℕ) → (length (constraints_of l es) + length (constraints_of l es) ≤ length l) × (length l ≤ length (constraints_of l es) + length (constraints_of l es) + 1)

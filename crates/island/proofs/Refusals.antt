@@ -1,26 +1,10 @@
 -- The questions of a call in order: the first "no" of questions 3 to 6 refuses; where there is none, question 7 decides.
 use Rattle.std.proofs.Common.{ℕ, ◌≤◌, arith, ◌≡◌, refl, sym, ap, ◌∙◌, Bool, true, false, cond, List, [], ◌∷◌, ◌++◌, eqb, eq-eqb, ne_eqb}
 use Rattle.frame.specs.declared.refusal.Refusal.{Refusal}
-use Rattle.frame.specs.declared.refusal.Refusal.TheVariants.{Version, FileLength, TooMany, Lengths, Values, Room, Endpoints, BodyList, Positions, LowerTaken, HigherTaken, NoConstraint, NoPair}
+use Rattle.frame.proofs.Answered.{numbered}
 use Rattle.frame.specs.Refusals.{number_of}
 use Rattle.frame.specs.Questions.{Question, question, asked}
 use Rattle.frame.proofs.Questions.{passed, asked-append}
-
--- no refusal has the number 0
-pub numbered : (r : Refusal) → number_of r ≡ 0 → ⊥
-numbered Version e = omega arith
-numbered FileLength e = omega arith
-numbered TooMany e = omega arith
-numbered Lengths e = omega arith
-numbered Values e = omega arith
-numbered Room e = omega arith
-numbered Endpoints e = omega arith
-numbered BodyList e = omega arith
-numbered Positions e = omega arith
-numbered LowerTaken e = omega arith
-numbered HigherTaken e = omega arith
-numbered NoConstraint e = omega arith
-numbered NoPair e = omega arith
 
 -- the answers to questions 3 to 7
 module _ (q3 q4 q5 q6 q7 : Bool) where

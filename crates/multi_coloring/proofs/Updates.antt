@@ -8,7 +8,8 @@ use Rattle.groups.specs.Groups.{Plan, with_counts, multi_plan_of}
 use Rattle.plan_questions.specs.Plans.{Tables}
 use Rattle.constraint_coloring.specs.Stages.{Rebuilt}
 use Rattle.constraint_coloring.specs.declared.ConstraintColoring.{ConstraintColoring}
-use Rattle.constraint_coloring.proofs.Updates.{number_not-0, written-not, written_new, leaves_kept}
+use Rattle.frame.proofs.Answered.{numbered}
+use Rattle.constraint_coloring.proofs.Updates.{written-not, written_new, leaves_kept}
 use Rattle.constraint_coloring.specs.Calls.{update_number, update_refused, update_changed, plan_after}
 use Rattle.constraint_coloring.specs.declared.Update.{Update}
 use Rattle.constraint_coloring.specs.declared.Update.TheVariants.{Changed, Unchanged, Refused}
@@ -58,7 +59,7 @@ module _ (p : MultiColoring) (flags ends counts : List ℕ) (t : Tables) (c : Li
   pub refused : (r : Refusal) → number_of r ≡ refusal → MultiUpdated p flags ends counts t c t c (Refused r)
   unfolding multi_changes_with
   refused r e =
-      let ne = ne_eqb (number_of r) 0 (number_not-0 r) in
+      let ne = ne_eqb (number_of r) 0 (numbered r) in
       kept_all (Refused r) (rw (sym e, ne)) e (rw (sym e, ne)) refl refl
 
   pub unchanged : refusal ≡ 0 → multi_holds p t c flags ends counts ≡ true → MultiUpdated p flags ends counts t c t c Unchanged
