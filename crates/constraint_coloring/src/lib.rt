@@ -12,9 +12,9 @@ ghost use Rattle.plan_questions.specs.Lent.{tables_in, lengths_of, SameTables};
 ghost use Rattle.constraint_coloring.specs.Calls.{update_number, update_changed, plan_after, fresh_plan, Updated, Located};
 ghost use Rattle.constraint_coloring.specs.Stages.{Scheduled, Buildable, Rebuilt};
 
-use frame::{Frame, Refusal};
+use frame::{Frame, Refusal, ask};
 use parts::{Ends, Grouped};
-use plan_questions::{PlanTables, ask};
+use plan_questions::PlanTables;
 
 // What a plan carries by value; the rest stands in the tables that its caller lends.
 #[derive(Clone, Copy, Debug, PartialEq, Eq)]
@@ -217,18 +217,19 @@ impl ConstraintColoring {
         ensures same_tables { SameTables tables.old tables.new }
         ensures same_lengths { lengths_of (tables_in tables.new) ≡ lengths_of (tables_in tables.old) }
     {
-        let room = tables.has_room_for_pairs(flags.len(), pairs.len() / 2);
+        let count = pairs.len() / 2;
+        let room = tables.has_room_for_pairs(flags.len(), count);
         match plan_questions::ask_update(flags, pairs, room) {
             Err(refusal) => return Update::Refused(refusal),
             Ok(()) => {}
         }
-        if tables.hold(self.body_count, self.constraint_count, flags, pairs) {
+        if tables.hold(self.body_count, self.constraint_count, flags, count, pairs) {
             return Update::Unchanged;
         }
         let ends = Ends {
             endpoints: pairs,
             bounds: &[],
-            count: pairs.len() / 2,
+            count,
         };
         Update::Changed(build_plan(
             flags,
