@@ -7,7 +7,7 @@
 
 ghost use Rattle.std.specs.Prelude.{◌≡◌, true, ℕ, ◌<◌, ◌≤◌, ltb, length, get_or};
 ghost use Rattle.lists.specs.Basics.{all};
-ghost use Rattle.parts.specs.Parts.{Bounded, parts_at};
+ghost use Rattle.parts.specs.Parts.{parts_at};
 ghost use Rattle.coloring.specs.Coloring.{Ready, Colored, Opened, Walked};
 ghost use Rattle.coloring.specs.Steps.{MadeBusy, MadeIdle, Closable, Closed};
 
@@ -25,8 +25,9 @@ fn make_busy(dynamic_bodies: &[u8], bodies: &[u16], fits: u16, busy_bodies: &mut
 {
     // The bodies passed are busy if they are dynamic and the color fits, and the others what they were.
     for &body in bodies {
-        let dynamic = (dynamic_bodies[body as usize] == 1) as u16;
-        busy_bodies[body as usize] |= dynamic & fits;
+        let place = usize::from(body);
+        let dynamic = u16::from(dynamic_bodies[place] == 1);
+        busy_bodies[place] |= dynamic & fits;
     }
 }
 
@@ -43,7 +44,7 @@ fn walk(
     start: usize,
     count: usize,
 ) -> usize
-    requires bounded { Bounded (length colored_constraints.old) ends.bounds.now ends.endpoints.now }
+    requires counted { length colored_constraints.old ≡ ends.count }
     requires opened { Opened dynamic_bodies.now (parts_at (length colored_constraints.old) ends.bounds.now ends.endpoints.now) color start count remaining.old colored_constraints.old busy_bodies.old }
     ensures { Walked dynamic_bodies.now (parts_at (length colored_constraints.old) ends.entry.bounds.now ends.entry.endpoints.now) color start count result remaining.new colored_constraints.new busy_bodies.new }
 {
@@ -53,11 +54,11 @@ fn walk(
     let mut end = start;
     'walk: for passed in 0..count {
         let constraint = remaining[passed];
-        let bodies = ends.part(constraint as usize);
+        let bodies = ends.part(usize::from(constraint));
         let mut busy = 0;
         // `busy` is 1 if a body passed is busy, else 0.
         'bodies: for &body in bodies {
-            busy |= busy_bodies[body as usize];
+            busy |= busy_bodies[usize::from(body)];
             if predicted & (busy == 1) {
                 remaining[left] = constraint;
                 left += 1;
@@ -67,9 +68,9 @@ fn walk(
         // It is put in both lists, and the one advances in which it stays.
         let fits = 1 - busy;
         remaining[left] = constraint;
-        left += busy as usize;
+        left += usize::from(busy);
         colored_constraints[end] = constraint;
-        end += fits as usize;
+        end += usize::from(fits);
         make_busy(dynamic_bodies, bodies, fits, busy_bodies);
     }
     left
@@ -82,7 +83,7 @@ fn make_idle(bodies: &[u16], busy_bodies: &mut [u16])
 {
     // The bodies passed are idle.
     for &body in bodies {
-        busy_bodies[body as usize] = 0;
+        busy_bodies[usize::from(body)] = 0;
     }
 }
 
@@ -95,14 +96,15 @@ fn close_color(
     constraint_colors: &mut [u16],
     busy_bodies: &mut [u16],
 )
-    requires bounded { Bounded (length constraint_colors.old) ends.bounds.now ends.endpoints.now }
+    requires counted { length constraint_colors.old ≡ ends.count }
     requires closable { Closable (parts_at (length constraint_colors.old) ends.bounds.now ends.endpoints.now) color members.now constraint_colors.old busy_bodies.old }
     ensures { Closed (parts_at (length constraint_colors.old) ends.entry.bounds.now ends.entry.endpoints.now) color members.now constraint_colors.old busy_bodies.old constraint_colors.new busy_bodies.new }
 {
     // The members passed have the color, and their bodies are idle.
     for &member in members {
-        constraint_colors[member as usize] = color as u16;
-        make_idle(ends.part(member as usize), busy_bodies);
+        let constraint = usize::from(member);
+        constraint_colors[constraint] = color as u16;
+        make_idle(ends.part(constraint), busy_bodies);
     }
 }
 
@@ -118,7 +120,7 @@ pub fn color_constraints(
     colored_constraints: &mut [u16],
     busy_bodies: &mut [u16],
 ) -> usize
-    requires bounded { Bounded (length constraint_colors.old) ends.bounds.now ends.endpoints.now }
+    requires counted { length constraint_colors.old ≡ ends.count }
     requires ready { Ready dynamic_bodies.now (parts_at (length constraint_colors.old) ends.bounds.now ends.endpoints.now) remaining.old constraint_colors.old color_offsets.old colored_constraints.old busy_bodies.old }
     ensures { Colored dynamic_bodies.now (parts_at (length constraint_colors.old) ends.entry.bounds.now ends.entry.endpoints.now) color_offsets.old constraint_colors.new color_offsets.new colored_constraints.new busy_bodies.new result }
 {

@@ -3,7 +3,7 @@ use Rattle.std.specs.Prelude.{ℕ, ◌+◌, ◌≤◌, ◌≡◌, true, List, le
 use Rattle.lists.specs.Basics.{all}
 use Rattle.frame.specs.Frames.{fits}
 use Rattle.groups.specs.Groups.{Plan, positions, flatten}
-use Rattle.parts.specs.Parts.{parts_at, Bounded}
+use Rattle.parts.specs.Parts.{parts_at}
 use Rattle.parts.specs.Steps.{Gapless}
 use Rattle.gathering.specs.Gathers.{Gathered}
 use Rattle.plan_questions.specs.Plans.{Tables}
@@ -19,7 +19,6 @@ pub record Scheduled (body_count : ℕ) (cs : List (List ℕ)) (constraint_color
 pub record Buildable (flags ends bounds : List ℕ) (n : ℕ) (t : Tables) : Type 0 where
   pub few_bodies : length flags ≤ 4096
   pub few : n ≤ 8192
-  pub bounded : Bounded n bounds ends
   pub gapless : Gapless n bounds ends
   pub sound : all (fits (length flags)) (parts_at n bounds ends) ≡ true
   pub dynamic_bodies : length flags ≤ length t.dynamic_bodies

@@ -4,17 +4,17 @@
 ghost use Rattle.std.specs.Prelude.{◌≡◌, ◌≤◌, ◌+◌, ◌*◌, [], length};
 ghost use Rattle.lists.specs.Basics.{over};
 ghost use Rattle.groups.specs.Groups.{group_count, plan_from, pair_at};
-ghost use Rattle.parts.specs.Parts.{parts_at, Bounded};
-ghost use Rattle.parts.specs.Steps.{Gapless};
+ghost use Rattle.parts.specs.Parts.{parts_at};
 ghost use Rattle.gathering.specs.Gathers.{Gatherable};
+ghost use Rattle.locating.specs.Locates.{Arranged};
 ghost use Rattle.plan_questions.specs.Plans.{tables_of, group_part};
 ghost use Rattle.plan_questions.specs.Lent.{tables_in, lengths_of, SameTables};
 ghost use Rattle.constraint_coloring.specs.Calls.{update_number, update_changed, plan_after, fresh_plan, Updated, Located};
 ghost use Rattle.constraint_coloring.specs.Stages.{Scheduled, Buildable, Rebuilt};
 
-use frame::{Frame, Refusal};
+use frame::{Frame, Refusal, ask};
 use parts::{Ends, Grouped};
-use plan_questions::{PlanTables, ask};
+use plan_questions::PlanTables;
 
 // What a plan carries by value; the rest stands in the tables that its caller lends.
 #[derive(Clone, Copy, Debug, PartialEq, Eq)]
@@ -85,27 +85,21 @@ fn pair_of(table: &[u16], pair: usize) -> &[u16]
 #[inline(always)]
 fn list_groups(
     body_count: usize,
-    endpoints: &[u16],
-    bounds: &[u16],
+    ends: Ends<'_>,
     constraint_colors: &[u16],
     color_count: usize,
-    color_offsets: &[u16],
-    colored_constraints: &[u16],
+    constraints: Grouped<'_>,
     scratch_offsets: &mut [u16],
     body_stamps: &mut [u16],
     color_body_offsets: &mut [u16],
     color_bodies: &mut [u16],
     constraint_body_positions: &mut [u16],
 )
-    requires bounded { Bounded (length constraint_colors.now) bounds.now endpoints.now × Gapless (length constraint_colors.now) bounds.now endpoints.now × (length constraint_body_positions.old ≡ length endpoints.now) }
-    requires gatherable { Gatherable body_count (parts_at (length constraint_colors.now) bounds.now endpoints.now) constraint_colors.now color_count color_offsets.now colored_constraints.now body_stamps.old scratch_offsets.old color_body_offsets.old color_bodies.old × (color_count ≡ group_count constraint_colors.now) }
-    ensures { Scheduled body_count (parts_at (length constraint_colors.now) bounds.now endpoints.now) constraint_colors.now color_count color_bodies.old color_body_offsets.new color_bodies.new constraint_body_positions.new }
+    requires counted { length constraint_colors.now ≡ ends.count }
+    requires arranged { Arranged (length constraint_colors.now) ends.bounds.now ends.endpoints.now constraint_body_positions.old }
+    requires gatherable { Gatherable body_count (parts_at (length constraint_colors.now) ends.bounds.now ends.endpoints.now) constraint_colors.now color_count constraints.offsets.now constraints.table.now body_stamps.old scratch_offsets.old color_body_offsets.old color_bodies.old × (color_count ≡ group_count constraint_colors.now) }
+    ensures { Scheduled body_count (parts_at (length constraint_colors.now) ends.entry.bounds.now ends.entry.endpoints.now) constraint_colors.now color_count color_bodies.old color_body_offsets.new color_bodies.new constraint_body_positions.new }
 {
-    let ends = Ends { endpoints, bounds };
-    let constraints = Grouped {
-        table: colored_constraints,
-        offsets: color_offsets,
-    };
     gathering::gather(
         body_count,
         ends,
@@ -141,9 +135,7 @@ fn list_groups(
 #[inline(always)]
 pub fn build_plan(
     flags: &[u8],
-    ends: &[u16],
-    bounds: &[u16],
-    constraint_count: usize,
+    ends: Ends<'_>,
     dynamic_bodies: &mut [u8],
     endpoints: &mut [u16],
     scratch_offsets: &mut [u16],
@@ -155,11 +147,11 @@ pub fn build_plan(
     color_bodies: &mut [u16],
     constraint_body_positions: &mut [u16],
 ) -> ConstraintColoring
-    requires { Buildable flags.now ends.now bounds.now constraint_count
+    requires { Buildable flags.now ends.endpoints.now ends.bounds.now ends.count
         (tables_of dynamic_bodies.old endpoints.old [] [] scratch_offsets.old
         constraint_colors.old [] body_stamps.old color_offsets.old
         colored_constraints.old color_body_offsets.old color_bodies.old constraint_body_positions.old) }
-    ensures { Rebuilt flags.now ends.now (plan_from flags.now (parts_at constraint_count bounds.now ends.now))
+    ensures { Rebuilt flags.now ends.entry.endpoints.now (plan_from flags.now (parts_at ends.entry.count ends.entry.bounds.now ends.entry.endpoints.now))
         (tables_of dynamic_bodies.old endpoints.old [] [] scratch_offsets.old
         constraint_colors.old [] body_stamps.old color_offsets.old
         colored_constraints.old color_body_offsets.old color_bodies.old constraint_body_positions.old)
@@ -168,35 +160,36 @@ pub fn build_plan(
         colored_constraints.new color_body_offsets.new color_bodies.new constraint_body_positions.new) result }
 {
     let body_count = flags.len();
+    let constraint_count = ends.count;
+    let end_count = ends.endpoints.len();
     copy_over(flags, dynamic_bodies);
-    copy_over(ends, endpoints);
+    copy_over(ends.endpoints, endpoints);
     let color_count = coloring::color_constraints(
         flags,
-        Ends {
-            endpoints: ends,
-            bounds,
-        },
+        ends,
         scratch_offsets,
         &mut constraint_colors[..constraint_count],
         &mut color_offsets[..constraint_count + 1],
         &mut colored_constraints[..constraint_count],
         &mut body_stamps[..body_count],
     );
+    let constraints = Grouped {
+        table: &colored_constraints[..constraint_count],
+        offsets: &color_offsets[..color_count + 1],
+    };
     list_groups(
         body_count,
         ends,
-        bounds,
         &constraint_colors[..constraint_count],
         color_count,
-        &color_offsets[..color_count + 1],
-        &colored_constraints[..constraint_count],
+        constraints,
         scratch_offsets,
         &mut body_stamps[..body_count],
         &mut color_body_offsets[..color_count + 1],
-        &mut color_bodies[..ends.len()],
-        &mut constraint_body_positions[..ends.len()],
+        &mut color_bodies[..end_count],
+        &mut constraint_body_positions[..end_count],
     );
-    let largest = parts::largest_part(&color_offsets[..color_count + 1]);
+    let largest = parts::largest_part(constraints.offsets);
     ConstraintColoring {
         body_count,
         constraint_count,
@@ -224,19 +217,23 @@ impl ConstraintColoring {
         ensures same_tables { SameTables tables.old tables.new }
         ensures same_lengths { lengths_of (tables_in tables.new) ≡ lengths_of (tables_in tables.old) }
     {
-        let room = tables.has_room_for_pairs(flags.len(), pairs.len() / 2);
+        let count = pairs.len() / 2;
+        let room = tables.has_room_for_pairs(flags.len(), count);
         match plan_questions::ask_update(flags, pairs, room) {
             Err(refusal) => return Update::Refused(refusal),
             Ok(()) => {}
         }
-        if tables.hold(self.body_count, self.constraint_count, flags, pairs) {
+        if tables.hold(self.body_count, self.constraint_count, flags, count, pairs) {
             return Update::Unchanged;
         }
+        let ends = Ends {
+            endpoints: pairs,
+            bounds: &[],
+            count,
+        };
         Update::Changed(build_plan(
             flags,
-            pairs,
-            &[],
-            pairs.len() / 2,
+            ends,
             tables.dynamic_bodies,
             tables.endpoints,
             tables.scratch_offsets,

@@ -2,7 +2,6 @@
 use Rattle.std.specs.Prelude.{ℕ, ◌+◌, ◌≤◌, ◌<◌, ◌≡◌, true, cond, List, [], ◌∷◌, ◌++◌, eqb, ltb, length, get_or, set, take, drop}
 use Rattle.std.proofs.lemmas.List.Edits.{sets}
 use Rattle.lists.specs.Basics.{filter, all, sum_of, range, mem, over}
-use Rattle.parts.specs.Parts.{Present}
 use Rattle.groups.specs.Groups.{members, group_bodies, flatten, offsets}
 
 -- the bodies bs, once each, rising
@@ -21,10 +20,6 @@ stamp_all stamp st (b ∷ bs) = stamp_all stamp (set st b stamp) bs
 -- the bodies that have the stamp, rising
 unfoldable pub stamped : ℕ → List ℕ → List ℕ
 stamped stamp st = filter (λ b. eqb (get_or st b 0) stamp) (range (length st))
-
--- the constraints ms have their endpoints
-abbrev pub AllPresent : List ℕ → List ℕ → List ℕ → Type 0
-AllPresent endpoints bounds ms = (r : ℕ) → mem r ms ≡ true → Present endpoints bounds r
 
 -- the bodies bs can be stamped: they exist, and their number fits
 pub record Stampable (bs st : List ℕ) : Type 0 where

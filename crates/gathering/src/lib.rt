@@ -3,11 +3,11 @@
 #![tactic(auto)]
 
 ghost use Rattle.std.specs.Prelude.{◌≡◌, [], ◌∷◌, ◌≤◌, ◌<◌, length};
-ghost use Rattle.lists.specs.Basics.{join_map};
-ghost use Rattle.parts.specs.Parts.{part_at, parts_at, Bounded};
-ghost use Rattle.gathering.specs.Gathers.{stamped, Stampable, Counted, Notable, Noted, AllPresent, Fresh, Listed, Gatherable, Gathered};
+ghost use Rattle.parts.specs.Parts.{parts_at};
+ghost use Rattle.parts.specs.MemberEnds.{ends_of};
+ghost use Rattle.gathering.specs.Gathers.{stamped, Stampable, Counted, Notable, Noted, Fresh, Listed, Gatherable, Gathered};
 
-use parts::{Ends, Grouped};
+use parts::{Ends, Grouped, Members};
 
 // The bodies of a group with a constraint for every 64 bodies or more are collected from the stamps; those of a smaller one are noted as
 // they come, and sorted.
@@ -18,8 +18,8 @@ fn stamp_body(body: u16, stamp: u16, body_stamps: &mut [u16]) -> usize
     requires { body < length body_stamps.old }
     ensures { Counted stamp (body ∷ []) 0 body_stamps.old body_stamps.new result }
 {
-    let place = body as usize;
-    let fresh = (body_stamps[place] != stamp) as usize;
+    let place = usize::from(body);
+    let fresh = usize::from(body_stamps[place] != stamp);
     body_stamps[place] = stamp;
     fresh
 }
@@ -39,15 +39,14 @@ fn stamp_part(bodies: &[u16], stamp: u16, body_stamps: &mut [u16]) -> usize
 
 // The bodies of a group's constraints; answers how many they are.
 #[inline(always)]
-fn stamp_members(ends: Ends<'_>, members: &[u16], stamp: u16, body_stamps: &mut [u16]) -> usize
-    requires all_present { AllPresent ends.endpoints.now ends.bounds.now members.now }
-    requires stampable { Stampable (join_map (part_at ends.bounds.now ends.endpoints.now) members.now) body_stamps.old }
-    ensures { Counted stamp (join_map (part_at ends.entry.bounds.now ends.entry.endpoints.now) members.now) 0 body_stamps.old body_stamps.new result }
+fn stamp_members(members: Members<'_>, stamp: u16, body_stamps: &mut [u16]) -> usize
+    requires stampable { Stampable (ends_of members) body_stamps.old }
+    ensures { Counted stamp (ends_of members.entry) 0 body_stamps.old body_stamps.new result }
 {
     let mut count = 0;
     // The bodies of the members passed have the stamp; `count` of them had another.
-    for &member in members {
-        let bodies = ends.part(member as usize);
+    for &member in members.numbers {
+        let bodies = members.ends.part(usize::from(member));
         count += stamp_part(bodies, stamp, body_stamps);
     }
     count
@@ -63,7 +62,7 @@ fn collect(body_stamps: &[u16], stamp: u16, part: &mut [u16])
     // The first `at` places hold the stamped bodies below `body`.
     while at < part.len() {
         part[at] = body as u16;
-        at += (body_stamps[body] == stamp) as usize;
+        at += usize::from(body_stamps[body] == stamp);
         body += 1;
     }
 }
@@ -71,18 +70,16 @@ fn collect(body_stamps: &[u16], stamp: u16, part: &mut [u16])
 // The bodies of a group with many constraints, from place `start` on; answers where they end.
 #[inline(always)]
 fn list_many(
-    ends: Ends<'_>,
-    members: &[u16],
+    members: Members<'_>,
     stamp: u16,
     body_stamps: &mut [u16],
     color_bodies: &mut [u16],
     start: usize,
 ) -> usize
-    requires all_present { AllPresent ends.endpoints.now ends.bounds.now members.now }
-    requires fresh { Fresh (join_map (part_at ends.bounds.now ends.endpoints.now) members.now) stamp body_stamps.old color_bodies.old start }
-    ensures { Listed (join_map (part_at ends.entry.bounds.now ends.entry.endpoints.now) members.now) stamp body_stamps.new color_bodies.old color_bodies.new start result }
+    requires fresh { Fresh (ends_of members) stamp body_stamps.old color_bodies.old start }
+    ensures { Listed (ends_of members.entry) stamp body_stamps.new color_bodies.old color_bodies.new start result }
 {
-    let count = stamp_members(ends, members, stamp, body_stamps);
+    let count = stamp_members(members, stamp, body_stamps);
     let end = start + count;
     collect(body_stamps, stamp, &mut color_bodies[start..end]);
     end
@@ -128,21 +125,19 @@ fn note_part(
 // The bodies of a group's constraints, as they come.
 #[inline(always)]
 fn note_members(
-    ends: Ends<'_>,
-    members: &[u16],
+    members: Members<'_>,
     stamp: u16,
     body_stamps: &mut [u16],
     color_bodies: &mut [u16],
     start: usize,
 ) -> usize
-    requires all_present { AllPresent ends.endpoints.now ends.bounds.now members.now }
-    requires notable { Notable (join_map (part_at ends.bounds.now ends.endpoints.now) members.now) body_stamps.old color_bodies.old start }
-    ensures { Noted stamp (join_map (part_at ends.entry.bounds.now ends.entry.endpoints.now) members.now) start body_stamps.old color_bodies.old body_stamps.new color_bodies.new result }
+    requires notable { Notable (ends_of members) body_stamps.old color_bodies.old start }
+    ensures { Noted stamp (ends_of members.entry) start body_stamps.old color_bodies.old body_stamps.new color_bodies.new result }
 {
     let mut end = start;
     // The bodies of the members passed are noted, up to place `end`.
-    for &member in members {
-        let bodies = ends.part(member as usize);
+    for &member in members.numbers {
+        let bodies = members.ends.part(usize::from(member));
         end = note_part(bodies, stamp, body_stamps, color_bodies, end);
     }
     end
@@ -151,20 +146,18 @@ fn note_members(
 // The bodies of a group with few constraints, from place `start` on; answers where they end.
 #[inline(always)]
 fn list_few(
-    ends: Ends<'_>,
-    members: &[u16],
+    members: Members<'_>,
     stamp: u16,
     body_stamps: &mut [u16],
     scratch_offsets: &mut [u16],
     color_bodies: &mut [u16],
     start: usize,
 ) -> usize
-    requires all_present { AllPresent ends.endpoints.now ends.bounds.now members.now }
-    requires fresh { Fresh (join_map (part_at ends.bounds.now ends.endpoints.now) members.now) stamp body_stamps.old color_bodies.old start }
+    requires fresh { Fresh (ends_of members) stamp body_stamps.old color_bodies.old start }
     requires body_stamps_in_bounds { length body_stamps.old ≤ length scratch_offsets.old }
-    ensures { Listed (join_map (part_at ends.entry.bounds.now ends.entry.endpoints.now) members.now) stamp body_stamps.new color_bodies.old color_bodies.new start result }
+    ensures { Listed (ends_of members.entry) stamp body_stamps.new color_bodies.old color_bodies.new start result }
 {
-    let end = note_members(ends, members, stamp, body_stamps, color_bodies, start);
+    let end = note_members(members, stamp, body_stamps, color_bodies, start);
     ordering::sort(&mut color_bodies[start..end], scratch_offsets);
     end
 }
@@ -172,24 +165,21 @@ fn list_few(
 // The bodies of any group, from place `start` on; answers where they end.
 #[inline(always)]
 fn list_bodies(
-    ends: Ends<'_>,
-    members: &[u16],
+    members: Members<'_>,
     stamp: u16,
     body_stamps: &mut [u16],
     scratch_offsets: &mut [u16],
     color_bodies: &mut [u16],
     start: usize,
 ) -> usize
-    requires all_present { AllPresent ends.endpoints.now ends.bounds.now members.now }
-    requires fresh { Fresh (join_map (part_at ends.bounds.now ends.endpoints.now) members.now) stamp body_stamps.old color_bodies.old start }
+    requires fresh { Fresh (ends_of members) stamp body_stamps.old color_bodies.old start }
     requires body_stamps_in_bounds { length body_stamps.old ≤ length scratch_offsets.old }
-    ensures { Listed (join_map (part_at ends.entry.bounds.now ends.entry.endpoints.now) members.now) stamp body_stamps.new color_bodies.old color_bodies.new start result }
+    ensures { Listed (ends_of members.entry) stamp body_stamps.new color_bodies.old color_bodies.new start result }
 {
-    if members.len() >= body_stamps.len() / BODIES_PER_CONSTRAINT {
-        return list_many(ends, members, stamp, body_stamps, color_bodies, start);
+    if members.numbers.len() >= body_stamps.len() / BODIES_PER_CONSTRAINT {
+        return list_many(members, stamp, body_stamps, color_bodies, start);
     }
     list_few(
-        ends,
         members,
         stamp,
         body_stamps,
@@ -212,7 +202,7 @@ pub fn gather(
     color_body_offsets: &mut [u16],
     color_bodies: &mut [u16],
 )
-    requires bounded { Bounded (length constraint_colors.now) ends.bounds.now ends.endpoints.now }
+    requires counted { length constraint_colors.now ≡ ends.count }
     requires gatherable { Gatherable body_count (parts_at (length constraint_colors.now) ends.bounds.now ends.endpoints.now) constraint_colors.now color_count colored_constraints.offsets.now colored_constraints.table.now body_stamps.old scratch_offsets.old color_body_offsets.old color_bodies.old }
     ensures { Gathered body_count (parts_at (length constraint_colors.now) ends.entry.bounds.now ends.entry.endpoints.now) constraint_colors.now color_count color_body_offsets.new color_bodies.old color_bodies.new }
 {
@@ -220,10 +210,10 @@ pub fn gather(
     let mut end = 0;
     // The bodies of the groups below `color` are listed up to place `end`, and no stamp is above `color`.
     for color in 0..color_count {
-        let members = colored_constraints.group(color);
+        let numbers = colored_constraints.group(color);
+        let members = Members { ends, numbers };
         let stamp = (color + 1) as u16;
         end = list_bodies(
-            ends,
             members,
             stamp,
             body_stamps,

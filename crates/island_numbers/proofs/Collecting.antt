@@ -1,17 +1,18 @@
 -- One turn of the loop over parts; and that the parts between the bounds of counts are the parts by counts, so that what is collected are the
 -- endpoints and counts of the listed constraints.
-use Rattle.std.proofs.Common.{ℕ, ◌+◌, ◌*◌, ◌≤◌, ◌<◌, ◌≡◌, refl, sym, ap, ◌∙◌, List, [], ◌∷◌, ◌++◌, map, append_assoc, arith, add-one, ltb, length, get_or, take, drop, length-append, drop-cons, length-take-le, take_at, eq-eqb, ne_eqb, ltb-true}
+use Rattle.std.proofs.Common.{ℕ, ◌+◌, ◌*◌, ◌/◌, ◌≤◌, ◌<◌, ◌≡◌, refl, sym, ap, ◌∙◌, true, List, [], ◌∷◌, ◌++◌, map, append_assoc, arith, add-one, ltb, length, get_or, take, drop, length-append, drop-cons, length-take-le, take_at, eq-eqb, ne_eqb, lt-ltb, ltb-true}
 use Rattle.std.proofs.Math.ListN.{length-map}
-use Rattle.lists.specs.Basics.{join_map}
-use Rattle.lists.proofs.Laws.{all_in, get_or-mem, no_length}
+use Rattle.lists.specs.Basics.{all, mem, join_map}
+use Rattle.lists.proofs.Laws.{all_in, all_intro, no_length}
 use Rattle.lists.proofs.Ranges.{join_map_ext_in}
 use Rattle.frame.specs.Frames.{end_count}
 use Rattle.frame.proofs.Counted.{known-many}
-use Rattle.groups.specs.Groups.{counted_parts}
-use Rattle.parts.specs.Parts.{part_at}
+use Rattle.groups.specs.Groups.{pair_at, counted_parts}
+use Rattle.parts.specs.Parts.{part_at, Bounded}
 use Rattle.parts.specs.Steps.{BoundsOf}
+use Rattle.parts.proofs.Parts.{pair_is}
 use Rattle.parts.proofs.Bounds.{part-counted, counted_bounded}
-use Rattle.island_numbers.specs.Numbers.{pairs_among, ends_among, counts_among, Collectable, Parted}
+use Rattle.island_numbers.specs.Numbers.{pairs_among, ends_among, counts_among, Collectable}
 
 -- ---- a turn: the part of the number at place `rank` goes behind what is collected
 
@@ -39,6 +40,17 @@ module _ (g : ℕ → List ℕ) (ns out part : List ℕ) (rank start : ℕ) (h :
 pub pairs_long : (ends ns : List ℕ) → length (pairs_among ends ns) ≡ 2 * length ns
 pairs_long ends [] = refl
 pairs_long ends (n ∷ ns) = omega (arith, pairs_long ends ns)
+
+-- pairs that are there: their numbers are below half the endpoints, and their parts are the pairs
+module _ (pairs ns : List ℕ) (there : all (λ n. ltb (2 * n + 1) (length pairs)) ns ≡ true) where
+  pair_there : (n : ℕ) → mem n ns ≡ true → 2 * n + 1 < length pairs
+  pair_there n m = ltb-true (2 * n + 1) (length pairs) (all_in (λ x. ltb (2 * x + 1) (length pairs)) n ns m there)
+
+  pub pairs_inside : all (λ r. ltb r (length pairs / 2)) ns ≡ true
+  pairs_inside = all_intro (λ r. ltb r (length pairs / 2)) ns (λ r m. lt-ltb r (length pairs / 2) (omega (arith, pair_there r m)))
+
+  pub pairs_parts : join_map (part_at [] pairs) ns ≡ pairs_among pairs ns
+  pairs_parts = join_map_ext_in (part_at [] pairs) (pair_at pairs) ns (λ n m. pair_is n pairs (omega (arith, pair_there n m)))
 
 module _ {counts ends ns bounds island_ends island_counts : List ℕ} (c : Collectable counts ends ns bounds island_ends island_counts) where
   -- without counts
@@ -74,8 +86,8 @@ module _ {counts ends ns bounds island_ends island_counts : List ℕ} (c : Colle
           (join_map_ext_in (part_at filled ends) (λ n. get_or (counted_parts counts ends) n []) ns
           (λ n m. part-counted b long ends n (ltb-true n (length counts) (all_in (λ x. ltb x (length counts)) n ns m (c.counted some)))))
 
-      pub parted : Parted ends filled ns island_ends
-      parted = record {
-        there = λ k l. counted_bounded b long ends (omega (arith, c.whole some)) (get_or ns k 0) (ltb-true (get_or ns k 0) (length counts) (all_in (λ x. ltb x (length counts)) (get_or ns k 0) ns (get_or-mem ns k l) (c.counted some)));
-        room = c.ends_long ∙ ap length (sym parts-among);
-      }
+      pub parts_room : length island_ends ≡ length (join_map (part_at filled ends) ns)
+      parts_room = c.ends_long ∙ ap length (sym parts-among)
+
+      pub parts_bounded : Bounded (length counts) filled ends
+      parts_bounded = counted_bounded b long ends (omega (arith, c.whole some))

@@ -1,8 +1,7 @@
 -- Question 6 asks for the tables' lengths alone, and fewer constraints and endpoints need less.
 use Rattle.std.proofs.Common.{ℕ, ap, ◌∙◌, ◌≤◌, ◌≡◌, true, arith, length}
 use Rattle.plan_questions.specs.Plans.{Tables, roomy_with}
-use Rattle.plan_questions.specs.Lent.{lengths_of, SameTables}
-use Rattle.plan_questions.specs.declared.PlanLengths.{PlanLengths}
+use Rattle.plan_questions.specs.Lent.{PlanLengths, lengths_of, SameTables}
 use Rattle.plan_questions.specs.declared.PlanTables.{PlanTables}
 use Rattle.plan_questions.proofs.Rooms.{fitted_with, with_fitted}
 

@@ -54,17 +54,13 @@ module _ {nb n : ℕ} {bounds es colors offsets constraints starts bodies places
       (λ r i. v.located r i (omega (arith, p.groups, max_in suc (get_or colors r 0) colors (get_or-mem colors r i))))
       (v.size ∙ w.2)
 
-  module _ (h : k < n) {ms bs : List ℕ} (m : ms ≡ cut constraints offsets k (k + 1)) (b : bs ≡ cut bodies starts k (k + 1)) where
-    pub group_arranged : Arranged bounds es ms table
-    group_arranged =
-        record {
-          many = length colors;
-          few = p.few;
-          bounded = w.0;
-          gapless = w.1;
-          room = v.size ∙ w.2;
-          below = rw (members_are p k h m) (all_intro (λ r. ltb r (length colors)) (members colors k) (λ r o. lt-ltb r (length colors) (member_is colors k r o).0));
-        }
+  -- the lists of the call: of `many` constraints
+  module _ {many : ℕ} (counted : length colors ≡ many) (h : k < n) {ms bs : List ℕ} (m : ms ≡ cut constraints offsets k (k + 1)) (b : bs ≡ cut bodies starts k (k + 1)) where
+    pub group_below : all (λ r. ltb r many) ms ≡ true
+    group_below = rw (← counted, members_are p k h m) (all_intro (λ r. ltb r (length colors)) (members colors k) (λ r o. lt-ltb r (length colors) (member_is colors k r o).0))
+
+    pub group_arranged : Arranged many bounds es table
+    group_arranged = record { gapless = rw (← counted) w.1; room = v.size ∙ w.2 }
 
     pub group_findable : Findable (join_map (part_at bounds es) ms) bs
     group_findable =
@@ -82,8 +78,8 @@ module _ {nb n : ℕ} {bounds es colors offsets constraints starts bodies places
     pub group_low : all (λ b. ltb b (length places)) bs ≡ true
     group_low = rw (bodies_are p k h b) (bodies_exist nb (parts_at (length colors) bounds es) colors k (length places) (omega (arith, v.places_size, p.by_body)))
 
-    pub settling_more : {places' table' : List ℕ} → length places' ≡ length places → length table' ≡ length table → MembersLocated bounds es ms bs table table' → Settling nb bounds es colors n places₀ positions₀ places' table' (k + 1)
-    unfolding positions group_arranged
+    pub settling_more : {places' table' : List ℕ} → length places' ≡ length places → length table' ≡ length table → MembersLocated many bounds es ms bs table table' → Settling nb bounds es colors n places₀ positions₀ places' table' (k + 1)
+    unfolding positions
     settling_more lp lt u =
         record {
           inside = omega arith;
@@ -98,5 +94,5 @@ module _ {nb n : ℕ} {bounds es colors offsets constraints starts bodies places
               (λ e.
               let q : k ≡ get_or colors r 0 → ⊥ = eqb-false k (get_or colors r 0) e in
               let l : get_or colors r 0 < k = omega (arith, q) in
-              u.kept group_arranged r i (rw (members_are p k h m) (member_at colors k r i ∙ e)) ∙ v.located r i l);
+              u.kept r (omega (arith, counted)) (rw (members_are p k h m) (member_at colors k r i ∙ e)) ∙ v.located r i l);
         }

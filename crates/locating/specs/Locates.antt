@@ -2,7 +2,7 @@
 use Rattle.std.specs.Prelude.{ℕ, ◌≤◌, ◌<◌, ◌≡◌, true, false, List, map, ltb, length, get_or, take}
 use Rattle.lists.specs.Basics.{all, mem, place, rises}
 use Rattle.groups.specs.Groups.{group_count, members, group_bodies, flatten, offsets}
-use Rattle.parts.specs.Parts.{part_at, Bounded}
+use Rattle.parts.specs.Parts.{part_at}
 use Rattle.parts.specs.Steps.{Gapless}
 
 -- what `locate` needs: constraints cs on bodies that exist, the members and the bodies of all groups, and a table for the places of all bodies
@@ -17,14 +17,10 @@ pub record Locatable (body_count : ℕ) (cs : List (List ℕ)) (colors : List �
   pub bodies : take (length (flatten (group_bodies body_count cs colors) color_count)) color_bodies ≡ flatten (group_bodies body_count cs colors) color_count
   pub by_body : body_count ≤ length places
 
--- a number of constraints whose endpoints fill the list, with a position for each endpoint; the constraints ms are among them
-pub record Arranged (bounds es ms positions : List ℕ) : Type 0 where
-  pub many : ℕ
-  pub few : many ≤ 8192
-  pub bounded : Bounded many bounds es
-  pub gapless : Gapless many bounds es
+-- n constraints fill the endpoint list, with a position for each endpoint
+pub record Arranged (n : ℕ) (bounds es positions : List ℕ) : Type 0 where
+  pub gapless : Gapless n bounds es
   pub room : length positions ≡ length es
-  pub below : all (λ r. ltb r many) ms ≡ true
 
 -- the bodies bs can be found: all stand in a rising list
 pub record Findable (bs bodies : List ℕ) : Type 0 where
@@ -41,7 +37,7 @@ pub record PlacesKnown (bodies places : List ℕ) : Type 0 where
   pub below : all (λ b. ltb b (length places)) bodies ≡ true
   pub listed : 4 < length bodies → PlacesListed bodies places
 
--- the constraints ms have the positions of their endpoints among the bodies, and the others keep theirs
-pub record MembersLocated (bounds es ms bodies positions positions' : List ℕ) : Type 0 where
+-- of n constraints the members ms have the positions of their endpoints among the bodies, and the others keep theirs
+pub record MembersLocated (n : ℕ) (bounds es ms bodies positions positions' : List ℕ) : Type 0 where
   pub done : (r : ℕ) → mem r ms ≡ true → part_at bounds positions' r ≡ map (λ b. place b bodies) (part_at bounds es r)
-  pub kept : (w : Arranged bounds es ms positions) (r : ℕ) → r < w.many → mem r ms ≡ false → part_at bounds positions' r ≡ part_at bounds positions r
+  pub kept : (r : ℕ) → r < n → mem r ms ≡ false → part_at bounds positions' r ≡ part_at bounds positions r

@@ -2,13 +2,13 @@
 #![tactic(auto)]
 
 ghost use Rattle.std.specs.Prelude.{◌≡◌, true, map, ◌≤◌, ltb, length};
-ghost use Rattle.lists.specs.Basics.{all, mem, place, rises, join_map};
+ghost use Rattle.lists.specs.Basics.{all, mem, place, rises};
 ghost use Rattle.groups.specs.Groups.{positions, flatten};
-ghost use Rattle.parts.specs.Parts.{part_at, parts_at, Bounded};
-ghost use Rattle.parts.specs.Steps.{Gapless};
+ghost use Rattle.parts.specs.Parts.{parts_at};
+ghost use Rattle.parts.specs.MemberEnds.{ends_of};
 ghost use Rattle.locating.specs.Locates.{Locatable, Arranged, Findable, PlacesListed, PlacesKnown, MembersLocated};
 
-use parts::{Ends, Grouped};
+use parts::{Ends, Grouped, Members};
 
 // In a list of this many bodies or fewer a place is searched; of a longer one it is read from the table of places.
 const FEW: usize = 4;
@@ -20,7 +20,7 @@ fn list_places(bodies: &[u16], places: &mut [u16])
 {
     // The bodies passed have their places.
     for (place, &body) in bodies.iter().enumerate() {
-        places[body as usize] = place as u16;
+        places[usize::from(body)] = place as u16;
     }
 }
 
@@ -32,7 +32,7 @@ fn place_of(bodies: &[u16], places: &[u16], body: u16) -> u16
     if bodies.len() <= FEW {
         return ordering::position(bodies, body) as u16;
     }
-    places[body as usize]
+    places[usize::from(body)]
 }
 
 // The places of a constraint's bodies among its group's, in the order of its endpoints.
@@ -49,23 +49,23 @@ fn locate_part(part: &[u16], bodies: &[u16], places: &[u16], positions: &mut [u1
 // The positions of a group's members: of many bodies the places are listed first.
 #[inline(always)]
 fn locate_members(
-    ends: Ends<'_>,
-    members: &[u16],
+    members: Members<'_>,
     bodies: &[u16],
     places: &mut [u16],
     constraint_body_positions: &mut [u16],
 )
-    requires arranged { Arranged ends.bounds.now ends.endpoints.now members.now constraint_body_positions.old }
-    requires findable { Findable (join_map (part_at ends.bounds.now ends.endpoints.now) members.now) bodies.now × (all (λ b. ltb b (length places.old)) bodies.now ≡ true) }
-    ensures { MembersLocated ends.entry.bounds.now ends.entry.endpoints.now members.now bodies.now constraint_body_positions.old constraint_body_positions.new }
+    requires arranged { Arranged members.ends.count members.ends.bounds.now members.ends.endpoints.now constraint_body_positions.old }
+    requires findable { Findable (ends_of members) bodies.now × (all (λ b. ltb b (length places.old)) bodies.now ≡ true) }
+    ensures { MembersLocated members.entry.ends.count members.entry.ends.bounds.now members.entry.ends.endpoints.now members.entry.numbers.now bodies.now constraint_body_positions.old constraint_body_positions.new }
 {
     if FEW < bodies.len() {
         list_places(bodies, places);
     }
     // The members passed have their positions, and the others what they had.
-    for &member in members {
-        let part = ends.part(member as usize);
-        let start = ends.start(member as usize);
+    for &member in members.numbers {
+        let constraint = usize::from(member);
+        let part = members.ends.part(constraint);
+        let start = members.ends.start(constraint);
         let end = start + part.len();
         locate_part(
             part,
@@ -88,14 +88,16 @@ pub fn locate(
     places: &mut [u16],
     constraint_body_positions: &mut [u16],
 )
-    requires bounded { Bounded (length constraint_colors.now) ends.bounds.now ends.endpoints.now × Gapless (length constraint_colors.now) ends.bounds.now ends.endpoints.now × (length constraint_body_positions.old ≡ length ends.endpoints.now) }
+    requires counted { length constraint_colors.now ≡ ends.count }
+    requires arranged { Arranged (length constraint_colors.now) ends.bounds.now ends.endpoints.now constraint_body_positions.old }
     requires locatable { Locatable body_count (parts_at (length constraint_colors.now) ends.bounds.now ends.endpoints.now) constraint_colors.now color_count colored_constraints.offsets.now colored_constraints.table.now color_bodies.offsets.now color_bodies.table.now places.old }
     ensures { constraint_body_positions.new ≡ flatten (positions body_count (parts_at (length constraint_colors.now) ends.entry.bounds.now ends.entry.endpoints.now) constraint_colors.now) (length constraint_colors.now) }
 {
     // The members of the groups below `color` have their positions.
     for color in 0..color_count {
-        let members = colored_constraints.group(color);
+        let numbers = colored_constraints.group(color);
+        let members = Members { ends, numbers };
         let bodies = color_bodies.group(color);
-        locate_members(ends, members, bodies, places, constraint_body_positions);
+        locate_members(members, bodies, places, constraint_body_positions);
     }
 }

@@ -9,7 +9,7 @@ use Rattle.frame.proofs.Questions.{passed}
 use Rattle.frame.proofs.Counted.{known-many}
 use Rattle.groups.specs.Groups.{counted_parts}
 use Rattle.parts.specs.Steps.{BoundsOf}
-use Rattle.parts.proofs.Bounds.{parts-counted, counted_bounded, counted_gapless}
+use Rattle.parts.proofs.Bounds.{parts-counted, counted_gapless}
 use Rattle.plan_questions.specs.Plans.{Tables, roomy_with}
 use Rattle.plan_questions.proofs.Rooms.{Fitted, wanted_with, fitted_with}
 use Rattle.constraint_coloring.specs.Stages.{Buildable}
@@ -62,7 +62,6 @@ module _ {flags ends counts : List ℕ} {t : Tables} {c : List ℕ} (o : Accepte
       record {
         few_bodies = o.few_bodies;
         few = o.few;
-        bounded = counted_bounded b l ends (omega (arith, o.whole));
         gapless = counted_gapless b l ends o.whole;
         sound = rw (parts-counted b l ends) o.sound;
         dynamic_bodies = w.0;

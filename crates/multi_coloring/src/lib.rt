@@ -15,8 +15,9 @@ ghost use Rattle.multi_coloring.specs.Counts.{count_read, counts_read, positions
 ghost use Rattle.multi_coloring.specs.Calls.{fresh_multi, multi_holds, MultiUpdated, MultiLocated};
 
 use constraint_coloring::{ConstraintColoring, Update};
-use frame::{Frame, Refusal};
-use plan_questions::{PlanTables, ask};
+use frame::{Frame, Refusal, ask};
+use parts::Ends;
+use plan_questions::PlanTables;
 
 // A plan with counts: what it carries by value are the numbers of a plan. The rest stands in the tables that its caller lends.
 #[derive(Clone, Copy, Debug, PartialEq, Eq)]
@@ -123,7 +124,7 @@ fn build_counted(
     color_bodies: &mut [u16],
     constraint_body_positions: &mut [u16],
 ) -> ConstraintColoring
-    requires bounds { (2 * length counts.now ≤ length body_constraints.old) × (length counts.now ≤ 8192) × (end_count counts.now ≤ 32768) }
+    requires bounds { (2 * length counts.now ≤ length body_constraints.old) × (length counts.now ≤ 8192) × (end_count counts.now ≤ 32768) × (end_count counts.now ≡ length ends.now) }
     requires buildable { (bounds : List ℕ) → BoundsOf counts.now bounds → length bounds ≡ 2 * length counts.now → Buildable flags.now ends.now bounds (length counts.now)
         (tables_of dynamic_bodies.old endpoints.old [] [] scratch_offsets.old
         constraint_colors.old [] body_stamps.old color_offsets.old
@@ -138,11 +139,14 @@ fn build_counted(
 {
     let bounds = &mut body_constraints[..2 * counts.len()];
     parts::bound_counts(counts, bounds);
+    let ends = Ends {
+        endpoints: ends,
+        bounds,
+        count: counts.len(),
+    };
     constraint_coloring::build_plan(
         flags,
         ends,
-        bounds,
-        counts.len(),
         dynamic_bodies,
         endpoints,
         scratch_offsets,
@@ -179,11 +183,9 @@ impl MultiColoring {
         requires { length counts_in.now ≤ length counts.now }
         ensures { result ≡ multi_holds self (tables_in tables.now) counts.now flags.now ends.now counts_in.now }
     {
-        (flags.len() == self.plan.body_count)
-            && (counts_in.len() == self.plan.constraint_count)
-            && tables.dynamic_bodies.starts_with(flags)
+        let plan = self.plan;
+        tables.hold(plan.body_count, plan.constraint_count, flags, counts_in.len(), ends)
             && same_counts(counts_in, &counts[..counts_in.len()])
-            && tables.endpoints.starts_with(ends)
     }
 
     // Questions 3 to 7; then equal input is "unchanged" and writes nothing, and other input is remembered and its plan built.

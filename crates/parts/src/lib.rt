@@ -2,9 +2,9 @@
 // read both here, so that they need not know how many endpoints a constraint has.
 #![tactic(auto)]
 
-ghost use Rattle.std.specs.Prelude.{◌+◌, ◌*◌, ◌≤◌, ◌<◌, ◌≡◌, length};
-ghost use Rattle.lists.specs.Basics.{sum_of};
-ghost use Rattle.parts.specs.Parts.{cut, Cut, Present, part_at};
+ghost use Rattle.std.specs.Prelude.{◌+◌, ◌*◌, ◌≤◌, ◌<◌, ◌≡◌, true, ltb, length};
+ghost use Rattle.lists.specs.Basics.{all, sum_of};
+ghost use Rattle.parts.specs.Parts.{cut, Cut, Present, Bounded, part_at};
 ghost use Rattle.parts.specs.Steps.{start_at, Ordered, widest, BoundsOf};
 
 // The part of a table from the bound at place `from` up to that at place `to`.
@@ -12,23 +12,25 @@ pub fn between<'a>(table: &'a [u16], bounds: &[u16], from: usize, to: usize) -> 
     requires { Cut table.now bounds.now from to }
     ensures { result.now ≡ cut table.now bounds.now from to }
 {
-    let start = bounds[from] as usize;
-    let end = bounds[to] as usize;
+    let start = usize::from(bounds[from]);
+    let end = usize::from(bounds[to]);
     &table[start..end]
 }
 
-// The endpoints of all constraints one after another, and the bounds between which each has its own; without bounds they are pairs.
+// The endpoints of so many constraints one after another, and the bounds between which each has its own; without bounds they are pairs.
 #[derive(Clone, Copy)]
 pub struct Ends<'a> {
     pub endpoints: &'a [u16],
     pub bounds: &'a [u16],
+    pub count: usize,
+    ghost bounded: { Bounded count bounds.now endpoints.now },
 }
 
 impl<'a> Ends<'a> {
     // The endpoints of a constraint.
     #[inline(always)]
     pub fn part(self, constraint: usize) -> &'a [u16]
-        requires { Present self.endpoints.now self.bounds.now constraint }
+        requires { constraint < self.count }
         ensures { result.now ≡ part_at self.entry.bounds.now self.entry.endpoints.now constraint }
     {
         part(self.endpoints, self.bounds, constraint)
@@ -37,14 +39,22 @@ impl<'a> Ends<'a> {
     // Where the endpoints of a constraint start; its positions start there too.
     #[inline(always)]
     pub fn start(self, constraint: usize) -> usize
-        requires { (constraint ≤ 32767) × ((length self.bounds.now ≡ 0 → ⊥) → 2 * constraint < length self.bounds.now) }
+        requires { constraint < self.count }
         ensures { result ≡ start_at self.entry.bounds.now constraint }
     {
         if self.bounds.len() == 0 {
             return 2 * constraint;
         }
-        self.bounds[2 * constraint] as usize
+        usize::from(self.bounds[2 * constraint])
     }
+}
+
+// Constraints of the list by their numbers, as those of a group.
+#[derive(Clone, Copy)]
+pub struct Members<'a> {
+    pub ends: Ends<'a>,
+    pub numbers: &'a [u16],
+    ghost inside: { all (λ r. ltb r ends.count) numbers.now ≡ true },
 }
 
 // The part of a constraint in a table that is read by these bounds: a pair if there are none, else what stands between its two.
@@ -86,7 +96,7 @@ pub fn largest_part(bounds: &[u16]) -> usize
     for pair in bounds.windows(2) {
         largest = largest.max(pair[1] - pair[0]);
     }
-    largest as usize
+    usize::from(largest)
 }
 
 // The bounds of constraints with these counts: each starts where the one before it ends.
@@ -98,7 +108,7 @@ pub fn bound_counts(counts: &[u8], bounds: &mut [u16])
     // The constraints passed have their bounds, and `end` is how many endpoints they have.
     for (constraint, &count) in counts.iter().enumerate() {
         bounds[2 * constraint] = end;
-        end += count as u16;
+        end += u16::from(count);
         bounds[2 * constraint + 1] = end;
     }
 }

@@ -1,8 +1,7 @@
 -- The tables as a call lends them, and their lengths.
-use Rattle.std.specs.Prelude.{ℕ, ◌+◌, ◌≡◌, Bool, ◌&&◌, leb, length}
+use Rattle.std.specs.Prelude.{ℕ, ◌≡◌, length}
 use Rattle.plan_questions.specs.Plans.{Tables}
 use Rattle.plan_questions.specs.declared.PlanTables.{PlanTables}
-use Rattle.plan_questions.specs.declared.PlanLengths.{PlanLengths}
 
 -- what stands in the lent tables
 abbrev pub tables_in : PlanTables → Tables
@@ -38,7 +37,22 @@ pub record SameTables (old new : PlanTables) : Type 0 where
   pub color_bodies : new.color_bodies.ghost_name ≡ old.color_bodies.ghost_name
   pub constraint_body_positions : new.constraint_body_positions.ghost_name ≡ old.constraint_body_positions.ghost_name
 
--- their lengths, and question 6 of lengths
+-- how long they are
+pub record PlanLengths : Type 0 where
+  pub dynamic_bodies : ℕ
+  pub endpoints : ℕ
+  pub body_offsets : ℕ
+  pub body_constraints : ℕ
+  pub scratch_offsets : ℕ
+  pub constraint_colors : ℕ
+  pub color_stamps : ℕ
+  pub body_stamps : ℕ
+  pub color_offsets : ℕ
+  pub colored_constraints : ℕ
+  pub color_body_offsets : ℕ
+  pub color_bodies : ℕ
+  pub constraint_body_positions : ℕ
+
 abbrev pub lengths_of : Tables → PlanLengths
 lengths_of t = record {
   dynamic_bodies = length t.dynamic_bodies;
@@ -55,11 +69,3 @@ lengths_of t = record {
   color_bodies = length t.color_bodies;
   constraint_body_positions = length t.constraint_body_positions;
 }
-
-abbrev pub room_in : ℕ → ℕ → ℕ → PlanLengths → Bool
-room_in b c e l =
-    leb b l.dynamic_bodies && leb e l.endpoints && leb (b + 1) l.body_offsets
-    && leb e l.body_constraints && leb b l.scratch_offsets && leb c l.scratch_offsets
-    && leb c l.constraint_colors && leb c l.color_stamps && leb b l.body_stamps
-    && leb (c + 1) l.color_offsets && leb c l.colored_constraints && leb (c + 1) l.color_body_offsets
-    && leb e l.color_bodies && leb e l.constraint_body_positions

@@ -1,12 +1,12 @@
 -- One member more has the color, and its bodies, which are those of its part, are idle too.
-use Rattle.std.proofs.Common.{ℕ, ◌+◌, ◌<◌, ◌≡◌, refl, sym, ◌∙◌, true, List, [], arith, ltb, eqb, length, get_or, set, take, get_or-set_same, get_or-set_other, eqb-true, ltb-true}
+use Rattle.std.proofs.Common.{ℕ, ◌+◌, ◌<◌, ◌≡◌, refl, sym, ◌∙◌, true, List, [], arith, ltb, eqb, length, get_or, set, take, get_or-set_same, get_or-set_other, eqb-true}
 use Rattle.std.proofs.Math.Bool.{or-true, or-false}
 use Rattle.std.proofs.lemmas.Bool.{eqb-false}
 use Rattle.lists.specs.Basics.{all, mem}
-use Rattle.lists.proofs.Laws.{by_cases, all_in, all-get_or, get_or-mem, cond-or}
+use Rattle.lists.proofs.Laws.{by_cases, all-get_or, cond-or}
 use Rattle.lists.proofs.Scans.{any_next}
 use Rattle.parts.specs.Parts.{parts_at}
-use Rattle.parts.proofs.Parts.{parts-at}
+use Rattle.parts.proofs.Parts.{parts-at, member_low}
 use Rattle.coloring.specs.Coloring.{touched}
 use Rattle.coloring.specs.Steps.{MadeIdle, Closed}
 use Rattle.coloring.proofs.close_color.Goals as goal
@@ -24,15 +24,11 @@ more cs k ms colors₀ busy₀ colors busy i l s size v bs busy' e w =
       idle = λ b h. w b (omega (arith, size)) ∙ rw (e, v.idle b h, any_next (λ r. mem b (get_or cs r [])) ms i l) (cond-or (touched cs (take i ms) b) (mem b (get_or cs next [])) 0 (get_or busy₀ b 0));
     }
 
--- the member that is read is a constraint
-low : (n : ℕ) (ms : List ℕ) (i : ℕ) → i < length ms → all (λ r. ltb r n) ms ≡ true → get_or ms i 0 < n
-low n ms i l h = ltb-true (get_or ms i 0) n (all_in (λ r. ltb r n) (get_or ms i 0) ms (get_or-mem ms i l) h)
-
 -- its part is its bodies
 bodies_are : (c : After-part) → c.part.result.now ≡ get_or (parts_at (length c.args.constraint_colors.now) c.args.ends.bounds.now c.args.ends.endpoints.now) (get_or c.args.members.now c.loop-member.member-index 0) []
 bodies_are c =
     let n = length c.args.constraint_colors.now in
-    c.part.ensures ∙ sym (parts-at n c.args.ends.bounds.now c.args.ends.endpoints.now (get_or c.args.members.now c.loop-member.member-index 0) (low n c.args.members.now c.loop-member.member-index (omega arith) c.requires.closable.inside))
+    (rw c.from-constraint.ensures at c.part.ensures) ∙ sym (parts-at n c.args.ends.bounds.now c.args.ends.endpoints.now (get_or c.args.members.now c.loop-member.member-index 0) (member_low n c.args.members.now c.loop-member.member-index (omega arith) c.requires.closable.inside))
 
 pub make_idle-requires : goal.make_idle-requires
 make_idle-requires c =
@@ -49,5 +45,5 @@ loop-member-preserved c =
     let n = length c.args.constraint_colors.now in
     let ms = c.args.members.now in
     let size : length l.constraint_colors ≡ n = l.auto.constraint_colors in
-    more (parts_at n c.args.ends.bounds.now c.args.ends.endpoints.now) c.args.color ms c.args.constraint_colors.now c.args.busy_bodies.now l.constraint_colors l.busy_bodies l.member-index (omega arith)
-    (omega (arith, low n ms l.member-index (omega arith) c.requires.closable.inside, size)) l.auto.busy_bodies l.invariant c.part.result.now c.make_idle.new.busy_bodies (bodies_are (goal.at.loop-member-preserved c).After-part) c.make_idle.ensures
+    rw c.from-constraint.ensures (more (parts_at n c.args.ends.bounds.now c.args.ends.endpoints.now) c.args.color ms c.args.constraint_colors.now c.args.busy_bodies.now l.constraint_colors l.busy_bodies l.member-index (omega arith)
+    (omega (arith, member_low n ms l.member-index (omega arith) c.requires.closable.inside, size)) l.auto.busy_bodies l.invariant c.part.result.now c.make_idle.new.busy_bodies (bodies_are (goal.at.loop-member-preserved c).After-part) c.make_idle.ensures)

@@ -42,4 +42,4 @@ loop-body-preserved c =
     let body = get_or bodies l.body-index 0 in
     let low : body < length flags = ltb-true body (length flags) (all_in (λ b. ltb b (length flags)) body bodies (get_or-mem bodies l.body-index (omega arith)) c.requires.busy_bodies_len.1) in
     let size : length l.busy_bodies ≡ length c.args.busy_bodies.now = l.auto.busy_bodies in
-    rw (byte_one (flagged flags body)) (more flags bodies c.args.busy_bodies.now l.busy_bodies c.args.fits l.body-index (omega arith) c.requires.fits_bound.0 c.requires.fits_bound.1 size l.invariant (omega (arith, low, size, c.requires.busy_bodies_len.0)))
+    rw (c.from-dynamic.ensures, c.from-place.ensures, byte_one (flagged flags body)) (more flags bodies c.args.busy_bodies.now l.busy_bodies c.args.fits l.body-index (omega arith) c.requires.fits_bound.0 c.requires.fits_bound.1 size l.invariant (omega (arith, low, size, c.requires.busy_bodies_len.0)))

@@ -38,10 +38,10 @@ module _ {flags : List ℕ} (bounds es : List ℕ) {k start count : ℕ} {remain
   bit j busy m b = bit_next busies bs j busy m b (bits o v (get_or bs j 0) (body_in j m))
 
 pub part-bodies-requires : goal.part-bodies-requires
-part-bodies-requires c = c.requires.bounded (get_or c.walk.remaining c.walk.passed 0) (next_in c.requires.opened c.walk.invariant (omega arith))
+part-bodies-requires c = omega (arith, c.from.ensures, c.requires.counted, next_in c.requires.opened c.walk.invariant (omega arith))
 
-pub bounds-busy_bodies-body : goal.bounds-busy_bodies-body
-bounds-busy_bodies-body c = omega (arith, body_in c.args.ends.bounds.now c.args.ends.endpoints.now c.requires.opened c.walk.invariant (omega arith) c.part-bodies.result.now c.part-bodies.ensures c.bodies.body-index (omega arith), c.walk.invariant.busy_length)
+pub bounds-busy_bodies-from : goal.bounds-busy_bodies-from
+bounds-busy_bodies-from c = omega (arith, body_in c.args.ends.bounds.now c.args.ends.endpoints.now c.requires.opened c.walk.invariant (omega arith) c.part-bodies.result.now (rw c.from.ensures at c.part-bodies.ensures) c.bodies.body-index (omega arith), c.walk.invariant.busy_length)
 
 pub walk-preserved-then-predicted-busy : goal.walk-preserved-then-predicted-busy
 walk-preserved-then-predicted-busy c =
@@ -51,17 +51,17 @@ walk-preserved-then-predicted-busy c =
     let p = c.walk.invariant in
     let l : c.walk.passed < c.args.count = omega arith in
     let b = barred c.walk.busy_bodies (take (c.bodies.body-index + 1) bs) in
-    let hit : b ≡ true = sym (one-true b) ∙ ap (λ (x : ℕ). eqb x 1) (sym (bit c.args.ends.bounds.now c.args.ends.endpoints.now o p l bs c.part-bodies.ensures c.bodies.body-index c.bodies.busy (omega arith) v.2)) ∙ and_right (leb 8 c.args.color) _ c.if-predicted-busy.true in
-    rw (v.0, v.1) (walk_left o p l bs (bodies_are c.args.ends.bounds.now c.args.ends.endpoints.now o p l bs c.part-bodies.ensures) (any-first (λ b. eqb (get_or c.walk.busy_bodies b 0) 1) (c.bodies.body-index + 1) bs hit) refl refl refl (λ b m. refl))
+    let hit : b ≡ true = sym (one-true b) ∙ ap (λ (x : ℕ). eqb x 1) (sym (bit c.args.ends.bounds.now c.args.ends.endpoints.now o p l bs (rw c.from.ensures at c.part-bodies.ensures) c.bodies.body-index c.bodies.busy (omega arith) v.2)) ∙ (rw c.from-in-bodies.ensures at (and_right (leb 8 c.args.color) _ c.if-predicted-busy.true)) in
+    rw (v.0, v.1) (walk_left o p l bs (bodies_are c.args.ends.bounds.now c.args.ends.endpoints.now o p l bs (rw c.from.ensures at c.part-bodies.ensures)) (any-first (λ b. eqb (get_or c.walk.busy_bodies b 0) 1) (c.bodies.body-index + 1) bs hit) refl refl refl (λ b m. refl))
 
 pub bodies-preserved : goal.bodies-preserved
 bodies-preserved c =
     let v = c.bodies.invariant in
-    (v.0, v.1, bit c.args.ends.bounds.now c.args.ends.endpoints.now c.requires.opened c.walk.invariant (omega arith) c.part-bodies.result.now c.part-bodies.ensures c.bodies.body-index c.bodies.busy (omega arith) v.2)
+    (v.0, v.1, rw c.from-in-bodies.ensures (bit c.args.ends.bounds.now c.args.ends.endpoints.now c.requires.opened c.walk.invariant (omega arith) c.part-bodies.result.now (rw c.from.ensures at c.part-bodies.ensures) c.bodies.body-index c.bodies.busy (omega arith) v.2))
 
 pub make_busy-requires-clause-busy_bodies_len : goal.make_busy-requires-clause-busy_bodies_len
 make_busy-requires-clause-busy_bodies_len c =
-    (c.walk.invariant.busy_length, bodies_in_lem c.args.ends.bounds.now c.args.ends.endpoints.now c.requires.opened c.walk.invariant (omega arith) c.part-bodies.result.now c.part-bodies.ensures)
+    (c.walk.invariant.busy_length, bodies_in_lem c.args.ends.bounds.now c.args.ends.endpoints.now c.requires.opened c.walk.invariant (omega arith) c.part-bodies.result.now (rw c.from.ensures at c.part-bodies.ensures))
 
 pub walk-preserved : goal.walk-preserved
 walk-preserved c =
@@ -71,7 +71,7 @@ walk-preserved c =
     let p = c.walk.invariant in
     let l : c.walk.passed < c.args.count = omega arith in
     let whole = rw (take_all c.bodies.body-index bs (omega arith)) at v.2 in
-    rw (v.0, v.1) (walk_passed o p l bs c.bodies.busy (1 - c.bodies.busy) (bodies_are c.args.ends.bounds.now c.args.ends.endpoints.now o p l bs c.part-bodies.ensures) whole refl c.make_busy.auto.busy_bodies c.make_busy.ensures)
+    rw (v.0, v.1, c.from-left.ensures, c.from-end.ensures) (walk_passed o p l bs c.bodies.busy (1 - c.bodies.busy) (bodies_are c.args.ends.bounds.now c.args.ends.endpoints.now o p l bs (rw c.from.ensures at c.part-bodies.ensures)) whole refl c.make_busy.auto.busy_bodies c.make_busy.ensures)
 
 pub returns : goal.returns
 returns c = walk_ends c.requires.opened c.walk.invariant (omega arith) (omega arith)

@@ -22,11 +22,11 @@ color_constraints-color_count-requires-clause-ready c =
 
 -- ---- the colors
 module _ (p : After-color_constraints-color_count) where
-  o : Buildable p.args.flags.now p.args.ends.now p.args.bounds.now p.args.constraint_count (tables_of p.args.dynamic_bodies.now p.args.endpoints.now [] [] p.args.scratch_offsets.now p.args.constraint_colors.now [] p.args.body_stamps.now p.args.color_offsets.now p.args.colored_constraints.now p.args.color_body_offsets.now p.args.color_bodies.now p.args.constraint_body_positions.now)
+  o : Buildable p.args.flags.now p.args.ends.endpoints.now p.args.ends.bounds.now p.args.ends.count (tables_of p.args.dynamic_bodies.now p.args.endpoints.now [] [] p.args.scratch_offsets.now p.args.constraint_colors.now [] p.args.body_stamps.now p.args.color_offsets.now p.args.colored_constraints.now p.args.color_body_offsets.now p.args.color_bodies.now p.args.constraint_body_positions.now)
   o = p.requires
 
   abbrev n : ℕ
-  n = p.args.constraint_count
+  n = p.args.ends.count
 
   abbrev count : ℕ
   count = p.color_constraints-color_count.result
@@ -44,7 +44,7 @@ module _ (p : After-color_constraints-color_count) where
   abbrev stamps_table : List ℕ
   stamps_table = p.color_constraints-color_count.new.busy_bodies ++ drop (length p.args.flags.now) p.args.body_stamps.now
 
-  colored : Colored p.args.flags.now (parts_at n p.args.bounds.now p.args.ends.now) (take (n + 1) p.args.color_offsets.now) p.color_constraints-color_count.new.constraint_colors p.color_constraints-color_count.new.color_offsets p.color_constraints-color_count.new.colored_constraints p.color_constraints-color_count.new.busy_bodies count
+  colored : Colored p.args.flags.now (parts_at n p.args.ends.bounds.now p.args.ends.endpoints.now) (take (n + 1) p.args.color_offsets.now) p.color_constraints-color_count.new.constraint_colors p.color_constraints-color_count.new.color_offsets p.color_constraints-color_count.new.colored_constraints p.color_constraints-color_count.new.busy_bodies count
   colored = rw (length-take-le n p.args.constraint_colors.now o.constraint_colors) at p.color_constraints-color_count.ensures
 
   few : count ≤ n
@@ -84,29 +84,33 @@ module _ (p : After-color_constraints-color_count) where
   stamps_are = take_at _ _ (length p.args.flags.now) (p.color_constraints-color_count.auto.busy_bodies ∙ length-take-le _ _ o.body_stamps)
 
 -- ---- what is lent for the listing
+pub overflow_add-constraints : goal.overflow_add-constraints
+overflow_add-constraints c = let p = (goal.at.overflow_add-constraints c).After-color_constraints-color_count in omega (arith, few p, (o p).few)
+
+pub slice_bounds-constraints-end-3 : goal.slice_bounds-constraints-end-3
+slice_bounds-constraints-end-3 c = starts-room (goal.at.slice_bounds-constraints-end-3 c).After-color_constraints-color_count
+
+pub slice_bounds-constraints-end-4 : goal.slice_bounds-constraints-end-4
+slice_bounds-constraints-end-4 c = sym (length-take-le _ _ (starts-room (goal.at.slice_bounds-constraints-end-4 c).After-color_constraints-color_count))
+
 pub overflow_add-color_count : goal.overflow_add-color_count
 overflow_add-color_count c = let p = (goal.at.overflow_add-color_count c).After-color_constraints-color_count in omega (arith, few p, (o p).few)
 
-pub slice_bounds-list_groups-end-3 : goal.slice_bounds-list_groups-end-3
-slice_bounds-list_groups-end-3 c = starts-room (goal.at.slice_bounds-list_groups-end-3 c).After-color_constraints-color_count
+pub slice_bounds-list_groups-end-5 : goal.slice_bounds-list_groups-end-5
+slice_bounds-list_groups-end-5 c = let p = (goal.at.slice_bounds-list_groups-end-5 c).After-color_constraints-color_count in omega (arith, few p, (o p).color_body_offsets)
 
-pub slice_bounds-list_groups-end-4 : goal.slice_bounds-list_groups-end-4
-slice_bounds-list_groups-end-4 c = sym (length-take-le _ _ (starts-room (goal.at.slice_bounds-list_groups-end-4 c).After-color_constraints-color_count))
+pub slice_bounds-list_groups-end-6 : goal.slice_bounds-list_groups-end-6
+slice_bounds-list_groups-end-6 c = let p = (goal.at.slice_bounds-list_groups-end-6 c).After-color_constraints-color_count in sym (length-take-le _ _ (omega (arith, few p, (o p).color_body_offsets)))
 
-pub overflow_add-color_count-2 : goal.overflow_add-color_count-2
-overflow_add-color_count-2 c = let p = (goal.at.overflow_add-color_count-2 c).After-color_constraints-color_count in omega (arith, few p, (o p).few)
+pub list_groups-requires-clause-counted : goal.list_groups-requires-clause-counted
+list_groups-requires-clause-counted c =
+    let p = (goal.at.list_groups-requires-clause-counted c).After-color_constraints-color_count in
+    length-take-le (n p) (colors_table p) (colors-room p)
 
-pub slice_bounds-list_groups-end-9 : goal.slice_bounds-list_groups-end-9
-slice_bounds-list_groups-end-9 c = let p = (goal.at.slice_bounds-list_groups-end-9 c).After-color_constraints-color_count in omega (arith, few p, (o p).color_body_offsets)
-
-pub slice_bounds-list_groups-end-10 : goal.slice_bounds-list_groups-end-10
-slice_bounds-list_groups-end-10 c = let p = (goal.at.slice_bounds-list_groups-end-10 c).After-color_constraints-color_count in sym (length-take-le _ _ (omega (arith, few p, (o p).color_body_offsets)))
-
-pub list_groups-requires-clause-bounded : goal.list_groups-requires-clause-bounded
-list_groups-requires-clause-bounded c =
-    let p = (goal.at.list_groups-requires-clause-bounded c).After-color_constraints-color_count in
-    let q = o p in
-    rw (length-take-le (n p) (colors_table p) (colors-room p)) (q.bounded, q.gapless, length-take-le _ _ q.constraint_body_positions)
+pub list_groups-requires-clause-arranged : goal.list_groups-requires-clause-arranged
+list_groups-requires-clause-arranged c =
+    let p = (goal.at.list_groups-requires-clause-arranged c).After-color_constraints-color_count in
+    rw (length-take-le (n p) (colors_table p) (colors-room p)) (record { gapless = (o p).gapless; room = length-take-le _ _ (o p).constraint_body_positions })
 
 pub list_groups-requires-clause-gatherable : goal.list_groups-requires-clause-gatherable
 list_groups-requires-clause-gatherable c =
@@ -116,15 +120,6 @@ list_groups-requires-clause-gatherable c =
     (omega (arith, p.color_constraints-color_count.auto.remaining, (o p).scratch_bodies)) (length-take-le _ _ (omega (arith, few p, (o p).color_body_offsets))) (length-take-le _ _ (o p).color_bodies)
 
 -- ---- the largest group
-pub overflow_add-color_count-3 : goal.overflow_add-color_count-3
-overflow_add-color_count-3 c = let p = (goal.at.overflow_add-color_count-3 c).After-color_constraints-color_count in omega (arith, few p, (o p).few)
-
-pub slice_bounds-largest_part-end : goal.slice_bounds-largest_part-end
-slice_bounds-largest_part-end c = starts-room (goal.at.slice_bounds-largest_part-end c).After-color_constraints-color_count
-
-pub slice_bounds-largest_part-end-2 : goal.slice_bounds-largest_part-end-2
-slice_bounds-largest_part-end-2 c = sym (length-take-le _ _ (starts-room (goal.at.slice_bounds-largest_part-end-2 c).After-color_constraints-color_count))
-
 pub largest_part-largest-requires : goal.largest_part-largest-requires
 largest_part-largest-requires c =
     let p = (goal.at.largest_part-largest-requires c).After-color_constraints-color_count in
@@ -151,7 +146,7 @@ returns c =
         color_offsets = written_new _ _ _ (rw (starts_planned (o p) k q.count_is) (part-over _ (offsets (members (promised (o p))) k) c.args.color_offsets.now (n p + 1) q.starts_are c.color_constraints-color_count.auto.color_offsets));
         colored_constraints = written_new _ _ _ (front_over _ _ _ _ (q.members_are ∙ sym (constraints_planned (o p) k q.count_is)) c.color_constraints-color_count.auto.colored_constraints (o p).colored_constraints);
         color_body_offsets = written_new _ _ _ (front_over _ _ c.args.color_body_offsets.now (k + 1) (body-starts_planned (o p) s q.count_is c.list_groups.ensures) c.list_groups.auto.color_body_offsets (omega (arith, few p, (o p).color_body_offsets)));
-        color_bodies = written_new _ _ _ (part-over _ (plan_from c.args.flags.now (parts_at (n p) c.args.bounds.now c.args.ends.now)).color_bodies c.args.color_bodies.now (length c.args.ends.now) (bodies_planned (o p) s q.count_is c.list_groups.ensures) c.list_groups.auto.color_bodies);
+        color_bodies = written_new _ _ _ (part-over _ (plan_from c.args.flags.now (parts_at (n p) c.args.ends.bounds.now c.args.ends.endpoints.now)).color_bodies c.args.color_bodies.now (length c.args.ends.endpoints.now) (bodies_planned (o p) s q.count_is c.list_groups.ensures) c.list_groups.auto.color_bodies);
         constraint_body_positions = written_new _ _ _ (front_over _ _ _ _ (positions_planned (o p) s q.count_is c.list_groups.ensures) c.list_groups.auto.constraint_body_positions (o p).constraint_body_positions);
       };
     }

@@ -7,4 +7,4 @@ loop-at-init c = collecting_none _ _ _
 
 pub loop-at-preserved : goal.loop-at-preserved
 loop-at-preserved c =
-    collecting_more c.args.stamp c.args.body_stamps.now c.args.part.now c.loop-at.part c.loop-at.body c.loop-at.at c.loop-at.invariant c.requires.1 (omega arith)
+    rw c.from-at.ensures (collecting_more c.args.stamp c.args.body_stamps.now c.args.part.now c.loop-at.part c.loop-at.body c.loop-at.at c.loop-at.invariant c.requires.1 (omega arith))

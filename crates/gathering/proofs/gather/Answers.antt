@@ -1,4 +1,5 @@
-use Rattle.std.proofs.Common.{arith}
+use Rattle.std.proofs.Common.{arith, ltb, length, lt-ltb}
+use Rattle.lists.proofs.Laws.{all_intro}
 use Rattle.parts.specs.Parts.{part_at}
 use Rattle.parts.proofs.Parts.{parts-length, parts-at}
 use Rattle.gathering.proofs.Groups.{gathering_none, members-cut, part_below, group_fresh, end_small, gathering_more}
@@ -7,21 +8,25 @@ use Rattle.gathering.proofs.gather.Goals as goal
 pub loop-color-init : goal.loop-color-init
 loop-color-init c = gathering_none c.requires.gatherable
 
-pub group-members-requires : goal.group-members-requires
-group-members-requires c = members-cut c.requires.gatherable c.loop-color.color (omega arith)
+pub group-numbers-requires : goal.group-numbers-requires
+group-numbers-requires c = members-cut c.requires.gatherable c.loop-color.color (omega arith)
 
-pub list_bodies-end-requires-clause-all_present : goal.list_bodies-end-requires-clause-all_present
-list_bodies-end-requires-clause-all_present c =
+-- the members are constraints of the list
+pub invariant_of-members : goal.invariant_of-members
+invariant_of-members c =
     let bounds = c.args.ends.bounds.now in
     let endpoints = c.args.ends.endpoints.now in
-    rw c.group-members.ensures
-    (λ r h. c.requires.bounded r (part_below c.requires.gatherable (part_at bounds endpoints) (parts-length _ bounds endpoints) (parts-at _ bounds endpoints) c.loop-color.color (omega arith) r h))
+    record {
+      inside = rw (c.group-numbers.ensures, ← c.requires.counted)
+          (all_intro (λ r. ltb r (length c.args.constraint_colors.now)) _
+          (λ r m. lt-ltb r _ (part_below c.requires.gatherable (part_at bounds endpoints) (parts-length _ bounds endpoints) (parts-at _ bounds endpoints) c.loop-color.color (omega arith) r m)));
+    }
 
 pub list_bodies-end-requires-clause-fresh : goal.list_bodies-end-requires-clause-fresh
 list_bodies-end-requires-clause-fresh c =
     let bounds = c.args.ends.bounds.now in
     let endpoints = c.args.ends.endpoints.now in
-    rw c.group-members.ensures
+    rw c.group-numbers.ensures
     (group_fresh c.requires.gatherable (part_at bounds endpoints) (parts-length _ bounds endpoints) (parts-at _ bounds endpoints) c.loop-color.color (omega arith) c.loop-color.invariant)
 
 pub overflow_cast-color_body_offsets : goal.overflow_cast-color_body_offsets
@@ -38,7 +43,7 @@ overflow_cast-color_body_offsets c =
           c.loop-color.color
           (omega arith)
           c.loop-color.invariant
-          (rw c.group-members.ensures at c.list_bodies-end.ensures)
+          (rw c.group-numbers.ensures at c.list_bodies-end.ensures)
           c.list_bodies-end.auto.body_stamps,
     )
 
@@ -54,7 +59,7 @@ loop-color-preserved c =
     c.loop-color.color
     (omega arith)
     c.loop-color.invariant
-    (rw c.group-members.ensures at c.list_bodies-end.ensures)
+    (rw c.group-numbers.ensures at c.list_bodies-end.ensures)
     c.list_bodies-end.auto.body_stamps
     c.list_bodies-end.auto.scratch_offsets
     c.list_bodies-end.auto.color_bodies

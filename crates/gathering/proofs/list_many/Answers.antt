@@ -20,6 +20,6 @@ pub returns : goal.returns
 returns c =
     part_listed
     c.requires.fresh
-    (counted-add {bs = join_map (part_at c.args.ends.bounds.now c.args.ends.endpoints.now) c.args.members.now} c.args.start c.stamp_members-count.ensures)
+    (counted-add {bs = join_map (part_at c.args.members.ends.bounds.now c.args.members.ends.endpoints.now) c.args.members.numbers.now} c.args.start c.stamp_members-count.ensures)
     _
     c.collect.ensures

@@ -9,12 +9,12 @@ loop-member-init c = noted_none _ _ _ _
 
 pub note_part-end-requires : goal.note_part-end-requires
 note_part-end-requires c =
-    rw c.part-bodies.ensures
-    (notable_next c.loop-member.invariant (next-part (part_at c.args.ends.bounds.now c.args.ends.endpoints.now) c.args.members.now c.loop-member.member-index (omega arith)) c.requires.notable)
+    rw (c.part-bodies.ensures, c.from.ensures)
+    (notable_next c.loop-member.invariant (next-part (part_at c.args.members.ends.bounds.now c.args.members.ends.endpoints.now) c.args.members.numbers.now c.loop-member.member-index (omega arith)) c.requires.notable)
 
 pub loop-member-preserved : goal.loop-member-preserved
 loop-member-preserved c =
     noted_next
     c.loop-member.invariant
-    (next-part (part_at c.args.ends.bounds.now c.args.ends.endpoints.now) c.args.members.now c.loop-member.member-index (omega arith))
-    (rw c.part-bodies.ensures at c.note_part-end.ensures)
+    (next-part (part_at c.args.members.ends.bounds.now c.args.members.ends.endpoints.now) c.args.members.numbers.now c.loop-member.member-index (omega arith))
+    (rw (c.part-bodies.ensures, c.from.ensures) at c.note_part-end.ensures)

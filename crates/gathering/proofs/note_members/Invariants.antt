@@ -6,4 +6,4 @@ use Rattle.gathering.specs.Gathers.{Noted}
 use Rattle.gathering.proofs.note_members.Given as goal
 
 abbrev pub invariant-loop-member : goal.invariant-loop-member
-invariant-loop-member l = Noted l.stamp (join_map (part_at l.ends.bounds.now l.ends.endpoints.now) (take l.member-index l.members)) l.start l.initial.body_stamps l.initial.color_bodies l.body_stamps l.color_bodies l.end
+invariant-loop-member l = Noted l.stamp (join_map (part_at l.members.ends.bounds.now l.members.ends.endpoints.now) (take l.member-index l.members.numbers.now)) l.start l.initial.body_stamps l.initial.color_bodies l.body_stamps l.color_bodies l.end

@@ -9,8 +9,8 @@ loop-member-init c = counted_none _ _ 0
 
 pub stamp_part-count-requires : goal.stamp_part-count-requires
 stamp_part-count-requires c =
-    rw c.part-bodies.ensures
-    (stampable_next c.loop-member.invariant (next-part (part_at c.args.ends.bounds.now c.args.ends.endpoints.now) c.args.members.now c.loop-member.member-index (omega arith)) c.requires.stampable)
+    rw (c.part-bodies.ensures, c.from.ensures)
+    (stampable_next c.loop-member.invariant (next-part (part_at c.args.members.ends.bounds.now c.args.members.ends.endpoints.now) c.args.members.numbers.now c.loop-member.member-index (omega arith)) c.requires.stampable)
 
 pub overflow_add-count : goal.overflow_add-count
 overflow_add-count c =
@@ -18,14 +18,14 @@ overflow_add-count c =
       arith,
       counted-fits
           c.requires.stampable
-          (next-part (part_at c.args.ends.bounds.now c.args.ends.endpoints.now) c.args.members.now c.loop-member.member-index (omega arith))
+          (next-part (part_at c.args.members.ends.bounds.now c.args.members.ends.endpoints.now) c.args.members.numbers.now c.loop-member.member-index (omega arith))
           c.loop-member.invariant
-          (rw c.part-bodies.ensures at c.stamp_part-count.ensures),
+          (rw (c.part-bodies.ensures, c.from.ensures) at c.stamp_part-count.ensures),
     )
 
 pub loop-member-preserved : goal.loop-member-preserved
 loop-member-preserved c =
     counted_next
     c.loop-member.invariant
-    (next-part (part_at c.args.ends.bounds.now c.args.ends.endpoints.now) c.args.members.now c.loop-member.member-index (omega arith))
-    (counted-add c.loop-member.count (rw c.part-bodies.ensures at c.stamp_part-count.ensures))
+    (next-part (part_at c.args.members.ends.bounds.now c.args.members.ends.endpoints.now) c.args.members.numbers.now c.loop-member.member-index (omega arith))
+    (counted-add c.loop-member.count (rw (c.part-bodies.ensures, c.from.ensures) at c.stamp_part-count.ensures))

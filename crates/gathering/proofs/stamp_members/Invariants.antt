@@ -6,4 +6,4 @@ use Rattle.gathering.specs.Gathers.{Counted}
 use Rattle.gathering.proofs.stamp_members.Given as goal
 
 abbrev pub invariant-loop-member : goal.invariant-loop-member
-invariant-loop-member l = Counted l.stamp (join_map (part_at l.ends.bounds.now l.ends.endpoints.now) (take l.member-index l.members)) 0 l.initial.body_stamps l.body_stamps l.count
+invariant-loop-member l = Counted l.stamp (join_map (part_at l.members.ends.bounds.now l.members.ends.endpoints.now) (take l.member-index l.members.numbers.now)) 0 l.initial.body_stamps l.body_stamps l.count

@@ -2,36 +2,35 @@
 use Rattle.std.proofs.Common.{◌<◌, arith, length}
 use Rattle.lists.specs.Basics.{mem}
 use Rattle.locating.specs.Locates.{PlacesKnown}
-use Rattle.locating.proofs.Locates.{locating_done, member_start, member_all, end_inside, places-many, locating_more}
+use Rattle.locating.proofs.Locates.{locating_done, member_all, end_inside, places-many, locating_more}
 use Rattle.locating.proofs.Places.{known_listed, known-few}
 use Rattle.locating.proofs.locate_members.Goals as goal
 use Rattle.locating.proofs.locate_members.Goals.{then-bodies-gt-FEW, else-bodies-gt-FEW}
 
-pub start-start-requires : goal.start-start-requires
-start-start-requires c = member_start c.requires.arranged c.loop-member.member-index (omega arith)
-
 pub slice_bounds-locate_part-end : goal.slice_bounds-locate_part-end
-slice_bounds-locate_part-end c = end_inside c.requires.arranged c.loop-member.member-index (omega arith) c.loop-member.invariant c.part-part.ensures c.start-start.ensures
+slice_bounds-locate_part-end c = end_inside c.args.members.ends.bounded c.requires.arranged c.args.members.numbers.now c.args.members.inside c.loop-member.member-index (omega arith) c.loop-member.invariant (rw c.from-constraint.ensures at c.part-part.ensures) (rw c.from-constraint.ensures at c.start-start.ensures)
 
 pub locate_part-requires : goal.locate_part-requires
 locate_part-requires c =
+    let e = c.args.members.ends.bounded in
     let w = c.requires.arranged in
+    let b = c.args.members.inside in
     let f = c.requires.findable.0 in
-    let h : c.loop-member.member-index < length c.args.members.now = omega arith in
+    let h : c.loop-member.member-index < length c.args.members.numbers.now = omega arith in
     let known : PlacesKnown c.args.bodies.now c.if-bodies-gt-FEW.places = elim c.if-bodies-gt-FEW.branch [
-      | then-bodies-gt-FEW b ↦ known_listed c.args.places.now c.requires.findable.1 b.list_places.auto.places b.list_places.ensures b.places-is
-      | else-bodies-gt-FEW b ↦ known-few c.args.places.now c.requires.findable.1 b.if-bodies-gt-FEW.false b.places-is
+      | then-bodies-gt-FEW y ↦ known_listed c.args.places.now c.requires.findable.1 y.list_places.auto.places y.list_places.ensures y.places-is
+      | else-bodies-gt-FEW y ↦ known-few c.args.places.now c.requires.findable.1 y.if-bodies-gt-FEW.false y.places-is
     ] in (
-      places-many w c.loop-member.member-index h c.loop-member.invariant c.part-part.ensures c.start-start.ensures,
-      record { few = f.few; rising = f.rising; there = member_all w c.loop-member.member-index h (λ b. mem b c.args.bodies.now) _ c.part-part.ensures f.there },
+      places-many e w c.args.members.numbers.now b c.loop-member.member-index h c.loop-member.invariant (rw c.from-constraint.ensures at c.part-part.ensures) (rw c.from-constraint.ensures at c.start-start.ensures),
+      record { few = f.few; rising = f.rising; there = member_all e w c.args.members.numbers.now b c.loop-member.member-index h (λ b. mem b c.args.bodies.now) _ (rw c.from-constraint.ensures at c.part-part.ensures) f.there },
       known,
     )
 
 pub loop-member-preserved : goal.loop-member-preserved
-loop-member-preserved c = locating_more c.requires.arranged c.loop-member.member-index (omega arith) c.loop-member.invariant c.part-part.ensures c.start-start.ensures _ c.locate_part.ensures
+loop-member-preserved c = locating_more c.args.members.ends.bounded c.requires.arranged c.args.members.numbers.now c.args.members.inside c.loop-member.member-index (omega arith) c.loop-member.invariant (rw c.from-constraint.ensures at c.part-part.ensures) (rw c.from-constraint.ensures at c.start-start.ensures) _ c.locate_part.ensures
 
 pub returns : goal.returns
 returns c = locating_done c.loop-member.invariant (omega arith)
 
 pub offset_bounds-constraint_body_positions-start : goal.offset_bounds-constraint_body_positions-start
-offset_bounds-constraint_body_positions-start c = omega (arith, end_inside c.requires.arranged c.loop-member.member-index (omega arith) c.loop-member.invariant c.part-part.ensures c.start-start.ensures)
+offset_bounds-constraint_body_positions-start c = omega (arith, end_inside c.args.members.ends.bounded c.requires.arranged c.args.members.numbers.now c.args.members.inside c.loop-member.member-index (omega arith) c.loop-member.invariant (rw c.from-constraint.ensures at c.part-part.ensures) (rw c.from-constraint.ensures at c.start-start.ensures))

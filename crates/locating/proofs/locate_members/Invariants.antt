@@ -4,4 +4,4 @@ use Rattle.locating.proofs.Locates.{Locating}
 use Rattle.locating.proofs.locate_members.Given as goal
 
 abbrev pub invariant-loop-member : goal.invariant-loop-member
-invariant-loop-member l = Locating l.ends.bounds.now l.ends.endpoints.now l.members l.bodies l.initial.constraint_body_positions l.constraint_body_positions l.member-index
+invariant-loop-member l = Locating l.members.ends.count l.members.ends.bounds.now l.members.ends.endpoints.now l.members.numbers.now l.bodies l.initial.constraint_body_positions l.constraint_body_positions l.member-index

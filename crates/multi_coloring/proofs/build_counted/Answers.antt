@@ -1,6 +1,6 @@
 -- `build_counted`: the bounds of the counts have room, and a plan can be built by them; the parts by these bounds are the constraints by counts.
-use Rattle.std.proofs.Common.{◌*◌, ◌≡◌, ◌∙◌, length, length-take-le}
-use Rattle.parts.proofs.Bounds.{parts-counted}
+use Rattle.std.proofs.Common.{◌*◌, ◌≡◌, ◌∙◌, arith, length, length-take-le}
+use Rattle.parts.proofs.Bounds.{parts-counted, counted_bounded}
 use Rattle.multi_coloring.proofs.Updates.{built_counts}
 use Rattle.multi_coloring.proofs.build_counted.Goals as goal
 use Rattle.multi_coloring.proofs.build_counted.Goals.{After-bound_counts}
@@ -10,6 +10,10 @@ bounds_long p = p.bound_counts.auto.bounds ∙ length-take-le _ _ p.requires.bou
 
 pub bound_counts-requires : goal.bound_counts-requires
 bound_counts-requires c = (length-take-le _ _ c.requires.bounds.0, c.requires.bounds.1, c.requires.bounds.2)
+
+pub invariant_of-ends : goal.invariant_of-ends
+invariant_of-ends c =
+    record { bounded = counted_bounded c.bound_counts.ensures (bounds_long (goal.at.invariant_of-ends c).After-bound_counts) c.args.ends.now (omega (arith, c.requires.bounds.3)) }
 
 pub build_plan-requires : goal.build_plan-requires
 build_plan-requires c = c.requires.buildable _ c.bound_counts.ensures (bounds_long (goal.at.build_plan-requires c).After-bound_counts)

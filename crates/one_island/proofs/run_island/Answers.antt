@@ -1,6 +1,6 @@
 -- `run_island`: the plan as it stands makes the definition's takes, and these are appended group by group; the tables keep their lengths.
 use Rattle.std.proofs.Common.{ap, arith}
-use Rattle.plan_questions.specs.declared.PlanLengths.{PlanLengths}
+use Rattle.plan_questions.specs.Lent.{PlanLengths}
 use Rattle.one_island.proofs.Plans.{ready-counted}
 use Rattle.one_island.proofs.run_island.Goals as goal
 

@@ -1,5 +1,5 @@
 -- One constraint more: its count is added to the endpoints before it, which all together fit 16 bits.
-use Rattle.std.proofs.Common.{◌+◌, ◌≡◌, arith, length, get_or}
+use Rattle.std.proofs.Common.{◌+◌, ◌≡◌, arith, length}
 use Rattle.parts.specs.Steps.{ends_before}
 use Rattle.parts.proofs.Bounds.{ends_more, ends_up, ends-all, bounds_more}
 use Rattle.parts.proofs.bound_counts.Goals as goal
@@ -13,6 +13,6 @@ overflow_add-end c =
 pub loop-constraint-preserved : goal.loop-constraint-preserved
 loop-constraint-preserved c =
     let v = c.loop-constraint.invariant in
-    let e : c.loop-constraint.end + get_or c.args.counts.now c.loop-constraint.constraint 0 ≡ ends_before c.args.counts.now (c.loop-constraint.constraint + 1) =
-    omega (arith, v.0, ends_more c.args.counts.now c.loop-constraint.constraint (omega arith)) in
+    let e : c.loop-constraint.end + c.from-end.result ≡ ends_before c.args.counts.now (c.loop-constraint.constraint + 1) =
+    omega (arith, v.0, c.from-end.ensures, ends_more c.args.counts.now c.loop-constraint.constraint (omega arith)) in
     (e, bounds_more c.args.counts.now c.loop-constraint.bounds c.loop-constraint.constraint c.loop-constraint.end _ (omega arith) v.0 e v.1)

@@ -45,4 +45,4 @@ loop-pair-preserved c =
     (w.3 0 0 (omega (arith, v.two))) (w.3 1 0 (omega (arith, v.two))))
 
 pub returns : goal.returns
-returns c = passed_done c.loop-pair.invariant c.in-None.ensures.steps.1.0
+returns c = c.from.ensures ∙ passed_done c.loop-pair.invariant c.in-None.ensures.steps.1.0

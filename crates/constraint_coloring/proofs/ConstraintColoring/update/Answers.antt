@@ -1,7 +1,7 @@
 -- `update`: the questions' answer is the definition's, and so is the test for equal input; each of the three answers then meets the
 -- contract.
-use Rattle.std.proofs.Common.{◌≡◌, refl, sym, ap, ◌∙◌, Bool}
-use Rattle.parts.proofs.Parts.{parts_pairs}
+use Rattle.std.proofs.Common.{◌≡◌, refl, sym, ap, ◌∙◌, Bool, arith}
+use Rattle.parts.proofs.Parts.{parts_pairs, pairs_bounded}
 use Rattle.plan_questions.specs.Plans.{update_refusal}
 use Rattle.plan_questions.specs.Lent.{tables_in}
 use Rattle.constraint_coloring.specs.Calls.{holds, refusal_with}
@@ -25,6 +25,11 @@ unfolding holds
 returns-then-hold-clause-updated c =
     let q = (goal.at.returns-then-hold-clause-updated c).After-has_room_for_pairs-room in
     unchanged _ _ _ (tables_in c.args.tables.now) (sym (c.in-Ok.ensures ∙ asked q)) (sym c.hold.ensures ∙ c.if-hold.true)
+
+pub invariant_of-ends : goal.invariant_of-ends
+invariant_of-ends c =
+    let q = (goal.at.invariant_of-ends c).After-has_room_for_pairs-room in
+    record { bounded = pairs_bounded _ _ (omega (arith, (accepted _ _ (tables_in c.args.tables.now) (sym (c.in-Ok.ensures ∙ asked q))).even)) }
 
 pub build_plan-requires : goal.build_plan-requires
 build_plan-requires c =

@@ -39,7 +39,7 @@ pub build_counted-plan-requires : goal.build_counted-plan-requires
 build_counted-plan-requires c =
     let q = (goal.at.build_counted-plan-requires c).After-has_room_for in
     let o = accepted _ _ _ (tables_in c.args.tables.now) _ (sym (c.in-Ok.ensures ∙ asked q)) in
-    record { bounds = (bounds_room o, o.few, few-ends o); buildable = buildable o }
+    record { bounds = (bounds_room o, o.few, few-ends o, o.whole); buildable = buildable o }
 
 pub returns-clause-updated : goal.returns-clause-updated
 returns-clause-updated c =
