@@ -1,5 +1,5 @@
 -- Answers as numbers: plans, positions, and the bodies that a take hands.
-use Rattle.std.specs.Prelude.{ℕ, Result, Ok, Err, List, [], ◌∷◌, map, get_or}
+use Rattle.std.specs.Prelude.{ℕ, false, Result, Ok, Err, List, [], ◌∷◌, map, get_or}
 use Rattle.std.specs.List.{range_with_len}
 use Rattle.std.specs.Borrow.{Bor}
 use Rattle.lists.specs.Basics.{one}
@@ -43,5 +43,5 @@ multi_plan_numbers p = plan_numbers p.plan
 abbrev pub taken_numbers : Result TakenAt Refusal → List ℕ
 taken_numbers (Err r) = 0 ∷ 0 ∷ 0 ∷ 0 ∷ 0 ∷ 0 ∷ 0 ∷ 0 ∷ []
 taken_numbers (Ok t) =
-    get_or t.bodies 0 0 ∷ get_or t.dynamic 0 0 ∷ get_or t.bodies 1 0 ∷ get_or t.dynamic 1 0
-    ∷ get_or t.bodies 2 0 ∷ get_or t.dynamic 2 0 ∷ get_or t.bodies 3 0 ∷ get_or t.dynamic 3 0 ∷ []
+    get_or t.bodies 0 0 ∷ one (get_or t.dynamic 0 false) ∷ get_or t.bodies 1 0 ∷ one (get_or t.dynamic 1 false)
+    ∷ get_or t.bodies 2 0 ∷ one (get_or t.dynamic 2 false) ∷ get_or t.bodies 3 0 ∷ one (get_or t.dynamic 3 false) ∷ []

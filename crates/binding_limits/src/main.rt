@@ -96,7 +96,7 @@ fn print_taken(rt: &impl Print, taken: SeveralTaken) -> io::Result<()> {
         let bodies = taken.bodies;
         let dynamic = taken.dynamic;
         for (body, dynamic) in bodies.iter().zip(&dynamic).take(taken.count) {
-            print!(rt; " {body} {dynamic}")?;
+            print!(rt; " {body} {}", u8::from(*dynamic))?;
         }
     }
     println!(rt; "")

@@ -207,7 +207,7 @@ pub take_by_marks : (b : BodyBinding) (x y : ℕ) (r : Result Marked Refusal) (l
 take_by_marks = marks_are_takes
 
 -- The same of two to four positions.
-pub counted_take_by_marks : (b : BodyBinding) (ps : List ℕ) (r : Result (List ℕ) Refusal) (left : List ℕ) → MarksAt b ps r left → ByValueAt b ps r left
+pub counted_take_by_marks : (b : BodyBinding) (ps : List ℕ) (r : Result (List Bool) Refusal) (left : List ℕ) → MarksAt b ps r left → ByValueAt b ps r left
 counted_take_by_marks = counted_marks_are_takes
 
 -- So a group's takes add the same from a binding and from its marks and count alone.

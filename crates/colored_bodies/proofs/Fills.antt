@@ -12,18 +12,18 @@ use Rattle.colored_bodies.specs.declared.BodyBinding.{BodyBinding}
 use Rattle.colored_bodies.proofs.Rises.{rises_from, rises_is, rises-room, rises_under}
 
 -- one more element before the padding
-pub pad_to : (n : ℕ) (p : List ℕ) (i v : ℕ) → length p ≡ i → i < n → set (p ++ replicate (n - length p) 0) i v ≡ p ++ (v ∷ []) ++ replicate (n - length (p ++ (v ∷ []))) 0
-pad_to n p i v e h =
+pub pad_to : {T : Type 0} (none : T) (n : ℕ) (p : List T) (i : ℕ) (v : T) → length p ≡ i → i < n → set (p ++ replicate (n - length p) none) i v ≡ p ++ (v ∷ []) ++ replicate (n - length (p ++ (v ∷ []))) none
+pad_to none n p i v e h =
     let less : n - length p ≡ suc (n - (length p + 1)) = omega arith in
     let same : n - (length p + 1) ≡ n - length (p ++ (v ∷ [])) = omega (arith, length-append p (v ∷ [])) in
-    ap (λ (k : ℕ). set (p ++ replicate k 0) i v) less
-    ∙ set_at p 0 (replicate (n - (length p + 1)) 0) v i e
-    ∙ sym (append_snoc p v (replicate (n - (length p + 1)) 0))
-    ∙ ap (λ (k : ℕ). p ++ (v ∷ []) ++ replicate k 0) same
+    ap (λ (k : ℕ). set (p ++ replicate k none) i v) less
+    ∙ set_at p none (replicate (n - (length p + 1)) none) v i e
+    ∙ sym (append_snoc p v (replicate (n - (length p + 1)) none))
+    ∙ ap (λ (k : ℕ). p ++ (v ∷ []) ++ replicate k none) same
 
 pad_step : (p : List ℕ) (i v : ℕ) → length p ≡ i → i < 4096 → set (padded p) i v ≡ padded (p ++ (v ∷ []))
 unfolding padded
-pad_step p i v e h = pad_to 4096 p i v e h
+pad_step p i v e h = pad_to 0 4096 p i v e h
 
 pub taken_more : (l : List ℕ) (i : ℕ) → i < length l → take (i + 1) l ≡ take i l ++ (get_or l i 0 ∷ [])
 taken_more l i h = rw (add-one, take-suc l i 0)

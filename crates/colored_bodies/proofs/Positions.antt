@@ -1,19 +1,19 @@
 -- Takes of two to four positions. Positions that pass questions 5 and 9 are at most four places; in rising order they are still places,
 -- and the take of each in turn is a clause of `refusal_from` and `marks_from`. The flags are read before anything is taken.
-use Rattle.std.proofs.Common.{ℕ, ◌+◌, ◌≤◌, ◌<◌, ◌≡◌, refl, sym, ap, ◌∙◌, Bool, true, false, ◌&&◌, cond, Result, Ok, Err, List, [], ◌∷◌, ◌++◌, map, arith, add-one, leb, ltb, eqb, length, get_or, set, take, drop, replicate, drop_of_length-le, drop-cons, length-take-le, take_at, ltb-true, le-leb, leb-true, eq-eqb, ne_eqb}
+use Rattle.std.proofs.Common.{ℕ, zero, suc, ◌+◌, ◌-◌, ◌≤◌, ◌<◌, ◌≡◌, refl, sym, ap, ◌∙◌, Bool, true, false, ◌&&◌, cond, Result, Ok, Err, List, [], ◌∷◌, ◌++◌, map, arith, add-one, leb, ltb, eqb, length, length-append, get_or, set, take, drop, replicate, drop_of_length-le, drop-cons, length-take-le, take_at, ltb-true, le-leb, leb-true, eq-eqb, ne_eqb}
 use mathlib.Core.List.{map-append, map-map}
-use Rattle.std.proofs.Math.ListN.{length-map}
-use mir.Val.{bool_byte}
+use Rattle.std.proofs.Math.ListN.{length-map, length-replicate}
 use Rattle.std.proofs.lemmas.Bool.{lt-leb}
 use Rattle.std.proofs.lemmas.Bool.Decides.{nat_tests}
 use Rattle.lists.specs.Basics.{all, one, distinct, sorted, four}
-use Rattle.lists.proofs.Bits.{byte_one}
 use Rattle.lists.proofs.Laws.{and_right, all_weaken, all_in, all_intro, all-get_or}
 use Rattle.frame.specs.Frames.{counted}
 use Rattle.frame.proofs.Questions.{passed, zero-cond}
 use Rattle.colored_bodies.specs.Bindings.{placed, ask_refusal, spend, refusal_from, marks_from, take_refusal, take_marks, handed_at, take_of}
 use Rattle.colored_bodies.specs.Answers.{Handable, MarksAt, TakesAt, with_bodies_at}
+use Rattle.colored_bodies.specs.Lent.{entries_at}
 use Rattle.colored_bodies.specs.declared.BodyBinding.{BodyBinding}
+use Rattle.colored_bodies.specs.declared.multi.TakenAt.{TakenAt}
 use Rattle.ordering.proofs.Sorting.{length-sorted}
 use Rattle.colored_bodies.proofs.Fills.{pad_to, taken_more}
 use Rattle.colored_bodies.proofs.Takes.{mem-sorted}
@@ -89,22 +89,67 @@ module _ (marks ps : List ℕ) (i : ℕ) where
 abbrev pub flag_at : List ℕ → ℕ → ℕ
 flag_at marks p = one (eqb (get_or marks p 0) 1)
 
--- one more of four places is filled
-pub four_next : (g : ℕ → ℕ) (ps : List ℕ) (i v : ℕ) → i < length ps → i < 4 → v ≡ g (get_or ps i 0) → set (four (map g (take i ps))) i v ≡ four (map g (take (i + 1) ps))
-unfolding four
-four_next g ps i v h few e =
-    let done = map g (take i ps) in
-    pad_to 4 done i v (length-map (take i ps) g ∙ length-take-le i ps (omega arith)) few
-    ∙ ap (λ (w : ℕ). four (done ++ (w ∷ []))) e
-    ∙ ap four (sym (map-append g (take i ps) (get_or ps i 0 ∷ [])) ∙ ap (map g) (sym (taken_more ps i h)))
+-- four places filled from the front, and then `none`
+module _ {T : Type 0} (none : T) (table : List T) where
+  abbrev entry : ℕ → T
+  entry p = get_or table p none
 
-pub flags_next : (marks ps : List ℕ) (i : ℕ) → i < length ps → length ps ≤ 4
-    → set (four (map (flag_at marks) (take i ps))) i (bool_byte (eqb (get_or marks (get_or ps i 0) 0) 1)) ≡ four (map (flag_at marks) (take (i + 1) ps))
-flags_next marks ps i h few = four_next (flag_at marks) ps i _ h (omega arith) (byte_one (eqb (get_or marks (get_or ps i 0) 0) 1))
+  entries_padded : (ps : List ℕ) → entries_at none table ps ≡ map entry ps ++ replicate (4 - length (map entry ps)) none
+  entries_padded ps = ap (λ (k : ℕ). map entry ps ++ replicate (4 - k) none) (sym (length-map ps entry))
 
-pub four_none : replicate 4 0 ≡ four []
+  -- one more is filled
+  pub entries_next : (ps : List ℕ) (i : ℕ) → i < length ps → length ps ≤ 4 → set (entries_at none table (take i ps)) i (entry (get_or ps i 0)) ≡ entries_at none table (take (i + 1) ps)
+  entries_next ps i h few =
+      let done = map entry (take i ps) in
+      ap (λ (l : List T). set l i (entry (get_or ps i 0))) (entries_padded (take i ps))
+      ∙ pad_to none 4 done i (entry (get_or ps i 0)) (length-map (take i ps) entry ∙ length-take-le i ps (omega arith)) (omega arith)
+      ∙ ap (λ (l : List T). l ++ replicate (4 - length l) none) (sym (map-append entry (take i ps) (get_or ps i 0 ∷ [])) ∙ ap (map entry) (sym (taken_more ps i h)))
+      ∙ sym (entries_padded (take (i + 1) ps))
+
+pub entries_four : (table ps : List ℕ) → entries_at 0 table ps ≡ four (map (λ p. get_or table p 0) ps)
 unfolding four
-four_none = refl
+entries_four table ps = entries_padded 0 table ps
+
+-- four marks, and the flags that they make
+abbrev held : ℕ → ℕ
+held mark = one (eqb mark 1)
+
+abbrev pub four_held : List ℕ → List Bool
+four_held ms = eqb (get_or ms 0 0) 1 ∷ eqb (get_or ms 1 0) 1 ∷ eqb (get_or ms 2 0) 1 ∷ eqb (get_or ms 3 0) 1 ∷ []
+
+held_each : (ms : List ℕ) → length ms ≡ 4 → map one (four_held ms) ≡ map held ms
+held_each (a ∷ b ∷ c ∷ d ∷ []) h = refl
+held_each [] h = absurd (omega arith)
+held_each (a ∷ []) h = absurd (omega arith)
+held_each (a ∷ b ∷ []) h = absurd (omega arith)
+held_each (a ∷ b ∷ c ∷ []) h = absurd (omega arith)
+held_each (a ∷ b ∷ c ∷ d ∷ e ∷ ms) h = absurd (omega arith)
+
+held_none : (n : ℕ) → map held (replicate n 0) ≡ replicate n 0
+held_none zero = refl
+held_none (suc n) = ap (λ (l : List ℕ). 0 ∷ l) (held_none n)
+
+held_four : (marks ps : List ℕ) → map held (four (map (λ p. get_or marks p 0) ps)) ≡ four (map (flag_at marks) ps)
+unfolding four
+held_four marks ps =
+    let entries = map (λ (p : ℕ). get_or marks p 0) ps in
+    let both : map held entries ≡ map (flag_at marks) ps = map-map held (λ (p : ℕ). get_or marks p 0) ps in
+    let n : length entries ≡ length (map (flag_at marks) ps) = length-map ps (λ (p : ℕ). get_or marks p 0) ∙ sym (length-map ps (flag_at marks)) in
+    map-append held entries (replicate (4 - length entries) 0)
+    ∙ ap (λ (l : List ℕ). map held entries ++ l) (held_none (4 - length entries))
+    ∙ ap (λ (l : List ℕ). l ++ replicate (4 - length entries) 0) both
+    ∙ ap (λ (k : ℕ). map (flag_at marks) ps ++ replicate (4 - k) 0) n
+
+length_entries : {T : Type 0} (none : T) (table : List T) (ps : List ℕ) → length ps ≤ 4 → length (entries_at none table ps) ≡ 4
+length_entries {T = T} none table ps h =
+    let entry : ℕ → T = λ p. get_or table p none in
+    omega (arith, length-append (map entry ps) (replicate (4 - length ps) none), length-map ps entry, length-replicate (4 - length ps) none)
+
+pub dynamic_four : (marks ps ms : List ℕ) → length ps ≤ 4 → ms ≡ entries_at 0 marks ps → map one (four_held ms) ≡ four (map (flag_at marks) ps)
+dynamic_four marks ps ms h e =
+    held_each ms (ap length e ∙ length_entries 0 marks ps h)
+    ∙ ap (map held) (e ∙ entries_four marks ps)
+    ∙ held_four marks ps
 
 pub handable : (ps : List ℕ) (count : ℕ) → 0 ≡ ask_refusal count ps → Handable ps
 handable ps count e =
@@ -135,14 +180,14 @@ module _ (bodies marks ps : List ℕ) (count : ℕ) where
     unfolding take_of four
     at_gone r e = record { refusal = e ∙ number; dynamic = rw (ne_eqb (take_refusal binding ps) 0 (λ z. numbered r (e ∙ number ∙ z))); marks = after }
 
-    pub at_taken : (flags : List ℕ) → 0 ≡ n → flags ≡ four (map (flag_at marks) ps) → MarksAt binding ps (Ok flags) left
+    pub at_taken : (flags : List Bool) → 0 ≡ n → map one flags ≡ four (map (flag_at marks) ps) → MarksAt binding ps (Ok flags) left
     unfolding take_of
     at_taken flags z e = record { refusal = z ∙ number; dynamic = e ∙ rw (eq-eqb (take_refusal binding ps) 0 (sym (z ∙ number))) (ap four (sym (map-map (λ h. one h.dynamic) (handed_at binding) ps))); marks = after }
 
 -- ---- from a take of marks to the whole take
 module _ (b : BodyBinding) (ps left : List ℕ) where
   -- a take that is not refused passed questions 5 and 9
-  pub taken_handable : (flags : List ℕ) → MarksAt b ps (Ok flags) left → Handable ps
+  pub taken_handable : (flags : List Bool) → MarksAt b ps (Ok flags) left → Handable ps
   unfolding take_of take_refusal
   taken_handable flags k = handable ps b.count (sym (zero-cond (ask_refusal b.count ps) _ (sym k.refusal)).0)
 
@@ -158,7 +203,7 @@ module _ (b : BodyBinding) (ps left : List ℕ) where
         after = ap (λ (l : List ℕ). record { bodies = b.bodies; marks = l; count = b.count }) k.marks;
       }
 
-  pub takes_taken : (flags bs : List ℕ) → MarksAt b ps (Ok flags) left → bs ≡ four (map (λ p. get_or b.bodies p 0) ps)
+  pub takes_taken : (flags : List Bool) (bs : List ℕ) → MarksAt b ps (Ok flags) left → bs ≡ four (map (λ p. get_or b.bodies p 0) ps)
       → TakesAt b ps (Ok (record { count = length ps; bodies = bs; dynamic = flags })) (record { bodies = b.bodies; marks = left; count = b.count })
   unfolding take_of
   takes_taken flags bs k f =
@@ -172,6 +217,11 @@ module _ (b : BodyBinding) (ps left : List ℕ) where
       }
 
 -- the whole take that a take of marks becomes once the bodies at its positions are read
-pub takes_at : (b : BodyBinding) (ps : List ℕ) (m : Result (List ℕ) Refusal) (left : List ℕ) → MarksAt b ps m left → TakesAt b ps (with_bodies_at b.bodies ps m) (record { bodies = b.bodies; marks = left; count = b.count })
+pub takes_at : (b : BodyBinding) (ps : List ℕ) (m : Result (List Bool) Refusal) (left : List ℕ) → MarksAt b ps m left → TakesAt b ps (with_bodies_at b.bodies ps m) (record { bodies = b.bodies; marks = left; count = b.count })
 takes_at b ps (Ok flags) left k = takes_taken b ps left flags _ k refl
 takes_at b ps (Err r) left k = takes_refused b ps left r k
+
+-- the marks that it leaves, in other words
+pub takes_at_leaving : {b : BodyBinding} {ps : List ℕ} {t : Result TakenAt Refusal} {left left' : List ℕ} → TakesAt b ps t (record { bodies = b.bodies; marks = left; count = b.count }) → left' ≡ left
+    → TakesAt b ps t (record { bodies = b.bodies; marks = left'; count = b.count })
+takes_at_leaving h e = rw e h

@@ -53,8 +53,8 @@ abbrev pub flags_of : List Handed → List ℕ
 flags_of hs = four (map (λ h. one h.dynamic) hs)
 
 -- the flags of a take of marks, none where it is refused
-abbrev pub marked_flags : Result (List ℕ) Refusal → List ℕ
-marked_flags (Ok flags) = flags
+abbrev pub marked_flags : Result (List Bool) Refusal → List ℕ
+marked_flags (Ok dynamic) = map one dynamic
 marked_flags (Err r) = four []
 
 -- how many bodies a take hands, their numbers and their flags; none where it is refused
@@ -67,12 +67,12 @@ taken_bodies (Ok t) = t.bodies
 taken_bodies (Err r) = four []
 
 abbrev pub taken_dynamic : Result TakenAt Refusal → List ℕ
-taken_dynamic (Ok t) = t.dynamic
+taken_dynamic (Ok t) = map one t.dynamic
 taken_dynamic (Err r) = four []
 
 -- the take that a take of marks becomes once the bodies at its positions are read
-abbrev pub with_bodies_at : List ℕ → List ℕ → Result (List ℕ) Refusal → Result TakenAt Refusal
-with_bodies_at bodies ps (Ok flags) = Ok (record { count = length ps; bodies = four (map (λ p. get_or bodies p 0) ps); dynamic = flags })
+abbrev pub with_bodies_at : List ℕ → List ℕ → Result (List Bool) Refusal → Result TakenAt Refusal
+with_bodies_at bodies ps (Ok dynamic) = Ok (record { count = length ps; bodies = four (map (λ p. get_or bodies p 0) ps); dynamic = dynamic })
 with_bodies_at bodies ps (Err r) = Err r
 
 -- the positions are at most four, and places
@@ -81,7 +81,7 @@ pub record Handable (positions : List ℕ) : Type 0 where
   pub within : (i : ℕ) → i < length positions → get_or positions i 0 < 4096
 
 -- a take of marks: its refusal or 0, the flags, and the marks that it leaves
-pub record MarksAt (b : BodyBinding) (ps : List ℕ) (r : Result (List ℕ) Refusal) (left : List ℕ) : Type 0 where
+pub record MarksAt (b : BodyBinding) (ps : List ℕ) (r : Result (List Bool) Refusal) (left : List ℕ) : Type 0 where
   pub refusal : refused_by r ≡ (take_of b ps).refusal
   pub dynamic : marked_flags r ≡ flags_of (take_of b ps).handed
   pub marks : left ≡ (take_of b ps).after.marks

@@ -1,2 +1,3 @@
 pub mod Bindings
 pub mod Answers
+pub mod Lent

@@ -9,8 +9,9 @@
 ghost use Rattle.std.specs.Prelude.{◌≡◌, ◌&&◌, cond, List, [], ◌∷◌, map, ℕ, ◌<◌, ◌≤◌, eqb, length, replicate};
 ghost use Rattle.lists.specs.Basics.{rises};
 ghost use Rattle.frame.specs.Refusals.{refused_by};
-ghost use Rattle.colored_bodies.specs.Bindings.{last_below, bind_refusal, Known, mark_of, padded, bind_of, placed, spend, refusal_from, marks_from};
+ghost use Rattle.colored_bodies.specs.Bindings.{last_below, bind_refusal, Known, mark_of, padded, placed, spend, refusal_from, marks_from};
 ghost use Rattle.colored_bodies.specs.Answers.{Fillable, Binds, Takes, Marks};
+ghost use Rattle.colored_bodies.specs.Lent.{binding_with, BoundBy, SameMarks};
 
 use frame::{Frame, Refusal, ask};
 
@@ -28,6 +29,13 @@ pub const TAKEN: u8 = 2;
 pub struct BodyBinding {
     pub bodies: [u16; Frame::MAX_BODIES],
     pub marks: [u8; Frame::MAX_BODIES],
+    pub count: usize,
+}
+
+// A binding without its bodies, as takes of marks read it: the marks that are lent, and the count.
+#[derive(Drop)]
+pub struct BoundMarks<'a> {
+    pub marks: &'a mut [u8; Frame::MAX_BODIES],
     pub count: usize,
 }
 
@@ -68,10 +76,11 @@ fn rises_below(indices: &[u16], n: usize) -> bool
     let mut low: usize = 0;
     // `low` is the least that the next entry may be: one more than the entry before.
     for &x in indices {
-        if (x as usize) < low {
+        let entry = usize::from(x);
+        if entry < low {
             return false;
         }
-        low = x as usize + 1;
+        low = entry + 1;
     }
     low <= n
 }
@@ -118,20 +127,21 @@ fn mark_bodies(types: &[u8], indices: &[u16], marks: &mut [u8; Frame::MAX_BODIES
 {
     // The first i places have their bodies' marks, the others 0.
     for (i, &x) in indices.iter().enumerate() {
-        marks[i] = frame::flag_of(types[x as usize]);
+        marks[i] = frame::flag_of(types[usize::from(x)]);
     }
 }
 
-// All that a bind of known types does to marks, whatever stood in the table, with no copy. No entry: the run's loop over groups calls
-// it. Answers the binding's count.
-pub fn bind_marks(types: &[u8], indices: &[u16], marks: &mut [u8; Frame::MAX_BODIES]) -> usize
-    requires { Known types.now }
-    ensures { (result ≡ (bind_of types.now indices.now).count) × (marks.new ≡ (bind_of types.now indices.now).marks) }
-{
-    let bodies = listed(known_refusal(types, indices), indices);
-    *marks = [READ_ONLY; Frame::MAX_BODIES];
-    mark_bodies(types, bodies, marks);
-    bodies.len()
+impl BoundMarks<'_> {
+    // All that a bind of known types does to marks, whatever stood in the table, with no copy. No entry: the run's loop over groups calls it.
+    pub fn bind(&mut self, types: &[u8], indices: &[u16])
+        requires { Known types.now }
+        ensures { BoundBy types.now indices.now self.old self.new }
+    {
+        let bodies = listed(known_refusal(types, indices), indices);
+        *self.marks = [READ_ONLY; Frame::MAX_BODIES];
+        mark_bodies(types, bodies, self.marks);
+        self.count = bodies.len();
+    }
 }
 
 impl BodyBinding {
@@ -189,26 +199,24 @@ fn take_both(marks: &mut [u8; Frame::MAX_BODIES], low: usize, high: usize) -> Re
     Ok(())
 }
 
-// All that a take does to the marks, with no copy: what a loop over a local binding calls. Its promise holds whatever bodies
-// stand beside the marks.
-pub fn take_marks(
-    marks: &mut [u8; Frame::MAX_BODIES],
-    count: usize,
-    a: usize,
-    b: usize,
-) -> Result<Marked, Refusal>
-    ensures { (bodies : List ℕ) → Marks (record { bodies = bodies; marks = marks.old; count = count }) (a ∷ b ∷ []) result marks.new }
-{
-    if !placed_in(count, a, b) {
-        return Err(Refusal::Positions);
+impl BoundMarks<'_> {
+    // All that a take does to the marks, with no copy: what a loop over a local binding calls. Its promise holds whatever bodies stand
+    // beside the marks.
+    pub fn take(&mut self, a: usize, b: usize) -> Result<Marked, Refusal>
+        ensures taken { (bodies : List ℕ) → Marks (binding_with bodies self.old) (a ∷ b ∷ []) result self.new.marks.now }
+        ensures same { SameMarks self.old self.new }
+    {
+        if !placed_in(self.count, a, b) {
+            return Err(Refusal::Positions);
+        }
+        let first_dynamic = self.marks[a] == HELD;
+        let second_dynamic = self.marks[b] == HELD;
+        take_both(self.marks, a.min(b), a.max(b))?;
+        Ok(Marked {
+            first_dynamic,
+            second_dynamic,
+        })
     }
-    let first_dynamic = marks[a] == HELD;
-    let second_dynamic = marks[b] == HELD;
-    take_both(marks, a.min(b), a.max(b))?;
-    Ok(Marked {
-        first_dynamic,
-        second_dynamic,
-    })
 }
 
 // Takes the bodies at positions a and b, the lower position first, from the parts of a binding: what the calls for C are lent.
@@ -221,7 +229,8 @@ pub fn take_from(
 ) -> Result<Taken, Refusal>
     ensures { Takes (record { bodies = bodies.now; marks = marks.old; count = count }) (a ∷ b ∷ []) result (record { bodies = bodies.now; marks = marks.new; count = count }) }
 {
-    let marked = take_marks(marks, count, a, b)?;
+    let mut bound = BoundMarks { marks, count };
+    let marked = bound.take(a, b)?;
     Ok(Taken {
         first: bodies[a],
         first_dynamic: marked.first_dynamic,

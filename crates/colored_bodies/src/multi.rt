@@ -5,17 +5,18 @@ ghost use Rattle.lists.specs.Basics.{all, one, four, sorted};
 ghost use Rattle.frame.specs.Refusals.{number_of, refused_by};
 ghost use Rattle.colored_bodies.specs.Bindings.{ask_refusal, refusal_from, marks_from};
 ghost use Rattle.colored_bodies.specs.Answers.{Handable, MarksAt, TakesAt};
+ghost use Rattle.colored_bodies.specs.Lent.{binding_with, SameMarks, entries_at};
 
-use crate::{BodyBinding, HELD, Step, take_body};
+use crate::{BodyBinding, BoundMarks, HELD, READ_ONLY, Step, take_body};
 use frame::{Frame, Refusal, ask};
 
-// What a take hands: how many bodies, their numbers in the order asked, and for each 1 ("dynamic") or 0 ("read-only"). Places past the
-// bodies are 0.
+// What a take hands: how many bodies, their numbers in the order asked, and for each whether it is "dynamic" or "read-only". Past the bodies
+// stand 0 and "read-only".
 #[derive(Clone, Copy, Debug, PartialEq, Eq)]
 pub struct TakenAt {
     pub count: usize,
     pub bodies: [u16; Frame::MAX_ENDS],
-    pub dynamic: [u8; Frame::MAX_ENDS],
+    pub dynamic: [bool; Frame::MAX_ENDS],
 }
 
 // The lower of a count and 4,096: positions below both are below this.
@@ -35,17 +36,35 @@ fn ask_refusal(count: usize, positions: &[u16]) -> Result<(), Refusal>
     ask(placed, Refusal::Positions)
 }
 
-// The flags of the positions asked, by the marks as they stand.
-fn read_marks(marks: &[u8; Frame::MAX_BODIES], positions: &[u16]) -> [u8; Frame::MAX_ENDS]
+// The entries of a table at the positions, and past these `none`.
+fn entries_at<T: Copy>(
+    table: &[T; Frame::MAX_BODIES],
+    positions: &[u16],
+    none: T,
+) -> [T; Frame::MAX_ENDS]
     requires { Handable positions.now }
-    ensures { result ≡ four (map (λ p. one (eqb (get_or marks.now p 0) 1)) positions.now) }
+    ensures { result ≡ entries_at none table.now positions.now }
 {
-    let mut flags = [0u8; Frame::MAX_ENDS];
-    // The first i flags are those of their positions, the others 0.
+    let mut entries = [none; Frame::MAX_ENDS];
+    // The first i entries are those of their positions, the others `none`.
     for (i, &p) in positions.iter().enumerate() {
-        flags[i] = (marks[p as usize] == HELD) as u8;
+        entries[i] = table[usize::from(p)];
     }
-    flags
+    entries
+}
+
+// Which of the positions asked are "dynamic", by the marks as they stand.
+fn dynamic_at(marks: &[u8; Frame::MAX_BODIES], positions: &[u16]) -> [bool; Frame::MAX_ENDS]
+    requires { Handable positions.now }
+    ensures { map one result ≡ four (map (λ p. one (eqb (get_or marks.now p 0) 1)) positions.now) }
+{
+    let entries = entries_at(marks, positions, READ_ONLY);
+    [
+        entries[0] == HELD,
+        entries[1] == HELD,
+        entries[2] == HELD,
+        entries[3] == HELD,
+    ]
 }
 
 // What refuses at the first place, and at a later one.
@@ -66,10 +85,11 @@ fn take_each(marks: &mut [u8; Frame::MAX_BODIES], places: &[u16]) -> Result<(), 
 {
     // The first i places were free, and are taken.
     for (i, &place) in places.iter().enumerate() {
-        if HELD < marks[place as usize] {
+        let at = usize::from(place);
+        if HELD < marks[at] {
             return Err(gone_at(i));
         }
-        take_body(marks, place as usize);
+        take_body(marks, at);
     }
     Ok(())
 }
@@ -87,32 +107,18 @@ fn take_rising(marks: &mut [u8; Frame::MAX_BODIES], positions: &[u16]) -> Result
     take_each(marks, &places[..n])
 }
 
-// All that a take of two to four positions does to the marks: it hands a flag for each position, in the order asked, and 0 past them.
-// Its promise holds whatever bodies stand beside the marks.
-pub fn take_marks_at(
-    marks: &mut [u8; Frame::MAX_BODIES],
-    count: usize,
-    positions: &[u16],
-) -> Result<[u8; Frame::MAX_ENDS], Refusal>
-    ensures { (bodies : List ℕ) → MarksAt (record { bodies = bodies; marks = marks.old; count = count }) positions.now result marks.new }
-{
-    ask_refusal(count, positions)?;
-    let flags = read_marks(marks, positions);
-    take_rising(marks, positions)?;
-    Ok(flags)
-}
-
-// The numbers of the bodies at the positions.
-fn hand(bodies: &[u16; Frame::MAX_BODIES], positions: &[u16]) -> [u16; Frame::MAX_ENDS]
-    requires { Handable positions.now }
-    ensures { result ≡ four (map (λ p. get_or bodies.now p 0) positions.now) }
-{
-    let mut handed = [0u16; Frame::MAX_ENDS];
-    // The first i numbers are those at their positions, the others 0.
-    for (i, &p) in positions.iter().enumerate() {
-        handed[i] = bodies[p as usize];
+impl BoundMarks<'_> {
+    // All that a take of two to four positions does to the marks: it hands a flag for each position, in the order asked, and `false` past
+    // them. Its promise holds whatever bodies stand beside the marks.
+    pub fn take_at(&mut self, positions: &[u16]) -> Result<[bool; Frame::MAX_ENDS], Refusal>
+        ensures taken { (bodies : List ℕ) → MarksAt (binding_with bodies self.old) positions.now result self.new.marks.now }
+        ensures same { SameMarks self.old self.new }
+    {
+        ask_refusal(self.count, positions)?;
+        let dynamic = dynamic_at(self.marks, positions);
+        take_rising(self.marks, positions)?;
+        Ok(dynamic)
     }
-    handed
 }
 
 // Takes the bodies at two to four positions, the lowest position first, from the parts of a binding: what the calls for C are lent.
@@ -124,10 +130,11 @@ pub fn take_from(
 ) -> Result<TakenAt, Refusal>
     ensures { TakesAt (record { bodies = bodies.now; marks = marks.old; count = count }) positions.now result (record { bodies = bodies.now; marks = marks.new; count = count }) }
 {
-    let dynamic = take_marks_at(marks, count, positions)?;
+    let mut bound = BoundMarks { marks, count };
+    let dynamic = bound.take_at(positions)?;
     Ok(TakenAt {
         count: positions.len(),
-        bodies: hand(bodies, positions),
+        bodies: entries_at(bodies, positions, 0),
         dynamic,
     })
 }

@@ -4,6 +4,7 @@
 
 ghost use Rattle.std.specs.Prelude.{◌≡◌, ◌≤◌, ◌+◌, ◌*◌, ◌++◌, length, take};
 ghost use Rattle.frame.specs.Decodes.{Decodable};
+ghost use Rattle.colored_bodies.specs.Bindings.{Known};
 ghost use Rattle.frame_tables.specs.Filled.{islands_in};
 ghost use Rattle.frame_tables.specs.Lent.{SameFrame, SameByIsland};
 ghost use Rattle.island.specs.Lent as island_lent;
@@ -25,10 +26,7 @@ use run_answer::{Asked, Report};
 fn count_of(filling: Result<Filling, Refusal>) -> u16
     ensures { result ≡ islands_in filling }
 {
-    match filling {
-        Ok(filled) => filled.islands,
-        Err(_) => 0,
-    }
+    filling.map_or(0, |filled| filled.islands)
 }
 
 // The labels of so many manifolds and joints.
@@ -48,6 +46,7 @@ fn filled_in<'a>(
     labels: IslandLabels<'a>,
     numbers: &'a [u16],
 ) -> FilledFrame<'a>
+    requires { Known tables.now.types.now }
     ensures types { result.types.now ≡ tables.now.types.now }
     ensures flags { result.flags.now ≡ tables.now.flags.now }
     ensures ends { result.ends.now ≡ tables.now.pairs.now }

@@ -15,6 +15,8 @@ use Rattle.constraint_coloring.specs.Calls.{Located}
 use Rattle.multi_coloring.specs.Counts.{count_read, counts_read, multi_positions_refusal}
 use Rattle.colored_bodies.specs.declared.BodyBinding.{BodyBinding}
 use Rattle.colored_bodies.specs.declared.Marked.{Marked}
+use Rattle.colored_bodies.specs.declared.BoundMarks.{BoundMarks}
+use Rattle.colored_bodies.specs.Lent.{BoundBy, SameMarks}
 use Rattle.frame.proofs.Answered.{numbered}
 use Rattle.frame.specs.Refusals.{number_of, refused_by}
 use Rattle.colored_bodies.specs.Bindings.{Handed, bind_of, handed_at, take_of, take_refusal, take_marks}
@@ -22,30 +24,35 @@ use Rattle.colored_bodies.specs.Answers.{marked_dynamic, Marks, marked_flags, fl
 use Rattle.schedules.specs.Runs.{Call, members_in, bodies_in, lookup_refusal, lookup_of, take_rank, calls_from, turns_of, takes_of}
 use Rattle.schedules.proofs.Places.{read-known}
 use Rattle.turn_table.specs.declared.Turn.{Turn}
-use Rattle.turn_table.specs.declared.Tally.{Tally}
-use Rattle.turn_table.specs.Turns.{Added, added_by_take, Room, Appended}
-use Rattle.group_run.specs.Appends.{seen, calls_in, plan_calls, added_by, marks_only, Countable, pair_taken, counted_taken, dynamic_taken, RankTaken, MemberTaken}
+use Rattle.turn_table.specs.declared.TurnTable.{TurnTable}
+use Rattle.turn_table.specs.Turns.{Added, added_by_take, RoomIn, AppendedTo}
+use Rattle.group_run.specs.Appends.{seen, calls_in, plan_calls, added_by, marks_only, marks_of, Countable, pair_taken, counted_taken, dynamic_taken, RankTaken, MemberTaken}
 use Rattle.group_run.proofs.Appends.{parts_next}
 use Rattle.frame.specs.declared.refusal.Refusal.TheVariants.{NoConstraint}
 
 -- ---- a take of a rank, from the answers of the lookup and of the take of marks
-module _ (p : Plan) (marks : List ℕ) (n r : ℕ) where
-  abbrev b : BodyBinding
-  b = marks_only marks n
+marks_both : {x y : List ℕ} {j k : ℕ} → x ≡ y → j ≡ k → marks_only x j ≡ marks_only y k
+marks_both e f = rw (e, f)
 
-  rank_taken : (ps : List ℕ) (t : Result ℕ Refusal) (left : List ℕ) → lookup_refusal p r ≡ 0 → lookup_of p r ≡ ps → refused_by t ≡ (take_of b ps).refusal → dynamic_taken t ≡ count (λ h. h.dynamic) (take_of b ps).handed → left ≡ (take_of b ps).after.marks → RankTaken p marks n r t left
+module _ (p : Plan) (m : BoundMarks) (r : ℕ) where
+  abbrev b : BodyBinding
+  b = marks_of m
+
+  rank_taken : (ps : List ℕ) (t : Result ℕ Refusal) (left : BoundMarks) → lookup_refusal p r ≡ 0 → lookup_of p r ≡ ps → refused_by t ≡ (take_of b ps).refusal → dynamic_taken t ≡ count (λ h. h.dynamic) (take_of b ps).handed → left.marks.now ≡ (take_of b ps).after.marks
+      → SameMarks m left → RankTaken p r m t left
   unfolding take_rank take_of
-  rank_taken ps t left z e q d m = record {
+  rank_taken ps t left z e q d a s = record {
     refusal = rw (z, e) q;
     dynamic = rw (z, e) d;
-    after = rw (z, e) (ap (λ (ms : List ℕ). marks_only ms n) m);
+    after = rw (z, e) (marks_both a s.count);
+    same = s.kept;
   }
 
-  rank_refused : (k : Refusal) → lookup_refusal p r ≡ number_of k → RankTaken p marks n r (Err k) marks
+  rank_refused : (k : Refusal) → lookup_refusal p r ≡ number_of k → RankTaken p r m (Err k) m
   unfolding take_rank
   rank_refused k e =
       let some : eqb (number_of k) 0 ≡ false = ne_eqb (number_of k) 0 (numbered k) in
-      record { refusal = rw (e, some); dynamic = rw (e, some); after = rw (e, some) }
+      record { refusal = rw (e, some); dynamic = rw (e, some); after = rw (e, some); same = refl }
 
 -- ---- of a pair
 
@@ -60,32 +67,33 @@ pair-dynamic (Err r) = refl
 pub dynamic-two : (hs : List Handed) (m : Result Marked Refusal) → marked_dynamic m ≡ map (λ h. h.dynamic) hs → dynamic_taken (pair_taken m) ≡ count (λ h. h.dynamic) hs
 dynamic-two hs m e = pair-dynamic m ∙ ap (count (λ (d : Bool). d)) e ∙ sum_map one (λ (h : Handed). h.dynamic) hs
 
-module _ (plan : ConstraintColoring) (counts co cc bo cb pos marks : List ℕ) (none : length counts ≡ 0) (n r : ℕ) where
+module _ (plan : ConstraintColoring) (counts co cc bo cb pos : List ℕ) (none : length counts ≡ 0) (m : BoundMarks) (r : ℕ) where
   abbrev paired : Plan
   paired = seen plan counts co cc bo cb pos
 
   abbrev two : BodyBinding
-  two = marks_only marks n
+  two = marks_of m
 
   -- positions that are handed back are the two of the pair
   pub pair_found : (places : Bor (List ℕ)) → Located plan.constraint_count pos r (Ok places) → places.now ≡ pair_at pos r
   pair_found places l = l.values ∙ ap (λ (j : ℕ). cond (eqb j 0) (pair_at pos r) []) (sym l.refusal)
 
-  pub pair_is_taken : (places : Bor (List ℕ)) → Located plan.constraint_count pos r (Ok places) → (m : Result Marked Refusal) (left : List ℕ) → Marks two (get_or places.now 0 0 ∷ get_or places.now 1 0 ∷ []) m left → RankTaken paired marks n r (pair_taken m) left
+  pub pair_is_taken : (places : Bor (List ℕ)) → Located plan.constraint_count pos r (Ok places) → (t : Result Marked Refusal) (left : BoundMarks) → Marks two (get_or places.now 0 0 ∷ get_or places.now 1 0 ∷ []) t left.marks.now → SameMarks m left → RankTaken paired r m (pair_taken t) left
   unfolding lookup_refusal lookup_of
-  pair_is_taken places l m left h =
+  pair_is_taken places l t left h s =
       let z : positions_refusal plan.constraint_count pos r ≡ 0 = sym l.refusal in
       let ps : get_or places.now 0 0 ∷ get_or places.now 1 0 ∷ [] ≡ pair_at pos r = rw (pair_found places l) in
-      rank_taken paired marks n r (get_or places.now 0 0 ∷ get_or places.now 1 0 ∷ []) (pair_taken m) left (rw none z) (rw none (sym ps))
-      (same-pair_number m ∙ h.refusal)
-      (dynamic-two (take_of two (get_or places.now 0 0 ∷ get_or places.now 1 0 ∷ [])).handed m h.dynamic)
+      rank_taken paired m r (get_or places.now 0 0 ∷ get_or places.now 1 0 ∷ []) (pair_taken t) left (rw none z) (rw none (sym ps))
+      (same-pair_number t ∙ h.refusal)
+      (dynamic-two (take_of two (get_or places.now 0 0 ∷ get_or places.now 1 0 ∷ [])).handed t h.dynamic)
       h.marks
+      s
 
-  pub pair_refused : (f : Refusal) → Located plan.constraint_count pos r (Err f) → RankTaken paired marks n r (Err f) marks
+  pub pair_refused : (f : Refusal) → Located plan.constraint_count pos r (Err f) → RankTaken paired r m (Err f) m
   unfolding lookup_refusal
   pair_refused f l =
       let z : positions_refusal plan.constraint_count pos r ≡ number_of f = sym l.refusal in
-      rank_refused paired marks n r f (rw none z)
+      rank_refused paired m r f (rw none z)
 
 -- ---- of a constraint that has a count
 four-flags : (xs : List ℕ) → sum_of (λ f. f) (four xs) ≡ sum_of (λ f. f) xs
@@ -96,16 +104,16 @@ four-flags xs = omega (arith, sum_append (λ (f : ℕ). f) xs (replicate (4 - le
     sum_none zero = refl
     sum_none (suc n) = omega (arith, sum_none n)
 
-pub same-counted_number : (m : Result (List ℕ) Refusal) → refused_by (counted_taken m) ≡ refused_by m
+pub same-counted_number : (m : Result (List Bool) Refusal) → refused_by (counted_taken m) ≡ refused_by m
 same-counted_number (Ok m) = refl
 same-counted_number (Err r) = refl
 
-counted-dynamic : (m : Result (List ℕ) Refusal) → dynamic_taken (counted_taken m) ≡ sum_of (λ (f : ℕ). f) (marked_flags m)
+counted-dynamic : (m : Result (List Bool) Refusal) → dynamic_taken (counted_taken m) ≡ sum_of (λ (f : ℕ). f) (marked_flags m)
 unfolding four
-counted-dynamic (Ok m) = refl
+counted-dynamic (Ok m) = sym (sum_map (λ (f : ℕ). f) one m)
 counted-dynamic (Err r) = refl
 
-pub dynamic-several : (hs : List Handed) (m : Result (List ℕ) Refusal) → marked_flags m ≡ flags_of hs → dynamic_taken (counted_taken m) ≡ count (λ h. h.dynamic) hs
+pub dynamic-several : (hs : List Handed) (m : Result (List Bool) Refusal) → marked_flags m ≡ flags_of hs → dynamic_taken (counted_taken m) ≡ count (λ h. h.dynamic) hs
 dynamic-several hs m e = counted-dynamic m ∙ ap (sum_of (λ (f : ℕ). f)) e ∙ four-flags (map (λ h. one h.dynamic) hs) ∙ sum_map (λ (f : ℕ). f) (λ (h : Handed). one h.dynamic) hs
 
 module _ {plan : ConstraintColoring} {counts bounds pos : List ℕ} (c : Countable plan counts bounds pos) (some : length counts ≡ 0 → ⊥) (co cc bo cb : List ℕ) where
@@ -134,16 +142,17 @@ module _ {plan : ConstraintColoring} {counts bounds pos : List ℕ} (c : Countab
   unfolding lookup_of
   located_at r h = rw (ne_eqb (length counts) 0 some, counts_are) (sym (part-counted c.bounds_of c.long pos r h))
 
-  module _ (marks : List ℕ) (n r : ℕ) where
-    pub counted_is_taken : (ps : List ℕ) (m : Result (List ℕ) Refusal) (left : List ℕ) → r < length counts → ps ≡ part_at bounds pos r → MarksAt (marks_only marks n) ps m left → RankTaken several marks n r (counted_taken m) left
-    counted_is_taken ps m left h e k =
-        rank_taken several marks n r ps (counted_taken m) left (located_from r ∙ rw (lt-ltb r (length counts) h)) (located_at r h ∙ sym e)
-        (same-counted_number m ∙ k.refusal)
-        (dynamic-several (take_of (marks_only marks n) ps).handed m k.dynamic)
+  module _ (m : BoundMarks) (r : ℕ) where
+    pub counted_is_taken : (ps : List ℕ) (t : Result (List Bool) Refusal) (left : BoundMarks) → r < length counts → ps ≡ part_at bounds pos r → MarksAt (marks_of m) ps t left.marks.now → SameMarks m left → RankTaken several r m (counted_taken t) left
+    counted_is_taken ps t left h e k s =
+        rank_taken several m r ps (counted_taken t) left (located_from r ∙ rw (lt-ltb r (length counts) h)) (located_at r h ∙ sym e)
+        (same-counted_number t ∙ k.refusal)
+        (dynamic-several (take_of (marks_of m) ps).handed t k.dynamic)
         k.marks
+        s
 
-    pub counted_past : length counts ≤ r → RankTaken several marks n r (Err NoConstraint) marks
-    counted_past h = rank_refused several marks n r NoConstraint (located_from r ∙ rw (le-ltb r (length counts) h))
+    pub counted_past : length counts ≤ r → RankTaken several r m (Err NoConstraint) m
+    counted_past h = rank_refused several m r NoConstraint (located_from r ∙ rw (le-ltb r (length counts) h))
 
 -- ---- what it adds
 
@@ -170,19 +179,19 @@ call_added c turn (Err r) e d none i k n =
 
 -- ---- a member, and the members one after another
 
-module _ (p : Plan) (ns : List ℕ) (i k : ℕ) (marks left : List ℕ) (n r : ℕ) (m : Result ℕ Refusal) (x : ℕ) (t : List ℕ) (s : Tally) (taken : RankTaken p marks n r m left) (number : x ≡ get_or ns r 0) where
+module _ (p : Plan) (ns : List ℕ) (i k : ℕ) (m left : BoundMarks) (r : ℕ) (answer : Result ℕ Refusal) (x : ℕ) (t : TurnTable) (taken : RankTaken p r m answer left) (number : x ≡ get_or ns r 0) where
   abbrev turn : Turn
   turn = record { island = i; group = k; number = x }
 
-  adds : added_by (calls_from p ns i k (marks_only marks n) (r ∷ [])) ≡ added_by_take turn m
+  adds : added_by (calls_from p ns i k (marks_of m) (r ∷ [])) ≡ added_by_take turn answer
   unfolding calls_from
-  adds = call_added _ turn m taken.refusal taken.dynamic (none_handed p (marks_only marks n) r) refl refl number
+  adds = call_added _ turn answer taken.refusal taken.dynamic (none_handed p (marks_of m) r) refl refl number
 
-  pub member_room : Room (added_by (calls_from p ns i k (marks_only marks n) (r ∷ []))) t s → Room (added_by_take turn m) t s
+  pub member_room : RoomIn (added_by (calls_from p ns i k (marks_of m) (r ∷ []))) t → RoomIn (added_by_take turn answer) t
   member_room h = rw adds at h
 
-  pub member_taken : (t' : List ℕ) (s' : Tally) → Appended (added_by_take turn m) t s t' s' → MemberTaken p ns i k marks n r t s left t' s'
-  member_taken t' s' h = record { added = rw adds h; after = taken.after }
+  pub member_taken : (t' : TurnTable) → AppendedTo (added_by_take turn answer) t t' → MemberTaken p ns i k r m t left t'
+  member_taken t' h = record { added = rw adds h; after = taken.after; same = taken.same }
 
 module _ (p : Plan) (ns : List ℕ) (i k : ℕ) (b : BodyBinding) (rs : List ℕ) (m : ℕ) where
   -- the rest from place m on: the next take, and those after it from the binding that it leaves
@@ -246,11 +255,10 @@ bodies_apart p ns i k b (r ∷ rs) =
     rw (bare-refusal p b r, ← bare-after p b r)
     (one_call i k (get_or ns r 0) _ _ _ _ _ (bare-dynamic p b r) (bodies_apart p ns i k (take_rank p b r).after rs))
 
-pub bound_added : (p : Plan) (ns : List ℕ) (i k count : ℕ) (marks types bodies rs : List ℕ) → count ≡ (bind_of types bodies).count → marks ≡ (bind_of types bodies).marks
-    → added_by (calls_from p ns i k (bind_of types bodies) rs) ≡ added_by (calls_from p ns i k (marks_only marks count) rs)
-bound_added p ns i k count marks types bodies rs c m = bodies_apart p ns i k (bind_of types bodies) rs
-    ∙ ap (λ (n : ℕ). added_by (calls_from p ns i k (marks_only (bind_of types bodies).marks n) rs)) (sym c)
-    ∙ ap (λ (ms : List ℕ). added_by (calls_from p ns i k (marks_only ms count) rs)) (sym m)
+pub bound_added : (p : Plan) (ns : List ℕ) (i k : ℕ) (old m : BoundMarks) (types bodies rs : List ℕ) → BoundBy types bodies old m
+    → added_by (calls_from p ns i k (bind_of types bodies) rs) ≡ added_by (calls_from p ns i k (marks_of m) rs)
+bound_added p ns i k old m types bodies rs bound = bodies_apart p ns i k (bind_of types bodies) rs
+    ∙ ap (λ (b : BodyBinding). added_by (calls_from p ns i k b rs)) (sym (marks_both bound.marks bound.count))
 
 -- all groups of a plan are those from 0 on
 pub groups_first : (p : Plan) (types ns : List ℕ) (i : ℕ) → join_map (calls_in p types ns i) (range_from 0 (p.groups - 0)) ≡ plan_calls p types ns i

@@ -1,12 +1,13 @@
 -- What a part of the run adds to the turn table and to the takes.
-use Rattle.std.specs.Prelude.{ℕ, ◌*◌, ◌≤◌, ◌≡◌, true, Result, Ok, Err, List, [], ◌∷◌, length}
+use Rattle.std.specs.Prelude.{ℕ, ◌*◌, ◌≤◌, ◌≡◌, Bool, true, Result, Ok, Err, List, [], ◌∷◌, length}
 use Rattle.lists.specs.Basics as lists
-use Rattle.lists.specs.Basics.{sum_of, join_map, range}
+use Rattle.lists.specs.Basics.{join_map, range}
 use Rattle.frame.specs.Frames.{counts_known, end_count}
 use Rattle.groups.specs.Groups.{Plan}
 use Rattle.constraint_coloring.specs.declared.ConstraintColoring.{ConstraintColoring}
 use Rattle.constraint_coloring.specs.Calls.{plan_with}
 use Rattle.colored_bodies.specs.declared.BodyBinding.{BodyBinding}
+use Rattle.colored_bodies.specs.declared.BoundMarks.{BoundMarks}
 use Rattle.parts.specs.Steps.{BoundsOf}
 use Rattle.colored_bodies.specs.declared.Marked.{Marked}
 use Rattle.frame.specs.declared.refusal.Refusal.{Refusal}
@@ -14,8 +15,8 @@ use Rattle.frame.specs.Refusals.{refused_by}
 use Rattle.colored_bodies.specs.Bindings.{bind_of}
 use Rattle.colored_bodies.specs.Answers.{marked_dynamic}
 use Rattle.schedules.specs.Runs.{Call, members_in, bodies_in, take_rank, calls_from, turn_of, turns_of, takes_of}
-use Rattle.turn_table.specs.declared.Tally.{Tally}
-use Rattle.turn_table.specs.Turns.{Added, Appended}
+use Rattle.turn_table.specs.declared.TurnTable.{TurnTable}
+use Rattle.turn_table.specs.Turns.{Added, AppendedTo}
 
 -- ---- the calls
 
@@ -52,13 +53,21 @@ added_by cs = record { turns = join_map turn_of (turns_of cs); takes = takes_of 
 abbrev pub marks_only : List ℕ → ℕ → BodyBinding
 marks_only marks count = record { bodies = []; marks = marks; count = count }
 
+-- the binding that lent marks are, without its bodies
+abbrev pub marks_of : BoundMarks → BodyBinding
+marks_of m = marks_only m.marks.now m.count
+
+-- the table of marks is the one that was lent
+abbrev pub SameLent : BoundMarks → BoundMarks → Type 0
+SameLent old new = new.marks.ghost_name ≡ old.marks.ghost_name
+
 -- how many bodies a take of two marks hands as dynamic, and a take of two to four
 abbrev pub pair_taken : Result Marked Refusal → Result ℕ Refusal
 pair_taken (Ok m) = Ok (lists.count (λ d. d) (marked_dynamic (Ok m)))
 pair_taken (Err r) = Err r
 
-abbrev pub counted_taken : Result (List ℕ) Refusal → Result ℕ Refusal
-counted_taken (Ok flags) = Ok (sum_of (λ f. f) flags)
+abbrev pub counted_taken : Result (List Bool) Refusal → Result ℕ Refusal
+counted_taken (Ok dynamic) = Ok (lists.count (λ d. d) dynamic)
 counted_taken (Err r) = Err r
 
 -- of a take that is refused none
@@ -67,12 +76,14 @@ dynamic_taken (Ok n) = n
 dynamic_taken (Err r) = 0
 
 -- the take of a rank: its refusal or 0, how many bodies it hands as dynamic, and the marks that it leaves
-pub record RankTaken (p : Plan) (marks : List ℕ) (count rank : ℕ) (r : Result ℕ Refusal) (left : List ℕ) : Type 0 where
-  pub refusal : refused_by r ≡ (take_rank p (marks_only marks count) rank).refusal
-  pub dynamic : dynamic_taken r ≡ lists.count (λ h. h.dynamic) (take_rank p (marks_only marks count) rank).handed
-  pub after : marks_only left count ≡ (take_rank p (marks_only marks count) rank).after
+pub record RankTaken (p : Plan) (rank : ℕ) (old : BoundMarks) (r : Result ℕ Refusal) (new : BoundMarks) : Type 0 where
+  pub refusal : refused_by r ≡ (take_rank p (marks_of old) rank).refusal
+  pub dynamic : dynamic_taken r ≡ lists.count (λ h. h.dynamic) (take_rank p (marks_of old) rank).handed
+  pub after : marks_of new ≡ (take_rank p (marks_of old) rank).after
+  pub same : SameLent old new
 
 -- a member taken: what it adds, and the marks that it leaves
-pub record MemberTaken (p : Plan) (ns : List ℕ) (i k : ℕ) (marks : List ℕ) (count rank : ℕ) (t : List ℕ) (s : Tally) (left t' : List ℕ) (s' : Tally) : Type 0 where
-  pub added : Appended (added_by (calls_from p ns i k (marks_only marks count) (rank ∷ []))) t s t' s'
-  pub after : marks_only left count ≡ (take_rank p (marks_only marks count) rank).after
+pub record MemberTaken (p : Plan) (ns : List ℕ) (i k rank : ℕ) (old : BoundMarks) (t : TurnTable) (new : BoundMarks) (t' : TurnTable) : Type 0 where
+  pub added : AppendedTo (added_by (calls_from p ns i k (marks_of old) (rank ∷ []))) t t'
+  pub after : marks_of new ≡ (take_rank p (marks_of old) rank).after
+  pub same : SameLent old new

@@ -1,5 +1,5 @@
 -- Takes by marks, as the run makes them, beside takes by value, as `pair_at` and `bodies_at` make them.
-use Rattle.std.specs.Prelude.{ℕ, ◌≡◌, Result, List, [], ◌∷◌}
+use Rattle.std.specs.Prelude.{ℕ, ◌≡◌, Bool, Result, List, [], ◌∷◌}
 use Rattle.frame.specs.declared.refusal.Refusal.{Refusal}
 use Rattle.groups.specs.Groups.{Plan}
 use Rattle.colored_bodies.specs.declared.BodyBinding.{BodyBinding}
@@ -30,12 +30,12 @@ abbrev pub MarksAreTakes : Type 0
 MarksAreTakes = (b : BodyBinding) (x y : ℕ) (r : Result Marked Refusal) (left : List ℕ) → Marks b (x ∷ y ∷ []) r left → ByValue b x y r left
 
 -- the same of two to four positions
-pub record ByValueAt (b : BodyBinding) (ps : List ℕ) (r : Result (List ℕ) Refusal) (left : List ℕ) : Type 0 where
+pub record ByValueAt (b : BodyBinding) (ps : List ℕ) (r : Result (List Bool) Refusal) (left : List ℕ) : Type 0 where
   pub taken : TakesAt b ps (with_bodies_at b.bodies ps r) (leaving b left)
   pub added : AddsTake b ps (counted_taken r)
 
 abbrev pub CountedMarksAreTakes : Type 0
-CountedMarksAreTakes = (b : BodyBinding) (ps : List ℕ) (r : Result (List ℕ) Refusal) (left : List ℕ) → MarksAt b ps r left → ByValueAt b ps r left
+CountedMarksAreTakes = (b : BodyBinding) (ps : List ℕ) (r : Result (List Bool) Refusal) (left : List ℕ) → MarksAt b ps r left → ByValueAt b ps r left
 
 -- the takes of a group, in any order, add the same from a binding and from its marks and count alone
 abbrev pub GroupsByMarks : Type 0

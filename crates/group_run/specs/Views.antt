@@ -3,16 +3,12 @@ use Rattle.std.specs.Prelude.{ℕ, List}
 use Rattle.groups.specs.Groups.{Plan}
 use Rattle.colored_bodies.specs.declared.BodyBinding.{BodyBinding}
 use Rattle.schedules.specs.Runs.{Call, calls_from}
-use Rattle.group_run.specs.declared.PlannedIsland.{PlannedIsland}
-use Rattle.group_run.specs.Appends.{seen, plan_calls, Countable}
+use Rattle.group_run.specs.declared.planned.PlannedIsland.{PlannedIsland}
+use Rattle.group_run.specs.Appends.{seen, plan_calls}
 
 -- its plan as the lookups see it
 abbrev pub plan_in : PlannedIsland → Plan
 plan_in p = seen p.plan p.counts.now p.color_offsets.now p.colored_constraints.now p.color_body_offsets.now p.color_bodies.now p.positions.now
-
--- its counts, their bounds and its positions belong together
-abbrev pub CountableIn : PlannedIsland → Type 0
-CountableIn p = Countable p.plan p.counts.now p.bounds.now p.positions.now
 
 -- the takes of the ranks rs in group k from a binding, and the takes of all its groups
 abbrev pub taken_from : PlannedIsland → ℕ → BodyBinding → List ℕ → List Call

@@ -2,7 +2,7 @@
 use Rattle.std.specs.Prelude.{ℕ, List}
 use Rattle.schedules.specs.Runs.{Call}
 use Rattle.island_numbers.specs.Tables.{labels_of}
-use Rattle.island_run.specs.declared.FilledFrame.{FilledFrame}
+use Rattle.island_run.specs.declared.filled.FilledFrame.{FilledFrame}
 use Rattle.island_run.specs.Islands.{calls_of}
 
 abbrev pub calls_of_frame : FilledFrame → ℕ → List Call

@@ -4,17 +4,19 @@
 ghost use Rattle.std.specs.Prelude.{◌≡◌, ◌≤◌, ◌-◌, ◌*◌, cond, eqb, length, take, drop};
 ghost use Rattle.frame.specs.Frames.{end_count};
 ghost use Rattle.plan_questions.specs.Lent.{tables_in, lengths_of, SameTables};
-ghost use Rattle.colored_bodies.specs.Bindings.{Known};
 ghost use Rattle.turn_table.specs.Turns.{none, Room, Appended};
 ghost use Rattle.group_run.specs.Appends.{added_by};
 ghost use Rattle.island_numbers.specs.Tables.{labels_of};
 ghost use Rattle.island_run.specs.Islands.{Prepared};
 ghost use Rattle.island_run.specs.Views.{calls_of_frame};
 
-use island_numbers::IslandLabels;
 use one_island::Island;
 use plan_questions::PlanTables;
-use turn_table::Tally;
+use turn_table::{Tally, TurnTable};
+
+pub use filled::FilledFrame;
+
+mod filled;
 
 // The counts of the constraints from place `start` to place `end`; without counts none.
 fn counts_between(counts: &[u8], start: usize, end: usize) -> &[u8]
@@ -35,18 +37,6 @@ fn count_ends(counts: &[u8], constraints: usize) -> usize
     frame::multi::sum_counts(counts)
 }
 
-// The tables of a frame that the run of its islands reads: types and flags of its bodies, endpoints and counts of its constraints (without
-// counts they are pairs), their labels, and their numbers sorted by island.
-#[derive(Clone, Copy)]
-pub struct FilledFrame<'a> {
-    pub types: &'a [u8],
-    pub flags: &'a [u8],
-    pub ends: &'a [u16],
-    pub counts: &'a [u8],
-    pub labels: IslandLabels<'a>,
-    pub numbers: &'a [u16],
-}
-
 // The islands in number order. The endpoints and counts of all constraints are collected once, in the order of the numbers; each island's are
 // then a part. The tables of the plan, `island_ends` and `island_counts` are free.
 pub fn run_islands(
@@ -61,7 +51,6 @@ pub fn run_islands(
     requires prepared { Prepared islands filled.flags.now filled.counts.now filled.ends.now (labels_of filled.labels) filled.numbers.now island_ends.old island_counts.old
         (tables_in tables.old) plan_counts.old }
     requires room { Room (added_by (calls_of_frame filled islands)) turns.old none }
-    requires known { Known filled.types.now }
     ensures appended { Appended (added_by (calls_of_frame filled.entry islands)) turns.old none turns.new result }
     ensures same_tables { SameTables tables.old tables.new }
     ensures same_lengths { lengths_of (tables_in tables.new) ≡ lengths_of (tables_in tables.old) }
@@ -74,7 +63,10 @@ pub fn run_islands(
         island_ends,
         island_counts,
     );
-    let mut tally = turn_table::no_turns();
+    let mut table = TurnTable {
+        turns,
+        tally: turn_table::no_turns(),
+    };
     let mut start: usize = 0;
     let mut ends_start: usize = 0;
     // The islands before `island` are run; its numbers begin at `start` of the numbers, and its endpoints at `ends_start` of the endpoints.
@@ -90,9 +82,9 @@ pub fn run_islands(
             counts,
             numbers: &filled.numbers[start..end],
         };
-        tally = one_island::run_island(part, plan_counts, tables, turns, tally);
+        one_island::run_island(part, plan_counts, tables, &mut table);
         start = end;
         ends_start = ends_end;
     }
-    tally
+    table.tally
 }

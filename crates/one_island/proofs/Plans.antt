@@ -18,12 +18,8 @@ use Rattle.multi_coloring.proofs.Accepted.{Accepted, accepted, few-ends, two-eac
 use Rattle.schedules.specs.Runs.{freshly, members_in, bodies_in, lookup_refusal, lookup_of, take_rank}
 use Rattle.schedules.proofs.Standing.{Lookups, asked_pairs, fresh_pairs, updated_pairs, few_pairs, fresh-counts, updated_lent, constraints-lent, few-counts}
 use Rattle.schedules.proofs.Condition3.{same_calls}
-use Rattle.group_run.specs.Appends.{seen, calls_in, plan_calls}
-use Rattle.group_run.specs.declared.PlannedIsland.{PlannedIsland}
-use Rattle.group_run.specs.Views.{CountableIn}
+use Rattle.group_run.specs.Appends.{seen, calls_in, plan_calls, Countable}
 use Rattle.parts.specs.Steps.{BoundsOf}
-use Rattle.one_island.specs.declared.Island.{Island}
-use Rattle.one_island.specs.Views.{Planned}
 use Rattle.one_island.specs.Island.{island_calls, ranks, Ready, Counted, Colored}
 
 -- two plans whose lookups hand back the same make the same takes
@@ -117,16 +113,15 @@ module _ {flags counts ends old : List ℕ} {n : ℕ} {t : Tables} (ready : Read
         positions_there = omega (arith, a.whole, a.tables.1.1.1.1.1.1.1.1.1.1.1.1.1.0);
       })
 
--- ---- an island with its plan
+-- ---- the counts of an island with its plan, once their bounds stand in a table
 
-module _ {i : Island} {q : ConstraintColoring} {t : Tables} {p : PlannedIsland} (h : Planned i q t p) where
-  pub planned_countable : {before : List ℕ} → Counted i.counts.now before t.constraint_body_positions → ((length i.counts.now ≡ 0 → ⊥) → q.constraint_count ≡ length i.counts.now)
-      → BoundsOf i.counts.now (take (2 * length i.counts.now) t.body_constraints) → length t.body_constraints ≡ length before → CountableIn p
-  planned_countable k c b l = rw (h.plan, h.counts, h.bounds, h.positions) (record {
-    constraints = c;
-    few = k.few;
-    known = k.known;
-    bounds_of = b;
-    long = length-take-le (2 * length i.counts.now) t.body_constraints (omega (arith, k.bounds));
-    inside = k.positions_there;
-  })
+pub colored_countable : (after : List ℕ) {counts before positions : List ℕ} {q : ConstraintColoring} → Counted counts before positions → ((length counts ≡ 0 → ⊥) → q.constraint_count ≡ length counts)
+    → BoundsOf counts (take (2 * length counts) after) → length after ≡ length before → Countable q counts (take (2 * length counts) after) positions
+colored_countable after {counts} {before} k c b l = record {
+  constraints = c;
+  few = k.few;
+  known = k.known;
+  bounds_of = b;
+  long = length-take-le (2 * length counts) after (omega (arith, k.bounds));
+  inside = k.positions_there;
+}

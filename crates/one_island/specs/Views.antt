@@ -5,8 +5,8 @@ use Rattle.constraint_coloring.specs.declared.ConstraintColoring.{ConstraintColo
 use Rattle.plan_questions.specs.Plans.{Tables}
 use Rattle.schedules.specs.Runs.{Call}
 use Rattle.group_run.specs.Appends.{seen, plan_calls}
-use Rattle.group_run.specs.declared.PlannedIsland.{PlannedIsland}
-use Rattle.one_island.specs.declared.Island.{Island}
+use Rattle.group_run.specs.declared.planned.PlannedIsland.{PlannedIsland}
+use Rattle.one_island.specs.declared.lent.Island.{Island}
 use Rattle.one_island.specs.Island.{island_calls}
 
 -- the takes of its fresh plan

@@ -3,10 +3,9 @@
 
 ghost use Rattle.std.specs.Prelude.{◌≡◌, ◌≤◌, ◌*◌, [], length, take};
 ghost use Rattle.plan_questions.specs.Lent.{tables_in, lengths_of, SameTables};
-ghost use Rattle.colored_bodies.specs.Bindings.{Known};
 ghost use Rattle.parts.specs.Steps.{BoundsOf};
-ghost use Rattle.turn_table.specs.Turns.{Room, Appended};
-ghost use Rattle.group_run.specs.Appends.{added_by};
+ghost use Rattle.turn_table.specs.Turns.{RoomIn, AppendedTo};
+ghost use Rattle.group_run.specs.Appends.{added_by, Countable};
 ghost use Rattle.one_island.specs.Island.{ranks, Ready, Counted, Colored};
 ghost use Rattle.one_island.specs.Views.{calls_for, planned_calls, Boundable, Planned};
 
@@ -14,7 +13,11 @@ use constraint_coloring::ConstraintColoring;
 use group_run::PlannedIsland;
 use multi_coloring::MultiColoring;
 use plan_questions::PlanTables;
-use turn_table::Tally;
+use turn_table::TurnTable;
+
+pub use lent::Island;
+
+mod lent;
 
 // The plan of pairs.
 fn color_pairs(flags: &[u8], ends: &[u16], tables: &mut PlanTables<'_>) -> ConstraintColoring
@@ -45,18 +48,6 @@ fn color_counted(
     let fresh = MultiColoring::new();
     let answer = fresh.update(flags, ends, counts, plan_counts, tables);
     answer.plan_after(fresh).plan
-}
-
-// An island of a frame: its number, the types and flags of the frame's bodies, the endpoints and counts of its constraints, and their numbers by
-// rank. Without counts its constraints are pairs.
-#[derive(Clone, Copy)]
-pub struct Island<'a> {
-    pub island: u16,
-    pub types: &'a [u8],
-    pub flags: &'a [u8],
-    pub ends: &'a [u16],
-    pub counts: &'a [u8],
-    pub numbers: &'a [u16],
 }
 
 // The plan of an island: without counts its constraints are pairs.
@@ -97,7 +88,8 @@ fn planned_in<'a>(
     plan: ConstraintColoring,
     tables: &'a PlanTables<'_>,
 ) -> PlannedIsland<'a>
-    requires { 2 * length island.counts.now ≤ length tables.now.body_constraints.now }
+    requires bounds { 2 * length island.counts.now ≤ length tables.now.body_constraints.now }
+    requires countable { Countable plan island.counts.now (take (2 * length island.counts.now) tables.now.body_constraints.now) tables.now.constraint_body_positions.now }
     ensures { Planned island.entry plan (tables_in tables.now) result }
 {
     PlannedIsland {
@@ -120,21 +112,19 @@ fn run_colored(
     island: Island<'_>,
     plan: ConstraintColoring,
     tables: &mut PlanTables<'_>,
-    turns: &mut [u16],
-    tally: Tally,
-) -> Tally
+    turns: &mut TurnTable<'_>,
+)
     requires counted { Counted island.counts.now tables.old.body_constraints.now tables.old.constraint_body_positions.now }
     requires constraints { (length island.counts.now ≡ 0 → ⊥) → plan.constraint_count ≡ length island.counts.now }
     requires color_count_bound { plan.color_count ≤ 8192 }
-    requires room { Room (added_by (planned_calls island plan (tables_in tables.old))) turns.old tally }
-    requires known { Known island.types.now }
-    ensures appended { Appended (added_by (planned_calls island.entry plan (tables_in tables.old))) turns.old tally turns.new result }
+    requires room { RoomIn (added_by (planned_calls island plan (tables_in tables.old))) turns.old }
+    ensures appended { AppendedTo (added_by (planned_calls island.entry plan (tables_in tables.old))) turns.old turns.new }
     ensures same_tables { SameTables tables.old tables.new }
     ensures same_lengths { lengths_of (tables_in tables.new) ≡ lengths_of (tables_in tables.old) }
 {
     fill_bounds(island.counts, tables.body_constraints);
     let planned = planned_in(island, plan, tables);
-    group_run::run_groups(planned, turns, tally)
+    group_run::run_groups(planned, turns);
 }
 
 // One island: it is colored, and its groups are taken. The tables of the plan are free.
@@ -142,16 +132,14 @@ pub fn run_island(
     island: Island<'_>,
     plan_counts: &mut [u8],
     tables: &mut PlanTables<'_>,
-    turns: &mut [u16],
-    tally: Tally,
-) -> Tally
+    turns: &mut TurnTable<'_>,
+)
     requires ready { Ready island.flags.now island.counts.now island.ends.now (length island.numbers.now) (tables_in tables.old) plan_counts.old }
-    requires room { Room (added_by (calls_for island)) turns.old tally }
-    requires known { Known island.types.now }
-    ensures appended { Appended (added_by (calls_for island.entry)) turns.old tally turns.new result }
+    requires room { RoomIn (added_by (calls_for island)) turns.old }
+    ensures appended { AppendedTo (added_by (calls_for island.entry)) turns.old turns.new }
     ensures same_tables { SameTables tables.old tables.new }
     ensures same_lengths { lengths_of (tables_in tables.new) ≡ lengths_of (tables_in tables.old) }
 {
     let plan = color_island(island, plan_counts, tables);
-    run_colored(island, plan, tables, turns, tally)
+    run_colored(island, plan, tables, turns);
 }

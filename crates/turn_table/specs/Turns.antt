@@ -4,6 +4,7 @@ use Rattle.lists.specs.Basics.{put}
 use Rattle.frame.specs.declared.refusal.Refusal.{Refusal}
 use Rattle.turn_table.specs.declared.Turn.{Turn}
 use Rattle.turn_table.specs.declared.Tally.{Tally}
+use Rattle.turn_table.specs.declared.TurnTable.{TurnTable}
 
 -- entries of the turn table, and takes of dynamic bodies
 pub record Added : Type 0 where
@@ -29,6 +30,14 @@ pub record Appended (a : Added) (t : List ℕ) (s : Tally) (t' : List ℕ) (s' :
   pub table : t' ≡ put s.place a.turns t
   pub place : s'.place ≡ s.place + length a.turns
   pub takes : s'.takes ≡ s.takes + a.takes
+
+-- the same of a table that is lent; it stays the one that was lent
+abbrev pub RoomIn : Added → TurnTable → Type 0
+RoomIn a t = Room a t.turns.now t.tally
+
+pub record AppendedTo (a : Added) (old new : TurnTable) : Type 0 where
+  pub appended : Appended a old.turns.now old.tally new.turns.now new.tally
+  pub kept : new.turns.ghost_name ≡ old.turns.ghost_name
 
 -- nothing is taken yet
 abbrev pub none : Tally

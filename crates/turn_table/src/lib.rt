@@ -3,7 +3,7 @@
 
 ghost use Rattle.std.specs.Prelude.{◌≡◌, ◌+◌, ◌≤◌, length};
 ghost use Rattle.lists.specs.Basics.{put};
-ghost use Rattle.turn_table.specs.Turns.{turn_numbers, added_by_take, Room, Appended, none};
+ghost use Rattle.turn_table.specs.Turns.{turn_numbers, added_by_take, RoomIn, AppendedTo, none};
 
 use frame::Refusal;
 
@@ -29,6 +29,13 @@ pub fn no_turns() -> Tally
     Tally { place: 0, takes: 0 }
 }
 
+// The turn table as it is lent, and its tally so far.
+#[derive(Drop)]
+pub struct TurnTable<'a> {
+    pub turns: &'a mut [u16],
+    pub tally: Tally,
+}
+
 // A turn is written at its place.
 fn put_turn(turns: &mut [u16], place: usize, turn: Turn)
     requires { place + 3 ≤ length turns.old }
@@ -39,19 +46,16 @@ fn put_turn(turns: &mut [u16], place: usize, turn: Turn)
     turns[place + 2] = turn.number;
 }
 
-// A take that is not refused says how many bodies it hands as dynamic, and makes one turn.
-pub fn append(taken: Result<usize, Refusal>, turn: Turn, turns: &mut [u16], tally: Tally) -> Tally
-    requires { Room (added_by_take turn taken) turns.old tally }
-    ensures { Appended (added_by_take turn taken) turns.old tally turns.new result }
-{
-    match taken {
-        Ok(dynamic) => {
-            put_turn(turns, tally.place, turn);
-            Tally {
-                place: tally.place + 3,
-                takes: tally.takes + dynamic,
-            }
+impl TurnTable<'_> {
+    // A take that is not refused says how many bodies it hands as dynamic, and makes one turn.
+    pub fn append(&mut self, taken: Result<usize, Refusal>, turn: Turn)
+        requires { RoomIn (added_by_take turn taken) self.old }
+        ensures { AppendedTo (added_by_take turn taken) self.old self.new }
+    {
+        if let Ok(dynamic) = taken {
+            put_turn(self.turns, self.tally.place, turn);
+            self.tally.place += 3;
+            self.tally.takes += dynamic;
         }
-        Err(_) => tally,
     }
 }

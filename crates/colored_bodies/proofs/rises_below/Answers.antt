@@ -12,11 +12,11 @@ stop low n l i h a = sym (rises-at low n l i h ∙ simp (lt-leb _ _ a))
 pub loop-x-init : goal.loop-x-init
 loop-x-init c = rises_is _ _
 
-pub returns-then-x-low : goal.returns-then-x-low
-returns-then-x-low c = stop _ _ _ _ c.loop-x-test.true c.if-x-low.true ∙ c.loop-x.invariant
+pub returns-then-entry-low : goal.returns-then-entry-low
+returns-then-entry-low c = stop _ _ _ _ c.loop-x-test.true (rw c.from-entry.ensures at c.if-entry-low.true) ∙ c.loop-x.invariant
 
 pub loop-x-preserved : goal.loop-x-preserved
-loop-x-preserved c = next _ _ _ _ c.loop-x-test.true c.if-x-low.false ∙ c.loop-x.invariant
+loop-x-preserved c = rw c.from-entry.ensures (next _ _ _ _ c.loop-x-test.true (rw c.from-entry.ensures at c.if-entry-low.false) ∙ c.loop-x.invariant)
 
 pub returns : goal.returns
 returns c = sym (rises-end _ _ _ _ c.loop-x-test.false) ∙ c.loop-x.invariant

@@ -34,11 +34,10 @@ run_islands-tally-requires-clause-room c =
     rw (c.count_of.ensures, v.types, v.flags, v.counts, v.ends, v.labels, c.labels_in-labels.ensures)
     (room_cut c.args.frame.now c.requires.decodable.file f.new.tables.types.now f.new.tables.flags.now f.new.tables.pairs.now f.new.tables.counts.now f.new.tables.enabled.now _ _ f.new.numbers f.result f.ensures.filled c.args.asked.manifolds c.args.asked.joints k.manifolds k.joints _ c.requires.roomy_sized.turns)
 
-pub run_islands-tally-requires-clause-known : goal.run_islands-tally-requires-clause-known
-run_islands-tally-requires-clause-known c =
+pub filled_in-filled-requires : goal.filled_in-filled-requires
+filled_in-filled-requires c =
     let f = c.fill-filling in
-    rw c.filled_in-filled.ensures.types
-    (types_are_known c.args.frame.now c.requires.decodable.file f.new.tables.types.now f.new.tables.flags.now f.new.tables.pairs.now f.new.tables.counts.now f.new.tables.enabled.now _ _ f.new.numbers f.result f.ensures.filled)
+    types_are_known c.args.frame.now c.requires.decodable.file f.new.tables.types.now f.new.tables.flags.now f.new.tables.pairs.now f.new.tables.counts.now f.new.tables.enabled.now _ _ f.new.numbers f.result f.ensures.filled
 
 pub returns-clause-ran : goal.returns-clause-ran
 returns-clause-ran c =

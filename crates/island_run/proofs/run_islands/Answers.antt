@@ -23,7 +23,7 @@ there c =
     (counts c) c.collect.ensures.0 c.loop-island.invariant.1 c.count_ends.ensures
 
 pub loop-island-init : goal.loop-island-init
-loop-island-init c = (sym (ap length (flatten-zero _)), first-ends _ _, rw c.no_turns-tally.ensures (going_first (islands-first _ _ _ _ _ _)), search rules, search rules)
+loop-island-init c = (sym (ap length (flatten-zero _)), first-ends _ _, going_first (islands-first _ _ _ _ _ _), search rules, search rules)
 
 pub counts_between-counts-requires : goal.counts_between-counts-requires
 counts_between-counts-requires c = counts_there c.requires.prepared (omega arith) c.loop-island.invariant.0 c.part_end-end.ensures c.collect.ensures.1
@@ -51,26 +51,26 @@ offset_bounds-filled-start c =
 pub slice_bounds-part-end-in-loop-island : goal.slice_bounds-part-end-in-loop-island
 slice_bounds-part-end-in-loop-island c = inside (goal.at.slice_bounds-part-end-in-loop-island c).After-part_end-end
 
-pub run_island-tally-requires-clause-ready : goal.run_island-tally-requires-clause-ready
-run_island-tally-requires-clause-ready c =
+pub run_island-requires-clause-ready : goal.run_island-requires-clause-ready
+run_island-requires-clause-ready c =
     ready c.requires.prepared (omega arith) c.loop-island.invariant.0 c.part_end-end.ensures
-    (counts (goal.at.run_island-tally-requires-clause-ready c).After-count_ends) c.collect.ensures.0 c.loop-island.invariant.1 c.count_ends.ensures _ _
+    (counts (goal.at.run_island-requires-clause-ready c).After-count_ends) c.collect.ensures.0 c.loop-island.invariant.1 c.count_ends.ensures _ _
     (lengths_same c.loop-island.invariant.4) c.loop-island.auto.plan_counts
 
-pub run_island-tally-requires-clause-room : goal.run_island-tally-requires-clause-room
-run_island-tally-requires-clause-room c =
-    going_room c.requires.room c.loop-island.invariant.2 _ _
+pub run_island-requires-clause-room : goal.run_island-requires-clause-room
+run_island-requires-clause-room c =
+    going_room (rw c.no_turns.ensures c.requires.room) c.loop-island.invariant.2 _ _
     (island_next c.requires.prepared (omega arith) c.loop-island.invariant.0 c.part_end-end.ensures
-    (counts (goal.at.run_island-tally-requires-clause-room c).After-count_ends) c.collect.ensures.0 c.loop-island.invariant.1 c.count_ends.ensures _)
+    (counts (goal.at.run_island-requires-clause-room c).After-count_ends) c.collect.ensures.0 c.loop-island.invariant.1 c.count_ends.ensures _)
 
 pub loop-island-preserved : goal.loop-island-preserved
 loop-island-preserved c =
     let pc = counts (goal.at.loop-island-preserved c).After-count_ends in (
       next_start c.requires.prepared (omega arith) c.loop-island.invariant.0 c.part_end-end.ensures,
       ends_next c.requires.prepared (omega arith) c.loop-island.invariant.0 c.part_end-end.ensures pc c.collect.ensures.0 c.loop-island.invariant.1 c.count_ends.ensures,
-      going_more c.requires.room c.loop-island.invariant.2 _ _ _ _
+      going_more (rw c.no_turns.ensures c.requires.room) c.loop-island.invariant.2 _ _ _
           (island_next c.requires.prepared (omega arith) c.loop-island.invariant.0 c.part_end-end.ensures pc c.collect.ensures.0 c.loop-island.invariant.1 c.count_ends.ensures _)
-          c.run_island-tally.ensures.appended,
-      same_twice c.loop-island.invariant.3 c.run_island-tally.ensures.same_tables,
-      c.run_island-tally.ensures.same_lengths ∙ c.loop-island.invariant.4,
+          c.run_island.ensures.appended,
+      same_twice c.loop-island.invariant.3 c.run_island.ensures.same_tables,
+      c.run_island.ensures.same_lengths ∙ c.loop-island.invariant.4,
     )

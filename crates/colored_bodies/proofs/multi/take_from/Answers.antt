@@ -1,15 +1,19 @@
 -- A take of marks that is taken had at most four places, and with the bodies' numbers it is the whole take.
+use Rattle.std.proofs.Common.{◌∙◌, arith}
 use Rattle.std.proofs.lemmas.Result.{err_from_is_err_and}
-use Rattle.colored_bodies.proofs.Positions.{taken_handable, takes_refused, takes_taken}
+use Rattle.colored_bodies.proofs.Positions.{taken_handable, takes_refused, takes_taken, entries_four, takes_at_leaving}
 use Rattle.colored_bodies.proofs.multi.take_from.Goals as goal
 
 pub returns-in_err-dynamic : goal.returns-in_err-dynamic
 returns-in_err-dynamic c =
     let p = err_from_is_err_and c.from_residual.result c.from_residual.ensures.1 in
-    rw (p.1, p.2) (takes_refused _ _ _ _ (c.in_err-dynamic.ensures c.args.bodies.now))
+    let kept = c.in_err-dynamic.ensures.same.kept in
+    rw (p.1, p.2) (takes_at_leaving (takes_refused _ _ _ _ (c.in_err-dynamic.ensures.taken c.args.bodies.now)) (grind (arith, kept)))
 
-pub hand-requires : goal.hand-requires
-hand-requires c = taken_handable _ _ _ _ (c.in_ok-dynamic.ensures c.args.bodies.now)
+pub entries_at-requires : goal.entries_at-requires
+entries_at-requires c = (omega arith, (omega arith, taken_handable _ _ _ _ (c.in_ok-dynamic.ensures.taken c.args.bodies.now)))
 
 pub returns : goal.returns
-returns c = takes_taken _ _ _ _ _ (c.in_ok-dynamic.ensures c.args.bodies.now) c.hand.ensures
+returns c =
+    let kept = c.in_ok-dynamic.ensures.same.kept in
+    takes_at_leaving (takes_taken _ _ _ _ _ (c.in_ok-dynamic.ensures.taken c.args.bodies.now) (c.entries_at.ensures ∙ entries_four _ _)) (grind (arith, kept))

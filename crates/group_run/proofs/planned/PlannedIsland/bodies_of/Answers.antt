@@ -1,5 +1,5 @@
 use Rattle.schedules.specs.Runs.{bodies_in}
-use Rattle.group_run.proofs.PlannedIsland.bodies_of.Goals as goal
+use Rattle.group_run.proofs.planned.PlannedIsland.bodies_of.Goals as goal
 
 pub returns : goal.returns
 unfolding bodies_in

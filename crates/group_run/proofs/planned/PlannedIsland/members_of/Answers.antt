@@ -1,5 +1,5 @@
 use Rattle.schedules.specs.Runs.{members_in}
-use Rattle.group_run.proofs.PlannedIsland.members_of.Goals as goal
+use Rattle.group_run.proofs.planned.PlannedIsland.members_of.Goals as goal
 
 pub returns : goal.returns
 unfolding members_in
