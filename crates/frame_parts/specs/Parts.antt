@@ -1,7 +1,9 @@
 -- The frame that stands in a run's tables, the refusal of its islands call, and what counting D needs.
-use Rattle.std.specs.Prelude.{ℕ, ◌*◌, ◌≤◌, ◌≡◌, Bool, true, cond, List, length, take, drop}
+use Rattle.std.specs.Prelude.{ℕ, ◌*◌, ◌≤◌, ◌≡◌, Bool, true, cond, Result, List, length, take, drop}
 use Rattle.frame.specs.declared.Lists.{Lists}
+use Rattle.frame.specs.declared.refusal.Refusal.{Refusal}
 use Rattle.frame.specs.Lists.{frame_in}
+use Rattle.frame.specs.Refusals.{refused_by}
 use Rattle.frame.specs.Frames.{constraints, end_count, all_sound}
 use Rattle.island.specs.Calls.{Rooms, island_refusal, multi_island_refusal}
 
@@ -19,9 +21,9 @@ standing_refusal counted l r = cond counted
     (multi_island_refusal l.types.now l.manifolds.now l.joint_ends.now l.joint_counts.now l.enabled.now r)
     (island_refusal l.types.now l.manifolds.now l.joint_ends.now l.enabled.now r)
 
--- they passed question 7; the joints' counts make no more endpoints than there are
-pub record Countable (l : Lists) (on_bodies : List ℕ) : Type 0 where
+-- unless the islands' call refused them, they passed question 7; the joints' counts make no more endpoints than there are
+pub record Countable (built : Result ℕ Refusal) (l : Lists) (on_bodies : List ℕ) : Type 0 where
   pub joints : end_count l.joint_counts.now ≤ length l.joint_ends.now
   pub counts : length l.types.now ≤ length on_bodies
-  pub sound : all_sound (frame_in l) ≡ true
+  pub sound : refused_by built ≡ 0 → all_sound (frame_in l) ≡ true
   pub few : length (constraints (frame_in l)) ≤ 8192

@@ -2,7 +2,7 @@
 // island, on tables that hold the manifolds' part before the joints'.
 #![tactic(auto)]
 
-ghost use Rattle.std.specs.Prelude.{◌+◌, ◌*◌, ◌≤◌, ◌≡◌, false, ◌++◌, length, take, drop};
+ghost use Rattle.std.specs.Prelude.{◌+◌, ◌*◌, ◌≤◌, ◌≡◌, false, cond, ◌++◌, eqb, length, take, drop};
 ghost use Rattle.frame.specs.Frames.{degree_max};
 ghost use Rattle.frame.specs.Lists.{frame_in};
 ghost use Rattle.frame.specs.Refusals.{refused_by};
@@ -57,11 +57,14 @@ pub fn build(lists: Lists<'_>, counted: bool, tables: &mut IslandTables<'_>) -> 
     island::build_with_joints(lists, tables)
 }
 
-// D of a frame that was not refused. The table is free.
-pub fn degree_of(lists: Lists<'_>, on_bodies: &mut [u16]) -> usize
-    requires { Countable lists on_bodies.old }
-    ensures { result ≡ degree_max (frame_in lists.entry) }
+// D, or 0 of a frame whose islands were refused. The table is free.
+pub fn degree_of(built: Result<u16, Refusal>, lists: Lists<'_>, on_bodies: &mut [u16]) -> usize
+    requires { Countable built lists on_bodies.old }
+    ensures { result ≡ cond (eqb (refused_by built) 0) (degree_max (frame_in lists.entry)) 0 }
 {
+    if built.is_err() {
+        return 0;
+    }
     degrees::degree(lists.asked(), &mut on_bodies[..lists.types.len()])
 }
 

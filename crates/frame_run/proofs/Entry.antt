@@ -8,6 +8,7 @@ use Rattle.frame.specs.Frames.{all_sound}
 use Rattle.frame.specs.Questions.{Question, asked}
 use Rattle.frame.specs.Files.{second, count_b, count_m, count_j, joint_ends_in, decode, file_questions}
 use Rattle.frame.specs.Decodes.{all_counts, Decodable}
+use Rattle.frame.specs.declared.Frame.{Frame}
 use Rattle.frame.specs.declared.refusal.Refusal.{Refusal}
 use Rattle.frame.specs.Refusals.{number_of}
 use Rattle.frame.proofs.Answered.{numbered}
@@ -17,10 +18,10 @@ use Rattle.plan_questions.proofs.Rooms.{Fitted, fitted, fitted-all}
 use Rattle.schedules.specs.Runs.{refused, run_of}
 use Rattle.island_run.proofs.Rooms.{SameLengths}
 use Rattle.frame_tables.specs.Filled.{sound_refusal}
-use Rattle.run_answer.specs.declared.Asked.{Asked}
 use Rattle.run_answer.specs.declared.Report.{Report}
 use Rattle.run_answer.specs.Answers.{Asks}
-use Rattle.run_answer.specs.Lent.{Lent, roomy_for, entries_for, counts_room}
+use Rattle.run_answer.specs.Lent.{Lent, with_counts, roomy_for, entries_for, counts_room}
+use Rattle.run_answer.proofs.Sizes.{counts_by_version}
 use Rattle.frame_run.specs.Calls.{roomy_in, refusal_in, Worked, WorkedCounts, Ran}
 use Rattle.frame_run.specs.Sized.{Cuttable, WornCounts, RoomySized, RanSized}
 use Rattle.frame_run.proofs.Runs.{all_asked, entries-few}
@@ -261,20 +262,20 @@ module _ (bs : List ℕ) (l : Lent) where
   unfolding roomy_in
   stopped_run r h = refused_ran bs l r (refusal_is bs l (number_of r) h.refusal (numbered r)) (not-seven bs l (number_of r) h.refusal (numbered r))
 
-  pub cuttable : (a : Asked) → Asks bs (λ v b m j. roomy_for v b m j l) (Ok a) → Cuttable bs l a
+  pub cuttable : (a : Frame) → Asks bs (λ v b m j. roomy_for v b m j l) (Ok a) → Cuttable bs l a
   unfolding roomy_in
   cuttable a h =
       let q = file_passed bs l 0 h.refusal refl in
       let r = room_passed bs l 0 h.refusal refl in
       let w = wanted_fit bs l q r in
-      let v : a.counted ≡ second bs = ap (λ (x : Asked). x.counted) h.sizes in
-      let b : a.bodies ≡ count_b bs = ap (λ (x : Asked). x.bodies) h.sizes in
-      let m : a.manifolds ≡ count_m bs = ap (λ (x : Asked). x.manifolds) h.sizes in
-      let j : a.joints ≡ count_j bs = ap (λ (x : Asked). x.joints) h.sizes in
-      let n : a.joint_ends ≡ length (joint_ends_in bs) = ap (λ (x : Asked). x.joint_ends) h.sizes in
+      let v : with_counts a.version ≡ second bs = ap (λ (x : Frame). with_counts x.version) h.sizes ∙ counts_by_version (second bs) in
+      let b : a.bodies ≡ count_b bs = ap (λ (x : Frame). x.bodies) h.sizes in
+      let m : a.manifolds ≡ count_m bs = ap (λ (x : Frame). x.manifolds) h.sizes in
+      let j : a.joints ≡ count_j bs = ap (λ (x : Frame). x.joints) h.sizes in
+      let n : a.joint_ends ≡ length (joint_ends_in bs) = ap (λ (x : Frame). x.joint_ends) h.sizes in
       let few = entries-few bs q in
       let size = file_sized bs q in
-      let c : counts_room a.counted a.manifolds a.joints ≡ counts_room (second bs) (count_m bs) (count_j bs) = rw (v, m, j) refl in
+      let c : counts_room (with_counts a.version) a.manifolds a.joints ≡ counts_room (second bs) (count_m bs) (count_j bs) = rw (v, m, j) refl in
       record {
         file = q;
         room = r;
@@ -297,9 +298,9 @@ module _ (bs : List ℕ) (l : Lent) where
       }
 
   -- the tables cut to the sizes have room
-  module _ {a : Asked} (s : Cuttable bs l a) where
+  module _ {a : Frame} (s : Cuttable bs l a) where
     abbrev counted : ℕ
-    counted = counts_room a.counted a.manifolds a.joints
+    counted = counts_room (with_counts a.version) a.manifolds a.joints
 
     counts_cut : (x : List ℕ) → counted ≤ length x → length (take counted x) ≡ length (all_counts bs)
     counts_cut x h = length-take-le counted x h ∙ s.counted

@@ -10,17 +10,17 @@ ghost use Rattle.frame_tables.specs.Lent.{SameFrame, SameByIsland};
 ghost use Rattle.island.specs.Lent as island_lent;
 ghost use Rattle.island_numbers.specs.Tables.{labels_of};
 ghost use Rattle.plan_questions.specs.Lent as plan_lent;
-ghost use Rattle.run_answer.specs.Lent.{lent_of, lent_in, counts_room};
+ghost use Rattle.run_answer.specs.Lent.{lent_of, lent_in, with_counts, counts_room};
 ghost use Rattle.frame_run.specs.Calls.{Ran};
 ghost use Rattle.frame_run.specs.Sized.{Cuttable, CutTo, WornCounts, RoomySized, RanSized};
 
-use frame::Refusal;
+use frame::{Frame, Refusal};
 use frame_tables::{ByIsland, Filling, FrameTables};
 use island::IslandTables;
 use island_numbers::IslandLabels;
 use island_run::FilledFrame;
 use plan_questions::PlanTables;
-use run_answer::{Asked, Report};
+use run_answer::Report;
 
 // How many islands are run: none after 7, so that nothing is taken.
 fn count_of(filling: Result<Filling, Refusal>) -> u16
@@ -67,7 +67,7 @@ fn filled_in<'a>(
 // The run of a file that passed questions 1 to 6, on frame tables of its sizes: the tables of the constraints by island, and the plan's
 // counts, are cut to them.
 fn run_sized(
-    asked: Asked,
+    asked: Frame,
     frame: &[u8],
     islands: &mut IslandTables<'_>,
     turns: &mut [u16],
@@ -82,19 +82,19 @@ fn run_sized(
         tables.old.enabled.now }
     requires cut_to { CutTo frame.now asked numbers.old island_pairs.old island_counts.old plan_counts.old }
     requires roomy_sized { RoomySized frame.now (island_lent.tables_in islands.old) turns.old (take (2 * asked.manifolds + asked.joint_ends) island_pairs.old)
-        (take (counts_room asked.counted asked.manifolds asked.joints) island_counts.old) (take (asked.manifolds + asked.joints) numbers.old)
-        (plan_lent.tables_in plan.old) (take (counts_room asked.counted asked.manifolds asked.joints) plan_counts.old) }
+        (take (counts_room (with_counts asked.version) asked.manifolds asked.joints) island_counts.old) (take (asked.manifolds + asked.joints) numbers.old)
+        (plan_lent.tables_in plan.old) (take (counts_room (with_counts asked.version) asked.manifolds asked.joints) plan_counts.old) }
     ensures ran { RanSized frame.now (island_lent.tables_in islands.old) turns.old (island_lent.tables_in islands.new) turns.new result }
     ensures same_islands { island_lent.SameTables islands.old islands.new }
     ensures same_frame { SameFrame tables.old tables.new }
     ensures same_plan { plan_lent.SameTables plan.old plan.new }
     ensures plan_lengths { plan_lent.lengths_of (plan_lent.tables_in plan.new) ≡ plan_lent.lengths_of (plan_lent.tables_in plan.old) }
-    ensures worn_islands { WornCounts asked.counted island_counts.old island_counts.new }
-    ensures worn_plan { WornCounts asked.counted plan_counts.old plan_counts.new }
+    ensures worn_islands { WornCounts (with_counts asked.version) island_counts.old island_counts.new }
+    ensures worn_plan { WornCounts (with_counts asked.version) plan_counts.old plan_counts.new }
 {
     let constraints = asked.manifolds + asked.joints;
     let entries = 2 * asked.manifolds + asked.joint_ends;
-    let counted = run_answer::counts_room(asked.counted, asked.manifolds, asked.joints);
+    let counted = run_answer::counts_room(asked);
     let filling = frame_tables::fill(
         frame,
         asked.manifolds,
@@ -120,7 +120,7 @@ fn run_sized(
 // The run of a file that passed questions 1 to 6: the frame's tables are cut to its sizes. Where the constraints have no counts, the tables of
 // counts are cut to nothing, and so stay as they were.
 fn run_cut(
-    asked: Asked,
+    asked: Frame,
     frame: &[u8],
     islands: &mut IslandTables<'_>,
     turns: &mut [u16],
@@ -144,7 +144,7 @@ fn run_cut(
     ensures same_by_island { SameByIsland by_island.old by_island.new }
     ensures same_plan { plan_lent.SameTables plan.old plan.new }
 {
-    let counted = run_answer::counts_room(asked.counted, asked.manifolds, asked.joints);
+    let counted = run_answer::counts_room(asked);
     let (types, _) = types.split_at_mut(asked.bodies);
     let (flags, _) = flags.split_at_mut(asked.bodies);
     let (pairs, _) = pairs.split_at_mut(2 * asked.manifolds + asked.joint_ends);

@@ -198,11 +198,11 @@ module _ (bs : List ℕ) (e : asked (file_questions bs) ≡ 0) where
           unfolding sound_refusal
           refused-unsound n = by_cases (all_sound f) (λ ok. absurd (n (rw ok at built.refusal))) (λ ok. ok)
 
-          pub countable : refused_by r ≡ 0 → Countable l ds
-          countable z = record {
+          pub countable : Countable r l ds
+          countable = record {
             joints = rw (joints-counted, rest) (ends_enough bs);
             counts = omega (arith, ap length types-are, types_long bs e, room.on_bodies);
-            sound = rw frame_is (accepted-sound z);
+            sound = λ z. rw frame_is (accepted-sound z);
             few = subst (λ (g : Frame). length (constraints g) ≤ 8192) (sym frame_is) few_constraints;
           }
 
@@ -236,11 +236,11 @@ module _ (bs : List ℕ) (e : asked (file_questions bs) ≡ 0) where
 
               -- ---- and the answer
 
-              pub filled : (n c : ℕ) → r ≡ Ok n → c ≡ degree_max (frame_in l) → Fills bs ts fs ps cs es t u ns' (Ok (record { islands = n; degree = c }))
+              pub filled : (n c : ℕ) → r ≡ Ok n → c ≡ cond (eqb (refused_by r) 0) (degree_max (frame_in l)) 0 → Fills bs ts fs ps cs es t u ns' (Ok (record { islands = n; degree = c }))
               filled n c er ec = record {
                 decoded = d;
                 islands = rw er at built;
-                degree = rw (accepted-sound (ap refused_by er)) (ec ∙ ap degree_max frame_is);
+                degree = rw (accepted-sound (ap refused_by er)) (rw er at ec ∙ ap degree_max frame_is);
                 numbers = rw er at sorted;
               }
 

@@ -88,6 +88,7 @@ pub fn fill(
     let joints = tables.enabled.len();
     let lists = lists_in(tables, manifolds);
     let built = frame_parts::build(lists, counted, islands);
+    let degree = frame_parts::degree_of(built, lists, plan.body_stamps);
     frame_parts::sort(
         islands,
         manifolds,
@@ -99,8 +100,5 @@ pub fn fill(
         numbers,
     );
     let islands = built?;
-    Ok(Filling {
-        islands,
-        degree: frame_parts::degree_of(lists, plan.body_stamps),
-    })
+    Ok(Filling { islands, degree })
 }

@@ -12,6 +12,7 @@ ghost use Rattle.writer.specs.Wrote.{Wrote, SameBytes};
 ghost use Rattle.print_pieces.specs.Pieces.{answer_line, InputAnswered, PiecePlaced, FirstPiece, NextPiece};
 
 use frame::{Frame, Refusal};
+use printing::PrintedFrame;
 use run_answer::Report;
 use writer::Writer;
 
@@ -98,17 +99,16 @@ fn used(turns: &[u16], count: usize) -> &[u16]
 // Ends a piece with the lines from turn `first` on.
 fn put_lines(
     text: &mut Writer<'_>,
-    frame: &[u8],
+    frame: PrintedFrame<'_>,
     turns: &[u16],
-    places: &[u16],
     count: usize,
     first: usize,
 ) -> Piece
     ensures same { SameBytes text.old text.new }
     ensures size { (result.size ≡ text.new.at) × (result.turns ≡ count) }
-    ensures lines { Placed frame.now (take (3 * count) turns.now) places.now → Lines frame.now (take (3 * count) turns.now) first text.old text.new result.next }
+    ensures lines { Placed frame.entry.bytes.now (take (3 * count) turns.now) frame.entry.places.now → Lines frame.entry.bytes.now (take (3 * count) turns.now) first text.old text.new result.next }
 {
-    let next = printing::put_turns(text, used(turns, count), first, frame, places);
+    let next = printing::put_turns(text, used(turns, count), first, frame);
     Piece {
         size: text.at,
         turns: count,
@@ -133,7 +133,11 @@ pub fn first_piece(
     }
     let mut text = Writer { out, at: 0 };
     put_first_line(&mut text, answer);
-    put_lines(&mut text, frame, turns, places, count, 0)
+    let printed = PrintedFrame {
+        bytes: frame,
+        places,
+    };
+    put_lines(&mut text, printed, turns, count, 0)
 }
 
 // The piece after another one of the same print. Of a version 2 file nothing is promised unless `places` has its joints' places.
@@ -147,5 +151,9 @@ pub fn next_piece(
     ensures { PiecePlaced frame.now piece places.now → NextPiece frame.now turns.now out.old piece out.new result }
 {
     let mut text = Writer { out, at: 0 };
-    put_lines(&mut text, frame, turns, places, piece.turns, piece.next)
+    let printed = PrintedFrame {
+        bytes: frame,
+        places,
+    };
+    put_lines(&mut text, printed, turns, piece.turns, piece.next)
 }

@@ -1,6 +1,6 @@
 -- Lines are gathered turn by turn: what was gathered and what is still to be gathered make up what the definition gathers.
--- A turn that is not ready puts nothing, and no line is empty, so a place that stays tells that the gathering ends.
-use Rattle.std.proofs.Common.{ℕ, zero, suc, ◌+◌, ◌-◌, ◌*◌, ◌/◌, ◌≤◌, ◌<◌, ◌≡◌, refl, sym, ap, subst, ◌∙◌, true, false, List, [], ◌∷◌, ◌++◌, map, append_assoc, append-nil, arith, leb, ltb, length, get_or, take, drop, length-append, length-drop, drop-cons, drop-drop, take-add, length-take-le, get_or-take, lt-ltb, le-ltb, ltb-true, ltb-false, leb-true}
+-- A turn that is not ready puts nothing, and ends the gathering.
+use Rattle.std.proofs.Common.{ℕ, zero, suc, ◌+◌, ◌-◌, ◌*◌, ◌≤◌, ◌<◌, ◌≡◌, refl, sym, ap, subst, ◌∙◌, Bool, true, false, List, [], ◌∷◌, ◌++◌, map, append_assoc, append-nil, arith, leb, ltb, length, get_or, take, drop, length-append, length-drop, drop-drop, drop_at, take-add, length-take-le, get_or-take, lt-ltb, le-ltb, ltb-true, ltb-false, leb-true}
 use Rattle.lists.proofs.Laws.{by_cases, and_left, and_right}
 use Rattle.frame.specs.Frames.{Frame, constraint_at}
 use Rattle.frame.specs.Questions.{asked}
@@ -11,6 +11,8 @@ use Rattle.schedules.specs.Print.{decimal, spaced, turn_line, turn_lines}
 use Rattle.print_fields.specs.Puts.{if_left}
 use Rattle.printing.specs.declared.Ends.{Ends}
 use Rattle.printing.specs.Turns.{Standing, EndsStand, longest_turn, longest_of, line_of, ready, if_ready, gathered, turns_from, lines_of, Lines}
+use Rattle.turn_table.specs.declared.Turn.{Turn}
+use Rattle.turn_table.specs.Turns.{turn_numbers}
 use Rattle.writer.specs.declared.Writer.{Writer}
 use Rattle.writer.specs.Wrote.{Wrote}
 use Rattle.writer.proofs.Writes.{wrote_none, wrote_then, wrote_also}
@@ -85,6 +87,14 @@ pub no_constraint : (bs : List ℕ) (old : Writer) (i k n : ℕ) → count_m bs 
 unfolding if_ready ready
 no_constraint bs old i k n h = rw (le-ltb n (count_m bs + count_j bs) h) (wrote_none old)
 
+pub never_ready : (bs : List ℕ) (old : Writer) (n : ℕ) → count_m bs + count_j bs ≤ n → false ≡ ready bs (length old.out.now) old.at n
+unfolding ready
+never_ready bs old n h = rw (le-ltb n (count_m bs + count_j bs) h) refl
+
+pub ready_with_ends : (bs : List ℕ) (old : Writer) (i k n : ℕ) (e : Ends) {b : Bool} → n < count_m bs + count_j bs → EndsStand bs n e → b ≡ leb (old.at + longest_turn e.count) (length old.out.now) → b ≡ ready bs (length old.out.now) old.at n
+unfolding ready
+ready_with_ends bs old i k n e h w b_is = b_is ∙ rw (lt-ltb n (count_m bs + count_j bs) h, count_is bs i k n e w) refl
+
 pub with_ends : (bs : List ℕ) (old : Writer) (i k n : ℕ) (e : Ends) (new : Writer) → n < count_m bs + count_j bs → EndsStand bs n e
     → Wrote (if_left (longest_turn e.count) (length old.out.now) old.at (turn_line i k n (halves_from bs e.at e.count))) old new → Wrote (if_ready bs (length old.out.now) old.at i k n) old new
 unfolding if_ready ready if_left
@@ -127,18 +137,11 @@ lines_append f (suc d) (i ∷ []) ys e = absurd (omega arith)
 lines_append f (suc d) (i ∷ k ∷ []) ys e = absurd (omega arith)
 lines_append f (suc d) (i ∷ k ∷ n ∷ xs) ys e = rw (lines_append f d xs ys (omega arith), append_assoc)
 
--- the next turn of a turn table
-next_turn : (turns : List ℕ) (t : ℕ) → t < length turns / 3 → turns_from turns t ≡ get_or turns (3 * t) 0 ∷ get_or turns (3 * t + 1) 0 ∷ get_or turns (3 * t + 2) 0 ∷ turns_from turns (t + 1)
-next_turn turns t h =
-    let a : suc (3 * t) ≡ 3 * t + 1 = omega arith in
-    let b : suc (3 * t + 1) ≡ 3 * t + 2 = omega arith in
-    let c : suc (3 * t + 2) ≡ 3 * (t + 1) = omega arith in
-    drop-cons turns (3 * t) 0 (omega arith)
-    ∙ ap (λ (m : ℕ). get_or turns (3 * t) 0 ∷ drop m turns) a
-    ∙ ap (λ (l : List ℕ). get_or turns (3 * t) 0 ∷ l) (drop-cons turns (3 * t + 1) 0 (omega arith))
-    ∙ ap (λ (m : ℕ). get_or turns (3 * t) 0 ∷ get_or turns (3 * t + 1) 0 ∷ drop m turns) b
-    ∙ ap (λ (l : List ℕ). get_or turns (3 * t) 0 ∷ get_or turns (3 * t + 1) 0 ∷ l) (drop-cons turns (3 * t + 2) 0 (omega arith))
-    ∙ ap (λ (m : ℕ). get_or turns (3 * t) 0 ∷ get_or turns (3 * t + 1) 0 ∷ get_or turns (3 * t + 2) 0 ∷ drop m turns) c
+-- the next turn stands in three entries, and the turns after it in the rest
+pub next_turn : (turns : List ℕ) (t : ℕ) (x rest : List ℕ) → turns_from turns t ≡ x ++ rest → length x ≡ 3 → rest ≡ turns_from turns (t + 1)
+next_turn turns t x rest e l =
+    let m : 3 * t + 3 ≡ 3 * (t + 1) = omega arith in
+    sym (drop_at x rest 3 l) ∙ ap (drop 3) (sym e) ∙ drop-drop 3 (3 * t) turns ∙ ap (λ (j : ℕ). drop j turns) m
 
 -- no turn is left
 no_turn : (bs : List ℕ) (size at : ℕ) (l : List ℕ) → length l < 3 → gathered bs size at l ≡ 0
@@ -190,60 +193,56 @@ module _ (bs turns : List ℕ) (first : ℕ) (old mid : Writer) (t : ℕ) (g : G
       }
 
   -- all turns are gathered
-  pub gather_all : length turns / 3 ≤ t → Lines bs turns first old mid t
-  gather_all h = gather_end (no_turn bs (length old.out.now) mid.at (turns_from turns t) (omega (arith, length-drop (3 * t) turns)))
+  pub gather_all : length (turns_from turns t) < 3 → Lines bs turns first old mid t
+  gather_all h = gather_end (no_turn bs (length old.out.now) mid.at (turns_from turns t) h)
 
   -- the next turn, with its line put or nothing
-  module _ (h : t < length turns / 3) (i k n : ℕ) (ei : i ≡ get_or turns (3 * t) 0) (ek : k ≡ get_or turns (3 * t + 1) 0) (en : n ≡ get_or turns (3 * t + 2) 0)
-      (new : Writer) (p : Wrote (if_ready bs (length mid.out.now) mid.at i k n) mid new) where
+  module _ (turn : Turn) (x rest : List ℕ) (e : turns_from turns t ≡ x ++ rest) (l : length x ≡ 3) (m : turn_numbers turn ≡ x)
+      (new : Writer) (p : Wrote (if_ready bs (length mid.out.now) mid.at turn.island turn.group turn.number) mid new) where
+    abbrev i : ℕ
+    i = turn.island
+
+    abbrev k : ℕ
+    k = turn.group
+
+    abbrev n : ℕ
+    n = turn.number
+
     here : turns_from turns t ≡ i ∷ k ∷ n ∷ turns_from turns (t + 1)
-    here = next_turn turns t h ∙ rw (ei, ek, en)
-
-    -- what was put: the line, or nothing
-    was : ready bs (length old.out.now) mid.at n ≡ true → Wrote (line_of bs i k n) mid new
-    was e =
-        subst (λ (l : List ℕ). Wrote l mid new) (ready_text bs (length old.out.now) mid.at i k n e)
-        (subst (λ (s : ℕ). Wrote (if_ready bs s mid.at i k n) mid new) g.wrote.long p)
-
-    was_not : ready bs (length old.out.now) mid.at n ≡ false → Wrote [] mid new
-    was_not e =
-        subst (λ (l : List ℕ). Wrote l mid new) (unready_text bs (length old.out.now) mid.at i k n e)
-        (subst (λ (s : ℕ). Wrote (if_ready bs s mid.at i k n) mid new) g.wrote.long p)
+    here = e ∙ ap (λ (r : List ℕ). x ++ r) (next_turn turns t x rest e l) ∙ ap (λ (y : List ℕ). y ++ turns_from turns (t + 1)) (sym m)
 
     -- it was not ready
-    pub gather_stop : new.at ≡ mid.at → Lines bs turns first old new t
-    gather_stop e =
-        by_cases (ready bs (length old.out.now) mid.at n)
-        (λ y. absurd (omega (arith, (was y).next, line_some bs i k n)))
-        (λ y.
-        let l = gather_end (ap (gathered bs (length old.out.now) mid.at) here ∙ unready_count bs (length old.out.now) mid.at i k n (turns_from turns (t + 1)) y) in
-        record { wrote = wrote_also l.wrote (was_not y); turn = l.turn })
+    pub gather_stop : ready bs (length mid.out.now) mid.at n ≡ false → Lines bs turns first old new t
+    gather_stop unready =
+        let y : ready bs (length old.out.now) mid.at n ≡ false = rw g.wrote.long at unready in
+        let lines = gather_end (ap (gathered bs (length old.out.now) mid.at) here ∙ unready_count bs (length old.out.now) mid.at i k n (turns_from turns (t + 1)) y) in
+        record { wrote = wrote_also lines.wrote (subst (λ (text : List ℕ). Wrote text mid new) (unready_text bs (length mid.out.now) mid.at i k n unready) p); turn = lines.turn }
 
     -- it was ready
-    pub gather_turn : (second bs ≡ true → asked (file_questions bs) ≡ 0) → (new.at ≡ mid.at → ⊥) → Gathering bs turns first old new (t + 1)
-    gather_turn file e =
-        by_cases (ready bs (length old.out.now) mid.at n)
-        (λ y.
+    pub gather_turn : (second bs ≡ true → asked (file_questions bs) ≡ 0) → ready bs (length mid.out.now) mid.at n ≡ true → Gathering bs turns first old new (t + 1)
+    gather_turn file is_ready =
+        let y : ready bs (length old.out.now) mid.at n ≡ true = rw g.wrote.long at is_ready in
+        let was = subst (λ (text : List ℕ). Wrote text mid new) (ready_text bs (length mid.out.now) mid.at i k n is_ready) p in
         let d = t - first in
-        let rest = turns_from turns first in
+        let left = turns_from turns first in
         let q : t + 1 - first ≡ d + 1 = omega (arith, g.past) in
         let s : 3 * first + 3 * d ≡ 3 * t = omega (arith, g.past) in
-        let f : drop (3 * d) rest ≡ i ∷ k ∷ n ∷ turns_from turns (t + 1) = drop-drop (3 * d) (3 * first) turns ∙ ap (λ (j : ℕ). drop j turns) s ∙ here in
-        let l : lines_of bs rest (d + 1) ≡ lines_of bs rest d ++ line_of bs i k n =
-        lines_more bs rest d i k n (turns_from turns (t + 1)) (omega (arith, g.past, length-drop (3 * first) turns)) f in
+        let f : drop (3 * d) left ≡ i ∷ k ∷ n ∷ turns_from turns (t + 1) = drop-drop (3 * d) (3 * first) turns ∙ ap (λ (j : ℕ). drop j turns) s ∙ here in
+        let some : 3 * t ≤ length turns = omega (arith, length-drop (3 * t) turns, ap length here) in
+        let more : lines_of bs left (d + 1) ≡ lines_of bs left d ++ line_of bs i k n =
+        lines_more bs left d i k n (turns_from turns (t + 1)) (omega (arith, g.past, some, length-drop (3 * first) turns)) f in
         let room = ready_room bs (length old.out.now) mid.at i k n y in
         let short = line_short bs i k n file (ready_pair bs (length old.out.now) mid.at i k n y) in
         record {
           past = omega (arith, g.past);
-          wrote = rw (q, l) (wrote_then g.wrote (was y) (omega (arith, g.wrote.next, room, short)));
+          wrote = rw (q, more) (wrote_then g.wrote was (omega (arith, g.wrote.next, room, short)));
           count =
               g.count
-              ∙ ap (λ (x : List ℕ). d + gathered bs (length old.out.now) mid.at x) here
-              ∙ ap (λ (x : ℕ). d + x) (ready_count bs (length old.out.now) mid.at i k n (turns_from turns (t + 1)) y)
-              ∙ ap (λ (x : ℕ). d + suc (gathered bs (length old.out.now) x (turns_from turns (t + 1)))) (sym (was y).next)
+              ∙ ap (λ (r : List ℕ). d + gathered bs (length old.out.now) mid.at r) here
+              ∙ ap (λ (r : ℕ). d + r) (ready_count bs (length old.out.now) mid.at i k n (turns_from turns (t + 1)) y)
+              ∙ ap (λ (r : ℕ). d + suc (gathered bs (length old.out.now) r (turns_from turns (t + 1)))) (sym was.next)
               ∙ omega (arith, q);
-        })
-        (λ y. absurd (e (omega (arith, (was_not y).next))))
+        }
 
 -- no more turns are gathered than there are
 pub gathered-few : (bs : List ℕ) (size at : ℕ) (turns : List ℕ) → 3 * gathered bs size at turns ≤ length turns

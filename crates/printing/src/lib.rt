@@ -3,15 +3,17 @@
 // are left than a line may have, nothing is written.
 #![tactic(auto)]
 
-ghost use Rattle.std.specs.Prelude.{◌≡◌, ◌∷◌, [], ◌+◌, ◌-◌, ◌*◌, ◌≤◌, ◌<◌, true, length, get_or, map};
+ghost use Rattle.std.specs.Prelude.{◌≡◌, ◌∷◌, [], ◌+◌, ◌-◌, ◌*◌, ◌≤◌, ◌<◌, true, leb, length, get_or, map};
 ghost use Rattle.frame.specs.Files.{count_m, count_j, second, halves_from};
 ghost use Rattle.schedules.specs.Print.{decimal, line, head_of, turn_line, refusal_line};
 ghost use Rattle.print_fields.specs.Puts.{if_left, if_room};
-ghost use Rattle.printing.specs.Turns.{Standing, EndsStand, longest_turn, if_ready, Placed, Lines};
+ghost use Rattle.printing.specs.Turns.{Standing, EndsStand, longest_turn, ready, if_ready, turns_from, Placed, Lines};
+ghost use Rattle.turn_table.specs.Turns.{turn_numbers};
 ghost use Rattle.writer.specs.Wrote.{Wrote, SameBytes};
 
 use frame::Frame;
 use print_fields::{put_field, put_number};
+use turn_table::Turn;
 use writer::Writer;
 
 // No head, refusal or turn of two bodies is longer.
@@ -19,6 +21,13 @@ pub const MAX_LINE: usize = 111;
 
 // No turn of three or four bodies is longer.
 const MAX_TURN: usize = 147;
+
+// A file whose turns are printed, and a table with the places of its joints' entries.
+#[derive(Clone, Copy)]
+pub struct PrintedFrame<'a> {
+    pub bytes: &'a [u8],
+    pub places: &'a [u16],
+}
 
 // Where the endpoints of a constraint stand in a file, one behind another, and how many there are.
 #[derive(Clone, Copy)]
@@ -62,26 +71,21 @@ fn put_ends(out: &mut Writer<'_>, frame: &[u8], ends: Ends)
     put_number(out, frame::half_or_zero(frame, ends.at + 2 * last), b'\n');
 }
 
-// The line of a turn: island, group, constraint and its two to four endpoints, which stand in a file.
-fn put_turn_line(
-    out: &mut Writer<'_>,
-    island: usize,
-    group: usize,
-    constraint: usize,
-    frame: &[u8],
-    ends: Ends,
-)
+// The line of a turn: island, group, constraint and its two to four endpoints, which stand in a file; answers whether there was room.
+fn put_turn_line(out: &mut Writer<'_>, turn: Turn, frame: &[u8], ends: Ends) -> bool
     requires some { (1 ≤ ends.count) × (ends.count ≤ 4) }
     requires near { ends.at + 2 * (ends.count - 1) < 1048576 }
-    ensures { Wrote (if_left (longest_turn ends.count) (length out.old.out.now) out.old.at (turn_line island group constraint (halves_from frame.now ends.at ends.count))) out.old out.new }
+    ensures wrote { Wrote (if_left (longest_turn ends.count) (length out.old.out.now) out.old.at (turn_line turn.island turn.group turn.number (halves_from frame.now ends.at ends.count))) out.old out.new }
+    ensures room { result ≡ leb (out.old.at + longest_turn ends.count) (length out.old.out.now) }
 {
     if !out.has_room(turn_most(ends.count)) {
-        return;
+        return false;
     }
-    put_number(out, island, b' ');
-    put_number(out, group, b' ');
-    put_number(out, constraint, b' ');
+    put_number(out, usize::from(turn.island), b' ');
+    put_number(out, usize::from(turn.group), b' ');
+    put_number(out, usize::from(turn.number), b' ');
     put_ends(out, frame, ends);
+    true
 }
 
 // A refusal, by its number.
@@ -98,7 +102,7 @@ pub fn put_refusal(out: &mut Writer<'_>, number: usize)
 fn place_at(places: &[u16], i: usize) -> usize
     ensures { (result ≡ get_or places.now i 0) × (result < 65536) }
 {
-    places.get(i).copied().unwrap_or(0) as usize
+    usize::from(places.get(i).copied().unwrap_or(0))
 }
 
 // A count of endpoints as it is from 2 to 4, else one of these.
@@ -112,44 +116,62 @@ fn two_to_four(count: usize) -> usize
 // Where the endpoints of a constraint of the file stand: of a manifold, and on version 1, by arithmetic; of a joint of version 2
 // behind its entry's count, and the entry is where `places` says. Where the table is not the file's, it is two to four
 // numbers anywhere.
-fn ends_of(frame: &[u8], places: &[u16], constraint: usize) -> Ends
+fn ends_of(frame: PrintedFrame<'_>, constraint: usize) -> Ends
     requires { constraint < 131072 }
     ensures few { (2 ≤ result.count) × (result.count ≤ 4) × (result.at + 2 * (result.count - 1) < 1048576) }
-    ensures there { constraint < count_m frame.now + count_j frame.now → (second frame.now ≡ true → Standing frame.now places.now) → EndsStand frame.now constraint result }
+    ensures there { constraint < count_m frame.entry.bytes.now + count_j frame.entry.bytes.now → (second frame.entry.bytes.now ≡ true → Standing frame.entry.bytes.now frame.entry.places.now) → EndsStand frame.entry.bytes.now constraint result }
 {
-    if frame::is_second(frame) {
-        let manifolds = frame::half_or_zero(frame, 7);
+    if frame::is_second(frame.bytes) {
+        let manifolds = frame::half_or_zero(frame.bytes, 7);
         if manifolds <= constraint {
-            let place = place_at(places, constraint - manifolds);
+            let place = place_at(frame.places, constraint - manifolds);
             return Ends {
                 at: place + 2,
-                count: two_to_four(frame::byte_or_zero(frame, place + 1)),
+                count: two_to_four(frame::byte_or_zero(frame.bytes, place + 1)),
             };
         }
     }
     Ends {
-        at: frame::ends_at(frame, constraint),
+        at: frame::ends_at(frame.bytes, constraint),
         count: 2,
     }
 }
 
-// The line of a turn, with its constraint's endpoints out of the file; nothing where there is no such constraint.
-fn put_turn(
-    out: &mut Writer<'_>,
-    island: usize,
-    group: usize,
-    constraint: usize,
-    frame: &[u8],
-    places: &[u16],
-)
+// The line of a turn, with its constraint's endpoints out of the file; answers whether it is put: not where there is no such constraint, or
+// no room.
+fn put_turn(out: &mut Writer<'_>, turn: Turn, frame: PrintedFrame<'_>) -> bool
     ensures same { SameBytes out.old out.new }
-    ensures wrote { (second frame.now ≡ true → Standing frame.now places.now) → Wrote (if_ready frame.now (length out.old.out.now) out.old.at island group constraint) out.old out.new }
+    ensures wrote { (second frame.entry.bytes.now ≡ true → Standing frame.entry.bytes.now frame.entry.places.now) → Wrote (if_ready frame.entry.bytes.now (length out.old.out.now) out.old.at turn.island turn.group turn.number) out.old out.new }
+    ensures put { (second frame.entry.bytes.now ≡ true → Standing frame.entry.bytes.now frame.entry.places.now) → result ≡ ready frame.entry.bytes.now (length out.old.out.now) out.old.at turn.number }
 {
-    if frame::constraint_count(frame) <= constraint {
-        return;
+    let constraint = usize::from(turn.number);
+    if frame::constraint_count(frame.bytes) <= constraint {
+        return false;
     }
-    let ends = ends_of(frame, places, constraint);
-    put_turn_line(out, island, group, constraint, frame, ends);
+    let ends = ends_of(frame, constraint);
+    put_turn_line(out, turn, frame.bytes, ends)
+}
+
+// The part of a turn table from a turn on.
+fn turns_from(turns: &[u16], first: usize) -> &[u16]
+    ensures { result.now ≡ turns_from turns.now first }
+{
+    if turns.len() / 3 < first {
+        return &[];
+    }
+    &turns[3 * first..]
+}
+
+// The turn that three entries of a turn table are.
+fn turn_in(numbers: &[u16]) -> Turn
+    requires { length numbers.now ≡ 3 }
+    ensures { turn_numbers result ≡ numbers.now }
+{
+    Turn {
+        island: numbers[0],
+        group: numbers[1],
+        number: numbers[2],
+    }
 }
 
 // The lines of a file's turn table from turn `first` on, as far as there is room; answers the first turn that is left. Of a version 2
@@ -158,23 +180,18 @@ pub fn put_turns(
     out: &mut Writer<'_>,
     turns: &[u16],
     first: usize,
-    frame: &[u8],
-    places: &[u16],
+    frame: PrintedFrame<'_>,
 ) -> usize
     ensures same { SameBytes out.old out.new }
-    ensures lines { Placed frame.now turns.now places.now → Lines frame.now turns.now first out.old out.new result }
+    ensures lines { Placed frame.entry.bytes.now turns.now frame.entry.places.now → Lines frame.entry.bytes.now turns.now first out.old out.new result }
 {
-    let end = turns.len() / 3;
+    let mut turn = first;
     // The lines of the turns from `first` to `turn` are put.
-    for turn in first..end {
-        let before = out.at;
-        let island = turns[3 * turn] as usize;
-        let group = turns[3 * turn + 1] as usize;
-        let constraint = turns[3 * turn + 2] as usize;
-        put_turn(out, island, group, constraint, frame, places);
-        if out.at == before {
+    for numbers in turns_from(turns, first).chunks_exact(3) {
+        if !put_turn(out, turn_in(numbers), frame) {
             return turn;
         }
+        turn += 1;
     }
-    first.max(end)
+    turn
 }

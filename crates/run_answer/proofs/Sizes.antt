@@ -1,12 +1,15 @@
 -- The sizes of a file that was read, and the answer of one that was not.
 use Rattle.std.proofs.Common.{ℕ, ◌≤◌, ◌≡◌, List, Ok, refl, Bool, true, false, cond, sym}
-use denote.Enum.Bare.{sameb}
-use Rattle.frame.specs.contracts.Version.{the_type}
 use Rattle.frame.specs.declared.Version.TheVariants.{First, Second}
 use Rattle.frame.specs.Files.{second}
 use Rattle.frame.specs.declared.Frame.{Frame}
 use Rattle.frame.specs.Answers.{sizes_of, Read}
 use Rattle.frame.proofs.Files.{file_sized}
+use Rattle.run_answer.specs.Lent.{with_counts}
+
+pub counts_by_version : (b : Bool) → with_counts (cond b Second First) ≡ b
+counts_by_version true = refl
+counts_by_version false = refl
 
 module _ (bs : List ℕ) (f : Frame) (h : Read bs (Ok f)) where
   pub sizes_known : f ≡ sizes_of bs
@@ -17,9 +20,5 @@ module _ (bs : List ℕ) (f : Frame) (h : Read bs (Ok f)) where
   few_constraints = rw sizes_known (let s = file_sized bs (sym h.refusal) in (s.manifolds, s.joints))
 
   -- its version says whether its constraints have counts
-  pub version_known : sameb the_type f.version Second ≡ second bs
-  version_known = rw sizes_known (go (second bs))
-    where
-      go : (b : Bool) → sameb the_type (cond b Second First) Second ≡ b
-      go true = refl
-      go false = refl
+  pub version_known : with_counts f.version ≡ second bs
+  version_known = rw sizes_known (counts_by_version (second bs))

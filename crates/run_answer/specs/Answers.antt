@@ -1,15 +1,16 @@
 -- What a run answers: document 01's number, 0 where accepted, and the four carried numbers, all 0 where refused.
-use Rattle.std.specs.Prelude.{ℕ, ◌/◌, ◌≡◌, Bool, not, cond, List, Result, Ok, Err, is_err, IfOk, eqb, length}
+use Rattle.std.specs.Prelude.{ℕ, ◌/◌, ◌≡◌, Bool, not, cond, List, Result, Ok, Err, is_err, IfOk, eqb}
 use Rattle.frame.specs.Questions.{asked}
-use Rattle.frame.specs.Files.{second, count_b, count_m, count_j, joint_ends_in, file_questions}
+use Rattle.frame.specs.Files.{second, count_b, count_m, count_j, file_questions}
 use Rattle.schedules.specs.Runs as runs
 use Rattle.turn_table.specs.declared.Tally.{Tally}
+use Rattle.frame.specs.declared.Frame.{Frame}
 use Rattle.frame.specs.declared.refusal.Refusal.{Refusal}
+use Rattle.frame.specs.Answers.{sizes_of}
 use Rattle.frame.specs.Refusals.{number_of, refused_by}
 use Rattle.frame_tables.specs.declared.Filling.{Filling}
 use Rattle.frame_tables.specs.Filled.{islands_in, degree_in}
 use Rattle.run_answer.specs.declared.Report.{Report}
-use Rattle.run_answer.specs.declared.Asked.{Asked}
 
 -- the four numbers that a run reports
 abbrev pub reported : runs.Report → Report
@@ -20,14 +21,10 @@ abbrev pub run_report : Result Report Refusal → Report
 run_report (Ok r) = r
 run_report (Err n) = reported (runs.refused (number_of n))
 
--- whether constraints have counts, and the sizes of the file bs
-abbrev pub asked_of : List ℕ → Asked
-asked_of bs = record { counted = second bs; bodies = count_b bs; manifolds = count_m bs; joints = count_j bs; joint_ends = length (joint_ends_in bs) }
-
 -- questions 1 to 6 of the file bs, where room answers the 6th by whether constraints have counts and by the sizes; and these sizes
-pub record Asks (bs : List ℕ) (room : Bool → ℕ → ℕ → ℕ → Bool) (r : Result Asked Refusal) : Type 0 where
+pub record Asks (bs : List ℕ) (room : Bool → ℕ → ℕ → ℕ → Bool) (r : Result Frame Refusal) : Type 0 where
   pub refusal : refused_by r ≡ cond (eqb (asked (file_questions bs)) 0) (cond (room (second bs) (count_b bs) (count_m bs) (count_j bs)) 0 6) (asked (file_questions bs))
-  pub sizes : IfOk r (λ a. a ≡ asked_of bs)
+  pub sizes : IfOk r (λ a. a ≡ sizes_of bs)
 
 -- the answer by a filling and a tally, three entries a turn
 pub record AnswerOf (f : Result Filling Refusal) (t : Tally) (r : Result Report Refusal) : Type 0 where

@@ -1,5 +1,7 @@
 -- What a run is lent, and room in it.
-use Rattle.std.specs.Prelude.{ℕ, ◌+◌, ◌*◌, Bool, ◌&&◌, cond, List, leb, length}
+use Rattle.std.specs.Prelude.{ℕ, ◌+◌, ◌*◌, Bool, true, false, ◌&&◌, cond, List, leb, length}
+use Rattle.frame.specs.declared.Version.{Version}
+use Rattle.frame.specs.declared.Version.TheVariants.{First, Second}
 use Rattle.island.specs.Calls.{IslandTables}
 use Rattle.island.specs.declared.IslandTables as island_code
 use Rattle.island.specs.Lent as island_lent
@@ -62,6 +64,11 @@ lent_in islands turns tables by_island plan plan_counts = record {
 }
 
 -- ---- question 6
+
+-- the constraints of a frame of version 2 have counts
+abbrev pub with_counts : Version → Bool
+with_counts First = false
+with_counts Second = true
 
 -- question 6 asks for so many endpoint entries: 2 * M + 4 * J where the constraints have counts
 abbrev pub entries_for : Bool → ℕ → ℕ → ℕ

@@ -4,7 +4,7 @@
 
 ghost use Rattle.std.specs.Prelude.{◌≤◌, ◌≡◌};
 ghost use Rattle.run_answer.specs.Answers.{Asks, AnswerOf};
-ghost use Rattle.run_answer.specs.Lent.{lent_in, entries_for, counts_room, roomy_for};
+ghost use Rattle.run_answer.specs.Lent.{lent_in, with_counts, entries_for, counts_room, roomy_for};
 
 use frame::{Frame, Refusal, Version};
 use frame_tables::{ByIsland, Filling, FrameTables};
@@ -22,41 +22,31 @@ pub struct Report {
 }
 
 // How many endpoint entries question 6 asks for: four a joint where the constraints have counts, else two.
-fn entries_for(counted: bool, m: usize, j: usize) -> usize
-    requires { (m ≤ 4096) × (j ≤ 4096) }
-    ensures { result ≡ entries_for counted m j }
+fn entries_for(sizes: Frame) -> usize
+    requires { (sizes.manifolds ≤ 4096) × (sizes.joints ≤ 4096) }
+    ensures { result ≡ entries_for (with_counts sizes.version) sizes.manifolds sizes.joints }
 {
-    if counted {
-        return 2 * m + 4 * j;
+    match sizes.version {
+        Version::First => 2 * (sizes.manifolds + sizes.joints),
+        Version::Second => 2 * sizes.manifolds + 4 * sizes.joints,
     }
-    2 * (m + j)
 }
 
 // And how many counts, to which a run cuts its tables of counts too: none where the constraints are pairs.
-pub fn counts_room(counted: bool, m: usize, j: usize) -> usize
-    requires { (m ≤ 4096) × (j ≤ 4096) }
-    ensures { result ≡ counts_room counted m j }
+pub fn counts_room(sizes: Frame) -> usize
+    requires { (sizes.manifolds ≤ 4096) × (sizes.joints ≤ 4096) }
+    ensures { result ≡ counts_room (with_counts sizes.version) sizes.manifolds sizes.joints }
 {
-    if counted {
-        return m + j;
+    match sizes.version {
+        Version::First => 0,
+        Version::Second => sizes.manifolds + sizes.joints,
     }
-    0
-}
-
-// Of a file that passed questions 1 to 6: whether its constraints have counts, and its sizes.
-#[derive(Clone, Copy, Debug, PartialEq, Eq)]
-pub struct Asked {
-    pub counted: bool,
-    pub bodies: usize,
-    pub manifolds: usize,
-    pub joints: usize,
-    pub joint_ends: usize,
 }
 
 // Question 6 of a frame of these sizes.
 #[tactic(auto, unfolding(crate::specs::Lent::roomy_for))]
 fn has_room_for(
-    asked: Asked,
+    asked: Frame,
     islands: &IslandTables<'_>,
     turns: &[u16],
     tables: &FrameTables<'_>,
@@ -65,13 +55,13 @@ fn has_room_for(
     plan_counts: &[u8],
 ) -> bool
     requires { (asked.manifolds ≤ 4096) × (asked.joints ≤ 4096) }
-    ensures { result ≡ roomy_for asked.counted asked.bodies asked.manifolds asked.joints
+    ensures { result ≡ roomy_for (with_counts asked.version) asked.bodies asked.manifolds asked.joints
         (lent_in islands.now turns.now tables.now by_island.now plan.now plan_counts.now) }
 {
     let bodies = asked.bodies;
     let constraints = asked.manifolds + asked.joints;
-    let entries = entries_for(asked.counted, asked.manifolds, asked.joints);
-    let counts = counts_room(asked.counted, asked.manifolds, asked.joints);
+    let entries = entries_for(asked);
+    let counts = counts_room(asked);
     islands.has_room_for(bodies, asked.manifolds, asked.joints)
         & (3 * constraints <= turns.len())
         & (bodies <= tables.types.len())
@@ -86,7 +76,7 @@ fn has_room_for(
         & plan.has_room_for(bodies, constraints, entries)
 }
 
-// Questions 1 to 6 of a file, on these tables.
+// Questions 1 to 6 of a file, on these tables; answers its sizes.
 pub fn ask(
     frame: &[u8],
     islands: &IslandTables<'_>,
@@ -95,18 +85,11 @@ pub fn ask(
     by_island: &ByIsland<'_>,
     plan: &PlanTables<'_>,
     plan_counts: &[u8],
-) -> Result<Asked, Refusal>
+) -> Result<Frame, Refusal>
     ensures { Asks frame.now (λ v b m j. roomy_for v b m j
         (lent_in islands.now turns.now tables.now by_island.now plan.now plan_counts.now)) result }
 {
-    let read = Frame::read(frame)?;
-    let asked = Asked {
-        counted: read.version == Version::Second,
-        bodies: read.bodies,
-        manifolds: read.manifolds,
-        joints: read.joints,
-        joint_ends: read.joint_ends,
-    };
+    let asked = Frame::read(frame)?;
     if !has_room_for(asked, islands, turns, tables, by_island, plan, plan_counts) {
         return Err(Refusal::Room);
     }

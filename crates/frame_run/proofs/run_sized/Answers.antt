@@ -3,6 +3,7 @@ use Rattle.std.proofs.Common.{ℕ, ◌+◌, ◌*◌, ◌≡◌, ◌++◌, sym, s
 use Rattle.island.specs.Lent as island_lent
 use Rattle.plan_questions.specs.Lent as plan_lent
 use Rattle.island_run.proofs.Rooms.{lengths_same}
+use Rattle.run_answer.specs.Lent.{with_counts}
 use Rattle.frame_run.specs.Sized.{RoomySized}
 use Rattle.frame_run.proofs.Entry.{counts_worn}
 use Rattle.frame_run.proofs.Runs.{roomy_of, prepared_cut, room_cut, types_are_known, ran}
@@ -48,7 +49,7 @@ returns-clause-ran c =
     (rw (c.count_of.ensures, v.types, v.flags, v.counts, v.ends, v.labels, c.labels_in-labels.ensures) at c.run_islands-tally.ensures.appended) c.answer_of.ensures
 
 pub returns-clause-worn_islands : goal.returns-clause-worn_islands
-returns-clause-worn_islands c = counts_worn c.args.asked.counted c.args.asked.manifolds c.args.asked.joints _ _ _ c.counts_room-counted.ensures c.run_islands-tally.auto.island_counts
+returns-clause-worn_islands c = counts_worn (with_counts c.args.asked.version) c.args.asked.manifolds c.args.asked.joints _ _ _ c.counts_room-counted.ensures c.run_islands-tally.auto.island_counts
 
 pub returns-clause-worn_plan : goal.returns-clause-worn_plan
-returns-clause-worn_plan c = counts_worn c.args.asked.counted c.args.asked.manifolds c.args.asked.joints _ _ _ c.counts_room-counted.ensures c.run_islands-tally.auto.plan_counts
+returns-clause-worn_plan c = counts_worn (with_counts c.args.asked.version) c.args.asked.manifolds c.args.asked.joints _ _ _ c.counts_room-counted.ensures c.run_islands-tally.auto.plan_counts

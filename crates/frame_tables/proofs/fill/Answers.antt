@@ -1,7 +1,6 @@
 -- `fill`: after the decoding the tables hold the file's frame, so the islands call asks only question 7; the labels it leaves can be sorted.
-use Rattle.std.proofs.Common.{refl, ap}
+use Rattle.std.proofs.Common.{refl}
 use Rattle.std.proofs.lemmas.Result.{err_from_is_err_and}
-use Rattle.frame.specs.Refusals.{refused_by}
 use Rattle.frame_tables.proofs.Tables.{countable, sort_ready, filled, unfilled}
 use Rattle.frame_tables.proofs.fill.Goals as goal
 
@@ -24,12 +23,12 @@ returns-in_err-islands-clause-filled c =
     let p = err_from_is_err_and c.from_residual.result c.from_residual.ensures.1 in
     rw (p.1, p.2) (unfilled c.args.frame.now r.decodable.file _ _ _ _ _ _ r.decodable.manifolds c.decode.ensures _ c.lists_in-lists.ensures _ _ _ _ _ _ r.roomy _ c.build-built.result b.built _ _ refl c.unwrap_or.ensures _ c.sort.ensures _ c.in_err-islands.was)
 
-pub degree_of-requires : goal.degree_of-requires
-degree_of-requires c =
+pub degree_of-degree-requires : goal.degree_of-degree-requires
+degree_of-degree-requires c =
     let r = c.requires in
-    countable c.args.frame.now r.decodable.file _ _ _ _ _ _ r.decodable.manifolds c.decode.ensures _ c.lists_in-lists.ensures _ _ _ _ _ _ r.roomy _ c.build-built.result c.build-built.ensures.built (ap refused_by c.in_ok-islands.was)
+    countable c.args.frame.now r.decodable.file _ _ _ _ _ _ r.decodable.manifolds c.decode.ensures _ c.lists_in-lists.ensures _ _ _ _ _ _ r.roomy _ c.build-built.result c.build-built.ensures.built
 
 pub returns-clause-filled : goal.returns-clause-filled
 returns-clause-filled c =
     let r = c.requires in
-    filled c.args.frame.now r.decodable.file _ _ _ _ _ _ r.decodable.manifolds c.decode.ensures _ c.lists_in-lists.ensures _ _ _ _ _ _ r.roomy _ c.build-built.result c.build-built.ensures.built _ _ refl c.unwrap_or.ensures _ c.sort.ensures _ _ c.in_ok-islands.was c.degree_of.ensures
+    filled c.args.frame.now r.decodable.file _ _ _ _ _ _ r.decodable.manifolds c.decode.ensures _ c.lists_in-lists.ensures _ _ _ _ _ _ r.roomy _ c.build-built.result c.build-built.ensures.built _ _ refl c.unwrap_or.ensures _ c.sort.ensures _ _ c.in_ok-islands.was c.degree_of-degree.ensures

@@ -10,11 +10,11 @@ pub returns-then-manifolds-constraint-clause-there : goal.returns-then-manifolds
 returns-then-manifolds-constraint-clause-there c =
     λ here placed.
     let a = c.args in
-    let bs = a.frame.now in
+    let bs = a.frame.bytes.now in
     let m = c.half_or_zero-manifolds in
     let v : second bs ≡ true = sym c.is_second.ensures ∙ c.if-is_second.true in
-    let place = get_or a.places.now (a.constraint - m.result) 0 in
-    let e = place_stands bs a.constraint a.places.now (placed v) here v (omega (arith, m.ensures.0, c.if-manifolds-constraint.true)) in
+    let place = get_or a.frame.places.now (a.constraint - m.result) 0 in
+    let e = place_stands bs a.constraint a.frame.places.now (placed v) here v (omega (arith, m.ensures.0, c.if-manifolds-constraint.true)) in
     let stands : EndsStand bs a.constraint (record { at = place + 2; count = count_at bs place }) = rw (← m.ensures.0) at e in
     let b = c.byte_or_zero in
     let b_is : b.result ≡ count_at bs place = b.ensures.0 ∙ ap (λ (s : ℕ). byte bs (s + 1)) c.place_at-place.ensures.0 in
@@ -25,7 +25,7 @@ pub returns-clause-there : goal.returns-clause-there
 returns-clause-there c =
     λ here placed.
     let a = c.args in
-    let bs = a.frame.now in
+    let bs = a.frame.bytes.now in
     let e = c.ends_at in
     let stands : EndsStand bs a.constraint (record { at = ends_at bs a.constraint; count = 2 }) = elim c.if-is_second.branch [
       | then-is_second+else-manifolds-constraint w ↦ manifold_stands bs a.constraint (omega (arith, w.half_or_zero-manifolds.ensures.0, w.if-manifolds-constraint.false))
