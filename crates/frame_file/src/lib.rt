@@ -28,6 +28,7 @@ impl Sizes {
     }
 
     // How long the file is.
+    #[tactic(auto, unfolding(frame::specs::Questions::few_each))]
     pub fn file_length(self) -> usize
         requires { few_each self.bodies self.manifolds self.joints ≡ true }
         ensures { result ≡ file_length self.bodies self.manifolds self.joints }
@@ -67,7 +68,7 @@ pub fn put_pair(file: &mut Writer<'_>, a: usize, b: usize)
 }
 
 // The first 11 bytes: version, length of the rest, and the sizes.
-#[tactic(auto, unfolding(crate::specs::Written::half_bytes, crate::specs::Written::word_bytes))]
+#[tactic(auto, unfolding(crate::specs::Written::half_bytes, crate::specs::Written::word_bytes, frame::specs::Questions::few_each))]
 pub fn put_header(file: &mut Writer<'_>, sizes: Sizes)
     requires { (file.old.at + 11 ≤ length file.old.out.now) × (few_each sizes.bodies sizes.manifolds sizes.joints ≡ true) }
     ensures { Wrote (header_bytes sizes.bodies sizes.manifolds sizes.joints) file.old file.new }

@@ -22,7 +22,7 @@ use Rattle.frame.specs.Refusals.{number_of, refused_by}
 use Rattle.colored_bodies.specs.Bindings.{Handed, bind_of, handed_at, take_of, take_refusal, take_marks}
 use Rattle.colored_bodies.specs.Answers.{marked_dynamic, Marks, marked_flags, flags_of, MarksAt}
 use Rattle.schedules.specs.Runs.{Call, members_in, bodies_in, lookup_refusal, lookup_of, take_rank, calls_from, turns_of, takes_of}
-use Rattle.schedules.proofs.Places.{read-known}
+use Rattle.multi_coloring.proofs.Lookups.{read-known}
 use Rattle.turn_table.specs.declared.Turn.{Turn}
 use Rattle.turn_table.specs.declared.TurnTable.{TurnTable}
 use Rattle.turn_table.specs.Turns.{Added, added_by_take, RoomIn, AppendedTo}

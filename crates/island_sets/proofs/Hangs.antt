@@ -8,7 +8,7 @@ use Rattle.lists.proofs.Sums.{sum_ext, sum_add, sum_le}
 use Rattle.island_sets.specs.Sets.{link, root_of, size_in}
 use Rattle.island_sets.specs.Steps.{Weighed, Told, Sets}
 use Rattle.island_sets.proofs.Links.{root_here, root_end, root_step, roots_are, link-same, link_other}
-use Rattle.island_sets.proofs.Weights.{ends, told_at, told_same}
+use Rattle.island_sets.proofs.Weights.{ends, told_at, told_root, told_same}
 
 -- ---- l becomes w, and any other number stays
 abbrev pub moved : ℕ → ℕ → ℕ → ℕ
@@ -55,11 +55,8 @@ module _ (p s : List ℕ) (h : Sets p s) (w l : ℕ) (kw : w < length p) (kl : l
   abbrev total : ℕ
   total = get_or s w 0 + get_or s l 0
 
-  told_root : (r : ℕ) → r < length p → root_of p r ≡ r → get_or s r 0 ≡ size_in (length p) (root_of p) r
-  told_root r k e = subst (λ (x : ℕ). get_or s x 0 ≡ size_in (length p) (root_of p) x) e (told_at p s h r k)
-
   total_is : total ≡ size_in (length p) (λ x. moved w l (root_of p x)) w
-  total_is = omega (arith, told_root w kw ew, told_root l kl el, size_joined (length p) (root_of p) w l ne)
+  total_is = omega (arith, told_root p s h w kw ew, told_root p s h l kl el, size_joined (length p) (root_of p) w l ne)
 
   pub total-most : total ≤ length p
   total-most = omega (arith, total_is, size_most (length p) (λ x. moved w l (root_of p x)) w)

@@ -1,12 +1,12 @@
 -- A union: the two lookups change no root, the loser of the two roots hangs under the winner, and that is `hang`; of a root and itself nothing changes.
-use Rattle.std.proofs.Common.{ℕ, ◌+◌, ◌-◌, ◌≤◌, ◌<◌, min, arith, ◌≡◌, refl, sym, ap, ◌∙◌, subst, ◌⊎◌, inl, inr, ⊎_elim, Bool, true, false, ◌||◌, cond, List, eqb, ltb, length, get_or, set, eqb-true, ltb-true, ltb-false}
+use Rattle.std.proofs.Common.{ℕ, ◌+◌, ◌-◌, ◌≤◌, ◌<◌, min, arith, ◌≡◌, refl, sym, ap, ◌∙◌, ◌⊎◌, inl, inr, ⊎_elim, Bool, true, false, ◌||◌, cond, List, eqb, ltb, length, get_or, set, eqb-true, ltb-true, ltb-false}
 use Rattle.std.proofs.Math.Path.{fun_ext}
 use Rattle.std.proofs.Math.Decide.{dec_le}
 use Rattle.lists.proofs.Laws.{by_cases}
 use Rattle.island_sets.specs.Sets.{root_of, size_in, winner_of, winner, hang}
 use Rattle.island_sets.specs.Steps.{Sets, Shortened}
 use Rattle.island_sets.proofs.Links.{root_root}
-use Rattle.island_sets.proofs.Weights.{ends, root_inside, told_at}
+use Rattle.island_sets.proofs.Weights.{ends, root_inside, told_root}
 use Rattle.island_sets.proofs.Hangs.{moved, roots_hung, sets_hung}
 
 -- ---- which root wins: one of the two, and its set is no smaller
@@ -51,12 +51,9 @@ moves_none u z t e = by_cases (eqb z u) (λ q. rw (q, e) (eqb-true z u q)) (λ q
 
 -- ---- two roots
 module _ (p s : List ℕ) (h : Sets p s) (u v : ℕ) (ku : u < length p) (kv : v < length p) (eu : root_of p u ≡ u) (ev : root_of p v ≡ v) (ne : u ≡ v → ⊥) where
-  told_root : (r : ℕ) → r < length p → root_of p r ≡ r → get_or s r 0 ≡ size_in (length p) (root_of p) r
-  told_root r k e = subst (λ (x : ℕ). get_or s x 0 ≡ size_in (length p) (root_of p) x) e (told_at p s h r k)
-
   winner_is : winner (length p) (root_of p) u v ≡ winner_of (get_or s u 0) (get_or s v 0) u v
   unfolding winner
-  winner_is = rw (told_root u ku eu, told_root v kv ev)
+  winner_is = rw (told_root p s h u ku eu, told_root p s h v kv ev)
 
   hang_roots_lem : hang_roots (length p) (root_of p) u v ≡ hang (length p) (root_of p) u v
   hang_roots_lem = ap (λ (x : ℕ). hang_roots (length p) (root_of p) x v) (sym eu) ∙ ap (hang_roots (length p) (root_of p) (root_of p u)) (sym ev)

@@ -108,6 +108,9 @@ pub told_at : (p s : List ℕ) → Sets p s → (b : ℕ) → b < length p → g
 unfolding Told
 told_at p s h b k = h.told b k
 
+pub told_root : (p s : List ℕ) → Sets p s → (r : ℕ) → r < length p → root_of p r ≡ r → get_or s r 0 ≡ size_in (length p) (root_of p) r
+told_root p s h r k e = subst (λ (x : ℕ). get_or s x 0 ≡ size_in (length p) (root_of p) x) e (told_at p s h r k)
+
 -- 2 to the number of links is at most the number of bodies in the set
 links_bound : (p : List ℕ) → Balanced p → (b : ℕ) → b < length p → 2 ^ links_of p b ≤ size_in (length p) (root_of p) (root_of p b)
 links_bound p (s, h) b k = omega (arith, links_weigh p s h.weighed b, mul-le-mul_left (2 ^ links_of p b) (h.weighed.some b k), told_at p s h b k)

@@ -1,13 +1,18 @@
--- The lookup of positions: where a constraint's positions start, by the counts before it as they are read, and that they
+-- Counts as they are read. The lookup of positions: where a constraint's positions start, by the counts before it as they are read, and that they
 -- end inside the table.
-use Rattle.std.proofs.Common.{ℕ, ◌+◌, ◌≤◌, ◌<◌, ◌≡◌, sym, ap, ◌∙◌, List, map, arith, length, get_or, take, drop, length-take-le, get_or-take}
+use Rattle.std.proofs.Common.{ℕ, ◌+◌, ◌≤◌, ◌<◌, ◌≡◌, refl, sym, ap, ap₂, ◌∙◌, true, List, [], ◌∷◌, map, arith, length, get_or, take, drop, length-take-le, get_or-take}
 use Rattle.std.proofs.Math.ListN.{length-map}
 use Rattle.std.proofs.lemmas.List.{take-map, take-take}
-use Rattle.lists.proofs.Laws.{get_or-map-lt}
-use Rattle.frame.specs.Frames.{end_count}
+use Rattle.lists.proofs.Laws.{and_left, and_right, get_or-map-lt}
+use Rattle.frame.specs.Frames.{counted, counts_known, end_count}
 use Rattle.parts.specs.Steps.{ends_before}
 use Rattle.parts.proofs.Bounds.{ends_more, ends_up, ends-all, counted-at}
 use Rattle.multi_coloring.specs.Counts.{count_read, counts_read, positions_in}
+
+-- counts of two to four are read as they are
+pub read-known : (counts : List ℕ) → counts_known counts ≡ true → map count_read counts ≡ counts
+read-known [] e = refl
+read-known (c ∷ counts) e = ap₂ (λ (x : ℕ) (xs : List ℕ). x ∷ xs) (rw (and_left (counted c) (counts_known counts) e)) (read-known counts (and_right (counted c) (counts_known counts) e))
 
 module _ (n : ℕ) (counts table : List ℕ) (room : n ≤ length counts) (there : end_count (counts_read n counts) ≤ length table) (r start count : ℕ) (h : r < n) (s : start ≡ end_count (map count_read (take r counts))) (k : count ≡ count_read (get_or counts r 0)) where
   abbrev read : List ℕ

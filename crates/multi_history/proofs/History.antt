@@ -1,10 +1,10 @@
 -- The memory of a plan with counts. While the plan, its tables and its counts hold what is remembered, the test for equal input compares with just
 -- that; so an update answers as the definition does, and leaves them holding what is remembered then.
-use Rattle.std.proofs.Common.{ℕ, ◌≡◌, refl, sym, ap, ap₂, ◌∙◌, Bool, true, false, not, ◌&&◌, ◌||◌, List, [], ◌∷◌, map, eqb, length, take, eqb-true, eq-eqb}
+use Rattle.std.proofs.Common.{ℕ, ◌≡◌, refl, sym, ap, ap₂, ◌∙◌, Bool, true, false, not, ◌&&◌, ◌||◌, List, ◌∷◌, map, eqb, length, take, eqb-true, eq-eqb}
 use Rattle.std.proofs.Math.Bool.{or-false, or-true, or_assoc}
 use Rattle.lists.specs.Basics.{any, same}
 use Rattle.lists.proofs.Laws.{and_left, and_right, and_both, by_cases, bool_ext}
-use Rattle.frame.specs.Frames.{counted, counts_known, end_count}
+use Rattle.frame.specs.Frames.{counts_known, end_count}
 use Rattle.groups.specs.Groups.{plan_from, counted_parts, colors_of, group_count, largest_group, flatten, color_from}
 use Rattle.parts.proofs.Bounds.{counted-length}
 use Rattle.plan_questions.specs.Plans.{Tables}
@@ -18,14 +18,10 @@ use Rattle.constraint_coloring.specs.Calls.{update_changed, plan_after}
 use Rattle.multi_coloring.specs.Counts.{count_read, counts_read}
 use Rattle.multi_coloring.specs.Calls.{fresh_multi, multi_holds, multi_roomy, multi_refusal_with, multi_changes_with, MultiUpdated}
 use Rattle.multi_coloring.proofs.Accepted.{Accepted, accepted}
+use Rattle.multi_coloring.proofs.Lookups.{read-known}
 use Rattle.multi_history.specs.Memory.{MultiMemory, multi_fresh, multi_changes, multi_remembered, MultiInput, multi_answers}
 use Rattle.multi_history.specs.History.{MultiHistory, still, step, multi_memory_after, MultiStanding}
 use Rattle.multi_history.proofs.Memory.{all_equal}
-
--- counts of two to four are read as they stand
-read-known : (cs : List ℕ) → counts_known cs ≡ true → map count_read cs ≡ cs
-read-known [] e = refl
-read-known (c ∷ cs) e = ap₂ (λ (x : ℕ) (xs : List ℕ). x ∷ xs) (rw (and_left (counted c) (counts_known cs) e)) (read-known cs (and_right (counted c) (counts_known cs) e))
 
 pub record Remembers (begun : Bool) (m : MultiMemory) (p : MultiColoring) (t : Tables) (c : List ℕ) : Type 0 where
   pub standing : MultiStanding begun m p t c

@@ -1,27 +1,20 @@
 -- The lookup of positions of a plan with counts hands back what its tables were made of, whatever stands behind them: the positions of a
 -- constraint are its list.
-use Rattle.std.proofs.Common.{ℕ, ◌≤◌, ◌<◌, ◌≡◌, refl, sym, ap, ap₂, ◌∙◌, true, cond, List, [], ◌∷◌, ◌++◌, map, arith, ltb, length, get_or, length-append, take_at, le-leb}
+use Rattle.std.proofs.Common.{ℕ, ◌≤◌, ◌<◌, ◌≡◌, refl, sym, ap, ◌∙◌, true, cond, List, [], ◌∷◌, ◌++◌, map, arith, ltb, length, get_or, length-append, take_at, le-leb}
 use mathlib.Core.List.{map-map}
 use Rattle.lists.specs.Basics.{range, join_map}
-use Rattle.lists.proofs.Laws.{and_left, and_right}
 use Rattle.lists.proofs.Sums.{sum_map}
 use Rattle.lists.proofs.Ranges.{length-join_map, length-map-range, map-range-at}
-use Rattle.frame.specs.Frames.{counted, counts_known, end_count}
+use Rattle.frame.specs.Frames.{counts_known, end_count}
 use Rattle.groups.specs.Groups.{counted_parts, flatten}
 use Rattle.groups.proofs.Counts.{parts_apart}
 use Rattle.multi_coloring.specs.Counts.{count_read, counts_read, multi_positions_refusal, positions_in}
+use Rattle.multi_coloring.proofs.Lookups.{read-known}
 
 -- lists one after another
 pub joined : {A B : Type 0} (g : B → List A) (xs : List B) → join_map (λ (l : List A). l) (map g xs) ≡ join_map g xs
 joined g [] = refl
 joined {A} g (x ∷ xs) = ap (λ (l : List A). g x ++ l) (joined g xs)
-
--- counts of two to four are read as they are
-pub read-known : (counts : List ℕ) → counts_known counts ≡ true → map count_read counts ≡ counts
-read-known [] e = refl
-read-known (c ∷ counts) e =
-    let k : counted c ≡ true = and_left (counted c) (counts_known counts) e in
-    ap₂ (λ (x : ℕ) (xs : List ℕ). x ∷ xs) (rw k) (read-known counts (and_right (counted c) (counts_known counts) e))
 
 module _ (g : ℕ → List ℕ) (n : ℕ) (counts x y : List ℕ) (sizes : counts ≡ map (λ r. length (g r)) (range n)) (known : counts_known counts ≡ true) where
   counts-read : counts_read n (counts ++ x) ≡ counts

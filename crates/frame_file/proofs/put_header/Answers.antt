@@ -1,21 +1,8 @@
 -- `put_header`: its parts, one behind the other.
 use Rattle.std.proofs.Common.{◌+◌, ◌*◌, ◌-◌, ◌≡◌, arith}
-use Rattle.frame.proofs.Questions.{few-each}
 use Rattle.frame_file.specs.Written.{half_bytes, word_bytes, header_bytes}
 use Rattle.writer.proofs.Writes.{wrote_then}
 use Rattle.frame_file.proofs.put_header.Goals as goal
-
-pub put_whole-requires-clause-word : goal.put_whole-requires-clause-word
-put_whole-requires-clause-word c = omega (arith, few-each c.args.sizes.bodies c.args.sizes.manifolds c.args.sizes.joints c.requires.1, c.file_length.ensures)
-
-pub put_half-requires-clause-half : goal.put_half-requires-clause-half
-put_half-requires-clause-half c = omega (arith, few-each c.args.sizes.bodies c.args.sizes.manifolds c.args.sizes.joints c.requires.1)
-
-pub put_half-requires-2-clause-half : goal.put_half-requires-2-clause-half
-put_half-requires-2-clause-half c = omega (arith, few-each c.args.sizes.bodies c.args.sizes.manifolds c.args.sizes.joints c.requires.1)
-
-pub put_half-requires-3-clause-half : goal.put_half-requires-3-clause-half
-put_half-requires-3-clause-half c = omega (arith, few-each c.args.sizes.bodies c.args.sizes.manifolds c.args.sizes.joints c.requires.1)
 
 pub returns : goal.returns
 unfolding half_bytes word_bytes header_bytes
