@@ -2,20 +2,18 @@
 // answers how many bytes it made.
 #![tactic(auto)]
 
-ghost use Rattle.std.specs.Prelude.{◌≡◌, length};
 ghost use Rattle.frame.specs.Refusals.{number_of};
 ghost use Rattle.lift_line.specs.Lines.{line_of};
-ghost use Rattle.print_fields.specs.Puts.{longest};
 ghost use Rattle.schedules.specs.Print.{refusal_line};
 ghost use Rattle.lift_print.specs.Prints.{lift_of, Printed, LiftPrinted};
 
 use frame::refusal::Refusal;
+use generator::MAX_BYTES;
 use lift_line::Wanted;
 use writer::Writer;
 
 // A refusal from the buffer's start on.
-fn put_refusal(out: &mut [u8], refusal: Refusal) -> usize
-    requires { length out.old ≡ 40971 }
+fn put_refusal(out: &mut [u8; MAX_BYTES], refusal: Refusal) -> usize
     ensures { Printed (refusal_line (number_of refusal)) out.old out.new result }
 {
     let mut text = Writer { out, at: 0 };
@@ -24,8 +22,7 @@ fn put_refusal(out: &mut [u8], refusal: Refusal) -> usize
 }
 
 // A lift's file, or its refusal.
-fn put_lift(out: &mut [u8], wanted: Wanted) -> usize
-    requires { length out.old ≡ 40971 }
+fn put_lift(out: &mut [u8; MAX_BYTES], wanted: Wanted) -> usize
     ensures { Printed (lift_of wanted.seed wanted.sizes.bodies wanted.sizes.manifolds wanted.sizes.joints) out.old out.new result }
 {
     match generator::generate(wanted.seed, wanted.sizes, out) {
@@ -35,7 +32,7 @@ fn put_lift(out: &mut [u8], wanted: Wanted) -> usize
 }
 
 // The print of a text, if its line can be read.
-pub fn put_print(text: &[u8], out: &mut [u8; generator::MAX_BYTES]) -> Option<usize>
+pub fn put_print(text: &[u8], out: &mut [u8; MAX_BYTES]) -> Option<usize>
     ensures { LiftPrinted (line_of text.now) out.old out.new result }
 {
     let wanted = lift_line::read_line(text)?;

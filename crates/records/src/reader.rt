@@ -33,9 +33,7 @@ impl<'a> Reader<'a> {
         ensures value { result ≡ 256 * get_or self.old.rest.now 0 0 + get_or self.old.rest.now 1 0 }
         ensures rest { self.new.rest.now ≡ drop 2 self.old.rest.now }
     {
-        let high = self.byte();
-        let low = self.byte();
-        u16::from(high) * 256 + u16::from(low)
+        u16::from_be_bytes([self.byte(), self.byte()])
     }
 
     // The next n bytes, or those that are left.

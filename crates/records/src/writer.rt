@@ -36,7 +36,7 @@ impl<const N: usize> Writer<N> {
     pub fn half(&mut self, x: u16)
         ensures { array_vec_len self.old.bytes + 2 ≤ N → self.new.bytes.items ≡ self.old.bytes.items ++ x / 256 ∷ x % 256 ∷ [] }
     {
-        self.bytes(&[(x / 256) as u8, (x % 256) as u8]);
+        self.bytes(&x.to_be_bytes());
     }
 
     pub fn halves(&mut self, from: &[u16]) {
