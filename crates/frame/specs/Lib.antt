@@ -7,3 +7,4 @@ pub mod Decodes
 pub mod Refusals
 pub mod Lists
 pub mod Constraints
+pub mod Lent
