@@ -4,13 +4,13 @@ use borrow.Rule.Slice.PartMut.{put_mid}
 use Rattle.lists.proofs.Fills.{two-parts}
 use Rattle.lists.proofs.Laws.{no_length}
 use Rattle.frame.specs.Files.{second, count_b, count_j, joints_at, pairs_from, enabled_from, manifolds_in, joint_ends_in}
-use Rattle.frame.specs.Decodes.{Countable, Counted}
+use Rattle.frame.specs.Decodes.{ConstraintsDecodable, ConstraintsDecoded}
 use Rattle.frame.specs.Joints.{Walkable, Entered}
 use Rattle.frame.proofs.Files.{file_bytes, file-walked, ends-first_long, ends-second_long, all_counts-first, all_counts_long}
 use Rattle.frame.proofs.Decoding.{enabled-part}
 use Rattle.frame.proofs.Whole.{rest_of}
 
-module _ (bs : List ℕ) (m : ℕ) (ps cs es : List ℕ) (r : Countable bs m ps cs es) where
+module _ (bs : List ℕ) (m : ℕ) (ps cs es : List ℕ) (r : ConstraintsDecodable bs m ps cs es) where
   -- the front of the table of endpoints, for the manifolds' pairs, and of the table of counts
   pub front_long : length (take (2 * m) ps) ≡ 2 * m
   front_long = length-take-le (2 * m) ps (omega (arith, r.ends, r.manifolds))
@@ -64,7 +64,7 @@ module _ (bs : List ℕ) (m : ℕ) (ps cs es : List ℕ) (r : Countable bs m ps 
       }
 
       pub second_decoded : (j d e : List ℕ) → Entered bs (11 + b + 4 * m) (length es) j d e
-          → Counted bs (put_mid (2 * m) (length table - 2 * m) table j) (put_mid m (length counts - m) counts d) e
+          → ConstraintsDecoded bs (put_mid (2 * m) (length table - 2 * m) table j) (put_mid m (length counts - m) counts d) e
       second_decoded j d e h = record {
         ends = ends_are j (h.ends ∙ rw (from_is, r.enabled, v));
         counts = two-parts m cs w d twos_long ∙ rw (ew, counts_front_long v, h.counts, from_is, r.enabled, r.manifolds, v);
@@ -80,7 +80,7 @@ module _ (bs : List ℕ) (m : ℕ) (ps cs es : List ℕ) (r : Countable bs m ps 
       enabled-ready = ap length d ∙ omega (arith, length-drop (11 + b + 4 * m) bs, file_bytes bs r.file v, from_is, r.enabled)
 
       pub first_decoded : (j e : List ℕ) → j ≡ pairs_from bs (11 + b + 4 * m) 5 (length rest / 2) → e ≡ enabled_from js 0 (length es)
-          → Counted bs (put_mid (2 * m) (length table - 2 * m) table j) cs e
+          → ConstraintsDecoded bs (put_mid (2 * m) (length table - 2 * m) table j) cs e
       first_decoded j e ej ee = record {
         ends = ends_are j (ej ∙ joints_are);
         counts = no_length cs (r.counts ∙ ap length (all_counts-first bs v)) ∙ sym (all_counts-first bs v);

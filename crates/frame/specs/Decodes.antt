@@ -9,7 +9,7 @@ abbrev pub all_counts : List ℕ → List ℕ
 all_counts bs = cond (second bs) (replicate (count_m bs) 2 ++ counts_in bs) []
 
 -- a file that passed questions 1 to 5, and tables of its constraints' sizes
-pub record Countable (bs : List ℕ) (m : ℕ) (ps cs es : List ℕ) : Type 0 where
+pub record ConstraintsDecodable (bs : List ℕ) (m : ℕ) (ps cs es : List ℕ) : Type 0 where
   pub file : asked (file_questions bs) ≡ 0
   pub manifolds : m ≡ count_m bs
   pub ends : length ps ≡ 2 * count_m bs + length (joint_ends_in bs)
@@ -17,7 +17,7 @@ pub record Countable (bs : List ℕ) (m : ℕ) (ps cs es : List ℕ) : Type 0 wh
   pub enabled : length es ≡ count_j bs
 
 -- endpoints (manifolds, then joints), counts, enabled bytes
-pub record Counted (bs ps cs es : List ℕ) : Type 0 where
+pub record ConstraintsDecoded (bs ps cs es : List ℕ) : Type 0 where
   pub ends : ps ≡ manifolds_in bs ++ joint_ends_in bs
   pub counts : cs ≡ all_counts bs
   pub enabled : es ≡ live_in bs

@@ -22,14 +22,14 @@ pub record JointsRead (bs : List ℕ) (w : Result ℕ Refusal) : Type 0 where
   pub ends : IfOk w (λ ends. ends ≡ length (joint_ends_in bs))
 
 -- the joints' part of a file that passed questions 1 to 3
-pub record Headed (p : JointBytes) : Type 0 where
+pub record Placed (p : JointBytes) : Type 0 where
   pub head : asked (head_questions p.bytes.now) ≡ 0
   pub place : p.from ≡ joints_at p.bytes.now
   pub joints : p.joints ≡ count_j p.bytes.now
 
 -- and of one that passed its joints' refusal, too
 pub record Passed (p : JointBytes) : Type 0 where
-  pub headed : Headed p
+  pub placed : Placed p
   pub walked : joints_refusal p.bytes.now ≡ 0
 
 -- n entries that the walk passes, and tables of their sizes

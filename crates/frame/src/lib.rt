@@ -15,8 +15,8 @@ ghost use Rattle.lists.specs.Basics.{all};
 ghost use Rattle.frame.specs.Frames.{constraints_of, sound, conflicts, flag_of};
 ghost use Rattle.frame.specs.Questions.{asked, few_each, bits};
 ghost use Rattle.frame.specs.Files.{byte, half, word, second, pairs_from, enabled_from, count_m, count_j, joints_at, live_in, ends_at, version_question, head_questions};
-ghost use Rattle.frame.specs.Joints.{Headed, JointsRead, Passed};
-ghost use Rattle.frame.specs.Decodes.{Countable, Counted, Decodable, Decoded};
+ghost use Rattle.frame.specs.Joints.{Placed, JointsRead, Passed};
+ghost use Rattle.frame.specs.Decodes.{ConstraintsDecodable, ConstraintsDecoded, Decodable, Decoded};
 ghost use Rattle.frame.specs.Lent.{SameFrame};
 ghost use Rattle.frame.specs.Answers.{version_of, Versioned, Read};
 ghost use Rattle.frame.specs.Refusals.{refused_by};
@@ -157,7 +157,7 @@ fn ask_head(bytes: &[u8]) -> Result<Version, Refusal>
 
 // Questions 5 (of counts) and 4 of a file's joints: the walk of version 2, the length of version 1. How many endpoints they have together.
 fn walk_joints(part: JointBytes<'_>) -> Result<usize, Refusal>
-    requires { Headed part }
+    requires { Placed part }
     ensures { JointsRead part.entry.bytes.now result }
 {
     if is_second(part.bytes) {
@@ -276,7 +276,7 @@ pub fn conflicts(t: u8) -> bool
 pub fn flag_of(t: u8) -> u8
     ensures { result ≡ flag_of t }
 {
-    conflicts(t) as u8
+    u8::from(conflicts(t))
 }
 
 // The flags of types.
@@ -333,9 +333,15 @@ fn fill_twos(counts: &mut [u8])
 
 // The endpoints, counts and enabled bytes of a file's constraints. On version 1 `counts` is empty; on version 2 it has a count for each
 // manifold and joint.
-fn decode_constraints(bytes: &[u8], manifolds: usize, pairs: &mut [u16], counts: &mut [u8], enabled: &mut [u8])
-    requires { Countable bytes.now manifolds pairs.old counts.old enabled.old }
-    ensures { Counted bytes.now pairs.new counts.new enabled.new }
+fn decode_constraints(
+    bytes: &[u8],
+    manifolds: usize,
+    pairs: &mut [u16],
+    counts: &mut [u8],
+    enabled: &mut [u8],
+)
+    requires { ConstraintsDecodable bytes.now manifolds pairs.old counts.old enabled.old }
+    ensures { ConstraintsDecoded bytes.now pairs.new counts.new enabled.new }
 {
     let n = 2 * manifolds;
     let first = HEADER + half_at(bytes, 5);
