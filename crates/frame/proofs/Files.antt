@@ -1,5 +1,5 @@
 -- What the answer of questions 1 to 5 says of a file, by its version, and what constraints its frame has.
-use Rattle.std.proofs.Common.{ℕ, zero, suc, ◌+◌, ◌-◌, ◌*◌, ◌≤◌, ◌<◌, ◌≡◌, refl, sym, ap, ◌∙◌, Bool, true, false, not, ◌&&◌, ◌||◌, cond, List, [], ◌∷◌, ◌++◌, map, arith, mul-suc, leb, ltb, eqb, length, get_or, drop, replicate, length-append, length-drop, length-take-le, get_or-append-add, leb-true, eqb-true, eq-eqb, ne_eqb, ltb-true, ltb-false}
+use Rattle.std.proofs.Common.{ℕ, zero, suc, ◌+◌, ◌-◌, ◌*◌, ◌/◌, ◌≤◌, ◌<◌, ◌≡◌, refl, sym, ap, ◌∙◌, Bool, true, false, not, ◌&&◌, ◌||◌, cond, List, [], ◌∷◌, ◌++◌, map, arith, mul-suc, leb, ltb, eqb, length, get_or, drop, replicate, length-append, length-drop, length-take-le, get_or-append-add, leb-true, eqb-true, eq-eqb, ne_eqb, ltb-true, ltb-false}
 use Rattle.std.proofs.Math.ListN.{length-map, length-replicate, get_or-append}
 use Rattle.std.proofs.lemmas.Bool.{eqb-false}
 use Rattle.lists.specs.Basics.{all}
@@ -11,6 +11,7 @@ use Rattle.frame.specs.Decodes.{all_counts}
 use Rattle.frame.specs.Joints.{joints_refusal}
 use Rattle.frame.proofs.Questions.{passed, asked-append, zero-cond, few-each}
 use Rattle.frame.proofs.Pairs.{pairs_two}
+use Rattle.frame.proofs.Decoding.{enabled-part}
 use Rattle.frame.proofs.Counted.{joints-counted, known-many}
 use Rattle.frame.proofs.Walks.{Whole, walk_cases, walk_begun, walk_short, walk_counts, place_whole, places_long, counts_long, live_long, ends_long, ends_in, entry_in, entries-joints}
 
@@ -80,6 +81,13 @@ first_length bs n e v i =
     by_cases (eqb (length bs) n)
     (λ t. rw (v, t, eq-eqb (word bs 1) rest (omega (arith, h.rest, h.eleven, eqb-true (length bs) n t, i))))
     (λ t. rw (v, t, ne_eqb (word bs 1) rest (λ k. eqb-false (length bs) n t (omega (arith, h.rest, h.eleven, k, i)))))
+
+-- so the enabled bytes of that rest are those of the file
+pub live-first : (bs js : List ℕ) (from : ℕ) → asked (head_questions bs) ≡ 0 → second bs ≡ false → joints_refusal bs ≡ 0 → from ≡ joints_at bs → js ≡ drop from bs → enabled_from js 0 (length js / 5) ≡ live_in bs
+live-first bs js from e v z i d =
+    let n : length js / 5 ≡ count_j bs = omega (arith, ap length d ∙ length-drop from bs, first_bytes bs e v z, i) in
+    let k : from + 0 ≡ joints_at bs = omega (arith, i) in
+    ap (enabled_from js 0) n ∙ ap (λ (ys : List ℕ). enabled_from ys 0 (count_j bs)) d ∙ enabled-part bs from 0 (count_j bs) ∙ rw (v, k)
 
 -- and those of either version start inside it
 pub joints_inside : (bs : List ℕ) → asked (head_questions bs) ≡ 0 → joints_refusal bs ≡ 0 → joints_at bs ≤ length bs

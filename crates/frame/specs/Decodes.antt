@@ -8,6 +8,20 @@ use Rattle.frame.specs.Files.{second, count_b, count_m, count_j, types_in, manif
 abbrev pub all_counts : List ℕ → List ℕ
 all_counts bs = cond (second bs) (replicate (count_m bs) 2 ++ counts_in bs) []
 
+-- a file that passed questions 1 to 5, and tables of its constraints' sizes
+pub record ConstraintsDecodable (bs : List ℕ) (m : ℕ) (ps cs es : List ℕ) : Type 0 where
+  pub file : asked (file_questions bs) ≡ 0
+  pub manifolds : m ≡ count_m bs
+  pub ends : length ps ≡ 2 * count_m bs + length (joint_ends_in bs)
+  pub counts : length cs ≡ length (all_counts bs)
+  pub enabled : length es ≡ count_j bs
+
+-- endpoints (manifolds, then joints), counts, enabled bytes
+pub record ConstraintsDecoded (bs ps cs es : List ℕ) : Type 0 where
+  pub ends : ps ≡ manifolds_in bs ++ joint_ends_in bs
+  pub counts : cs ≡ all_counts bs
+  pub enabled : es ≡ live_in bs
+
 -- a file that passed questions 1 to 5, and tables of its frame's sizes
 pub record Decodable (bs : List ℕ) (m : ℕ) (ts fs ps cs es : List ℕ) : Type 0 where
   pub file : asked (file_questions bs) ≡ 0

@@ -1,5 +1,6 @@
 -- What the questions of a file's joints answer: the walk over the entries of version 2, and the joints of either version.
 use Rattle.std.specs.Prelude.{ℕ, ◌+◌, ◌*◌, ◌≡◌, true, cond, List, eqb, length, Result, IfOk}
+use Rattle.frame.specs.declared.JointBytes.{JointBytes}
 use Rattle.frame.specs.declared.refusal.Refusal.{Refusal}
 use Rattle.frame.specs.Refusals.{refused_by}
 use Rattle.frame.specs.Questions.{asked}
@@ -20,12 +21,16 @@ pub record JointsRead (bs : List ℕ) (w : Result ℕ Refusal) : Type 0 where
   pub refusal : refused_by w ≡ joints_refusal bs
   pub ends : IfOk w (λ ends. ends ≡ length (joint_ends_in bs))
 
--- a file that passed questions 1 to 3 and its joints' refusal, with the place and the number of its joints
-pub record Passed (bs : List ℕ) (from n : ℕ) : Type 0 where
-  pub head : asked (head_questions bs) ≡ 0
-  pub walked : joints_refusal bs ≡ 0
-  pub place : from ≡ joints_at bs
-  pub joints : n ≡ count_j bs
+-- the joints' part of a file that passed questions 1 to 3
+pub record Placed (p : JointBytes) : Type 0 where
+  pub head : asked (head_questions p.bytes.now) ≡ 0
+  pub place : p.from ≡ joints_at p.bytes.now
+  pub joints : p.joints ≡ count_j p.bytes.now
+
+-- and of one that passed its joints' refusal, too
+pub record Passed (p : JointBytes) : Type 0 where
+  pub placed : Placed p
+  pub walked : joints_refusal p.bytes.now ≡ 0
 
 -- n entries that the walk passes, and tables of their sizes
 pub record Walkable (bs : List ℕ) (s : ℕ) (ps cs es : List ℕ) : Type 0 where

@@ -8,3 +8,4 @@ pub mod Refusals
 pub mod Lists
 pub mod Constraints
 pub mod Asked
+pub mod Lent

@@ -7,7 +7,7 @@ ghost use Rattle.frame.specs.Joints.{Walks, Walkable, Entered, Placeable};
 ghost use Rattle.frame.specs.Refusals.{refused_by};
 
 use crate::multi::counted;
-use crate::{HEADER, PAIR, Refusal, ask, half_at};
+use crate::{HEADER, JointBytes, PAIR, Refusal, ask, half_at};
 
 // The entry at a place of the file: cut off before its count is met (4), a wrong count (5), or cut off behind it (4).
 #[tactic(auto, unfolding(crate::specs::Files::entry_refusal))]
@@ -21,36 +21,36 @@ fn ask_entry(bytes: &[u8], at: usize) -> Result<(), Refusal>
     ask(at + (2 + 2 * count) <= bytes.len(), Refusal::Lengths)
 }
 
-// The walk over the `joints` entries that start at `from`; behind the last one nothing may be left over. How many endpoints they have together.
-pub fn walk(bytes: &[u8], from: usize, joints: usize) -> Result<usize, Refusal>
-    ensures { Walks bytes.now from joints result }
+// The walk over a part's entries; behind the last one nothing may be left over. How many endpoints they have together.
+pub fn walk(part: JointBytes<'_>) -> Result<usize, Refusal>
+    ensures { Walks part.entry.bytes.now part.entry.from part.entry.joints result }
 {
-    ask(from <= bytes.len(), Refusal::Lengths)?;
-    let mut at = from;
+    ask(part.from <= part.bytes.len(), Refusal::Lengths)?;
+    let mut at = part.from;
     let mut ends: usize = 0;
     // The entries before place `at` pass and have `ends` endpoints.
-    for _j in 0..joints {
-        ask_entry(bytes, at)?;
-        let count = usize::from(bytes[at + 1]);
+    for _j in 0..part.joints {
+        ask_entry(part.bytes, at)?;
+        let count = usize::from(part.bytes[at + 1]);
         at += 2 + 2 * count;
         ends += count;
     }
-    ask(at == bytes.len(), Refusal::Lengths)?;
+    ask(at == part.bytes.len(), Refusal::Lengths)?;
     Ok(ends)
 }
 
-// Question 5 of the enabled bytes of the `joints` entries that start at `from`.
-pub fn enabled_known(bytes: &[u8], from: usize, joints: usize) -> bool
-    requires { entries_refusal bytes.now from joints ≡ 0 }
-    ensures { result ≡ bits (live_from bytes.now from joints) }
+// Question 5 of the enabled bytes of a part's entries.
+pub fn enabled_known(part: JointBytes<'_>) -> bool
+    requires { entries_refusal part.bytes.now part.from part.joints ≡ 0 }
+    ensures { result ≡ bits (live_from part.entry.bytes.now part.entry.from part.entry.joints) }
 {
-    let mut at = from;
+    let mut at = part.from;
     // The entries before place `at` have known bytes.
-    for _j in 0..joints {
-        if 1 < bytes[at] {
+    for _j in 0..part.joints {
+        if 1 < part.bytes[at] {
             return false;
         }
-        at += 2 + 2 * usize::from(bytes[at + 1]);
+        at += 2 + 2 * usize::from(part.bytes[at + 1]);
     }
     true
 }

@@ -16,8 +16,9 @@ ghost use Rattle.lists.specs.Basics.{all};
 ghost use Rattle.frame.specs.Frames.{constraints_of, sound, conflicts, flag_of};
 ghost use Rattle.frame.specs.Questions.{asked, few_each, bits};
 ghost use Rattle.frame.specs.Files.{byte, half, word, second, pairs_from, enabled_from, count_m, count_j, joints_at, live_in, ends_at, version_question, head_questions};
-ghost use Rattle.frame.specs.Joints.{JointsRead, Passed};
-ghost use Rattle.frame.specs.Decodes.{Decodable, Decoded};
+ghost use Rattle.frame.specs.Joints.{Placed, JointsRead, Passed};
+ghost use Rattle.frame.specs.Decodes.{ConstraintsDecodable, ConstraintsDecoded, Decodable, Decoded};
+ghost use Rattle.frame.specs.Lent.{SameFrame};
 ghost use Rattle.frame.specs.Answers.{version_of, Versioned, Read};
 ghost use Rattle.frame.specs.Refusals.{refused_by};
 
@@ -63,6 +64,14 @@ pub struct Frame {
     pub joint_ends: usize,
 }
 
+// The joints' part of a file: the file's bytes, the place where its joints start, and how many there are.
+#[derive(Clone, Copy)]
+pub struct JointBytes<'a> {
+    pub bytes: &'a [u8],
+    pub from: usize,
+    pub joints: usize,
+}
+
 // A frame as a call is lent it: a type for each body, the endpoint pairs of manifolds, and the joints' endpoints, counts and enabled bytes;
 // without counts the joints are pairs.
 #[derive(Clone, Copy)]
@@ -72,6 +81,17 @@ pub struct Lists<'a> {
     pub joint_ends: &'a [u16],
     pub joint_counts: &'a [u8],
     pub enabled: &'a [u8],
+}
+
+// What a file is decoded into: a type and a flag for each body, the endpoints of the manifolds and then of the joints, their counts (none
+// on version 1), and an enabled byte for each joint.
+#[derive(Drop)]
+pub struct FrameTables<'a> {
+    pub types: &'a mut [u8],
+    pub flags: &'a mut [u8],
+    pub pairs: &'a mut [u16],
+    pub counts: &'a mut [u8],
+    pub enabled: &'a mut [u8],
 }
 
 // The 16-bit number at a place, big-endian.
@@ -136,17 +156,17 @@ fn ask_head(bytes: &[u8]) -> Result<Version, Refusal>
     Ok(version)
 }
 
-// Questions 5 (of counts) and 4 of the joints that start at `from`: the walk of version 2, the length of version 1. How many endpoints they
-// have together.
-fn walk_joints(bytes: &[u8], from: usize, joints: usize) -> Result<usize, Refusal>
-    requires { (asked (head_questions bytes.now) ≡ 0) × (from ≡ joints_at bytes.now) × (joints ≡ count_j bytes.now) }
-    ensures { JointsRead bytes.now result }
+// Questions 5 (of counts) and 4 of a file's joints: the walk of version 2, the length of version 1. How many endpoints they have together.
+fn walk_joints(part: JointBytes<'_>) -> Result<usize, Refusal>
+    requires { Placed part }
+    ensures { JointsRead part.entry.bytes.now result }
 {
-    if is_second(bytes) {
-        return entries::walk(bytes, from, joints);
+    if is_second(part.bytes) {
+        return entries::walk(part);
     }
-    ask(bytes.len() == from + JOINT * joints, Refusal::Lengths)?;
-    Ok(2 * joints)
+    let end = part.from + JOINT * part.joints;
+    ask(part.bytes.len() == end, Refusal::Lengths)?;
+    Ok(2 * part.joints)
 }
 
 // Question 5: is every byte at most `limit`? (`Frame::MAX_TYPE` for types, 1 for enabled bytes and flags)
@@ -161,14 +181,12 @@ pub fn at_most(s: &[u8], limit: u8) -> bool
     known
 }
 
-// Question 5 of the enabled bytes of the `joints` joints that start at `from`, version 1.
-fn enabled_known(bytes: &[u8], from: usize, joints: usize) -> bool
-    requires { (from + 5 * joints ≤ length bytes.now) × (joints ≤ 4096) }
-    ensures { result ≡ bits (enabled_from bytes.now from joints) }
+// Question 5 of the enabled bytes of version 1, joint after joint.
+fn enabled_known(joints: &[u8]) -> bool
+    ensures { result ≡ bits (enabled_from joints.now 0 (length joints.now / 5)) }
 {
-    for j in 0..joints {
-        let enabled = bytes[from + JOINT * j + PAIR];
-        if 1 < enabled {
+    for joint in joints.chunks_exact(JOINT) {
+        if 1 < joint[PAIR] {
             return false;
         }
     }
@@ -176,14 +194,14 @@ fn enabled_known(bytes: &[u8], from: usize, joints: usize) -> bool
 }
 
 // Question 5 of the enabled bytes, by version.
-fn live_known(bytes: &[u8], from: usize, joints: usize) -> bool
-    requires { Passed bytes.now from joints }
-    ensures { result ≡ bits (live_in bytes.now) }
+fn live_known(part: JointBytes<'_>) -> bool
+    requires { Passed part }
+    ensures { result ≡ bits (live_in part.entry.bytes.now) }
 {
-    if is_second(bytes) {
-        return entries::enabled_known(bytes, from, joints);
+    if is_second(part.bytes) {
+        return entries::enabled_known(part);
     }
-    enabled_known(bytes, from, joints)
+    enabled_known(&part.bytes[part.from..])
 }
 
 impl Frame {
@@ -220,11 +238,15 @@ impl Frame {
         let bodies = half_at(bytes, 5);
         let manifolds = half_at(bytes, 7);
         let joints = half_at(bytes, 9);
-        let from = HEADER + bodies + PAIR * manifolds;
-        let joint_ends = walk_joints(bytes, from, joints)?;
+        let part = JointBytes {
+            bytes,
+            from: HEADER + bodies + PAIR * manifolds,
+            joints,
+        };
+        let joint_ends = walk_joints(part)?;
         let types = &bytes[HEADER..HEADER + bodies];
         ask(at_most(types, Frame::MAX_TYPE), Refusal::Values)?;
-        ask(live_known(bytes, from, joints), Refusal::Values)?;
+        ask(live_known(part), Refusal::Values)?;
         Ok(Frame {
             version,
             bodies,
@@ -255,7 +277,7 @@ pub fn conflicts(t: u8) -> bool
 pub fn flag_of(t: u8) -> u8
     ensures { result ≡ flag_of t }
 {
-    conflicts(t) as u8
+    u8::from(conflicts(t))
 }
 
 // The flags of types.
@@ -282,14 +304,25 @@ fn decode_pairs(bytes: &[u8], from: usize, step: usize, pairs: &mut [u16])
     }
 }
 
-// The enabled bytes of the joints that start at `from`, version 1.
-fn decode_enabled(bytes: &[u8], from: usize, enabled: &mut [u8])
-    requires { from + 5 * length enabled.old ≤ length bytes.now }
-    ensures { enabled.new ≡ enabled_from bytes.now from (length enabled.old) }
+// The enabled bytes of version 1, joint after joint.
+fn decode_enabled(joints: &[u8], enabled: &mut [u8])
+    requires { length joints.now ≡ 5 * length enabled.old }
+    ensures { enabled.new ≡ enabled_from joints.now 0 (length enabled.old) }
 {
-    for (j, byte) in enabled.iter_mut().enumerate() {
-        *byte = bytes[from + JOINT * j + PAIR];
+    for (j, joint) in joints.chunks_exact(JOINT).enumerate() {
+        enabled[j] = joint[PAIR];
     }
+}
+
+// The types and flags of a file's bodies.
+fn decode_bodies(bytes: &[u8], types: &mut [u8], flags: &mut [u8])
+    requires types { 11 + length types.old ≤ length bytes.now }
+    requires flags { length flags.old ≡ length types.old }
+    ensures types { types.new ≡ take (length types.old) (drop 11 bytes.now) }
+    ensures flags { flags.new ≡ map flag_of types.new }
+{
+    decode_types(bytes, types);
+    flag_bodies(types, flags);
 }
 
 // The counts of constraints that are pairs.
@@ -299,25 +332,22 @@ fn fill_twos(counts: &mut [u8])
     counts.fill(2);
 }
 
-// The whole file, into tables of its frame's sizes. On version 1 `counts` is empty; on version 2 it has a count for each
+// The endpoints, counts and enabled bytes of a file's constraints. On version 1 `counts` is empty; on version 2 it has a count for each
 // manifold and joint.
-pub fn decode(
+fn decode_constraints(
     bytes: &[u8],
     manifolds: usize,
-    types: &mut [u8],
-    flags: &mut [u8],
     pairs: &mut [u16],
     counts: &mut [u8],
     enabled: &mut [u8],
 )
-    requires { Decodable bytes.now manifolds types.old flags.old pairs.old counts.old enabled.old }
-    ensures { Decoded bytes.now types.new flags.new pairs.new counts.new enabled.new }
+    requires { ConstraintsDecodable bytes.now manifolds pairs.old counts.old enabled.old }
+    ensures { ConstraintsDecoded bytes.now pairs.new counts.new enabled.new }
 {
-    decode_types(bytes, types);
-    flag_bodies(types, flags);
     let n = 2 * manifolds;
-    decode_pairs(bytes, HEADER + types.len(), PAIR, &mut pairs[..n]);
-    let from = HEADER + types.len() + PAIR * manifolds;
+    let first = HEADER + half_at(bytes, 5);
+    decode_pairs(bytes, first, PAIR, &mut pairs[..n]);
+    let from = first + PAIR * manifolds;
     if is_second(bytes) {
         fill_twos(&mut counts[..manifolds]);
         entries::decode(
@@ -330,7 +360,25 @@ pub fn decode(
         return;
     }
     decode_pairs(bytes, from, JOINT, &mut pairs[n..]);
-    decode_enabled(bytes, from, enabled);
+    decode_enabled(&bytes[from..], enabled);
+}
+
+// The whole file, into tables of its frame's sizes.
+pub fn decode(bytes: &[u8], manifolds: usize, tables: &mut FrameTables<'_>)
+    requires { Decodable bytes.now manifolds tables.old.types.now tables.old.flags.now tables.old.pairs.now tables.old.counts.now
+        tables.old.enabled.now }
+    ensures decoded { Decoded bytes.now tables.new.types.now tables.new.flags.now tables.new.pairs.now tables.new.counts.now
+        tables.new.enabled.now }
+    ensures same { SameFrame tables.old tables.new }
+{
+    decode_bodies(bytes, tables.types, tables.flags);
+    decode_constraints(
+        bytes,
+        manifolds,
+        tables.pairs,
+        tables.counts,
+        tables.enabled,
+    );
 }
 
 // The byte at any place of any file, 0 past its end.

@@ -6,7 +6,8 @@ ghost use Rattle.std.specs.Prelude.{◌≡◌, ◌≤◌, ◌+◌, ◌*◌, ◌+
 ghost use Rattle.frame.specs.Decodes.{Decodable};
 ghost use Rattle.colored_bodies.specs.Bindings.{Known};
 ghost use Rattle.frame_tables.specs.Filled.{islands_in};
-ghost use Rattle.frame_tables.specs.Lent.{SameFrame, SameByIsland};
+ghost use Rattle.frame.specs.Lent.{SameFrame};
+ghost use Rattle.frame_tables.specs.Lent.{SameByIsland};
 ghost use Rattle.island.specs.Lent as island_lent;
 ghost use Rattle.island_numbers.specs.Tables.{labels_of};
 ghost use Rattle.plan_questions.specs.Lent as plan_lent;

@@ -4,26 +4,16 @@
 
 ghost use Rattle.std.specs.Prelude.{◌*◌, ◌≤◌, ◌≡◌, length};
 ghost use Rattle.frame.specs.Decodes.{Decodable};
+ghost use Rattle.frame.specs.Lent.{SameFrame};
 ghost use Rattle.frame_parts.specs.Parts.{Standing};
 ghost use Rattle.island.specs.Lent as island_lent;
 ghost use Rattle.plan_questions.specs.Lent as plan_lent;
 ghost use Rattle.frame_tables.specs.Filled.{Roomy, Fills};
-ghost use Rattle.frame_tables.specs.Lent.{SameFrame};
 
+pub use frame::FrameTables;
 use frame::{Lists, Refusal};
 use island::IslandTables;
 use plan_questions::PlanTables;
-
-// What a file is decoded into: a type and a flag for each body, the endpoints of the manifolds and then of the joints, their counts (none
-// on version 1), and an enabled byte for each joint.
-#[derive(Drop)]
-pub struct FrameTables<'a> {
-    pub types: &'a mut [u8],
-    pub flags: &'a mut [u8],
-    pub pairs: &'a mut [u16],
-    pub counts: &'a mut [u8],
-    pub enabled: &'a mut [u8],
-}
 
 // The constraints island after island: their numbers, their endpoints, and their counts.
 #[derive(Drop)]
@@ -75,15 +65,7 @@ pub fn fill(
     ensures same_plan { plan_lent.SameTables plan.old plan.new }
     ensures plan_lengths { plan_lent.lengths_of (plan_lent.tables_in plan.new) ≡ plan_lent.lengths_of (plan_lent.tables_in plan.old) }
 {
-    frame::decode(
-        frame,
-        manifolds,
-        tables.types,
-        tables.flags,
-        tables.pairs,
-        tables.counts,
-        tables.enabled,
-    );
+    frame::decode(frame, manifolds, tables);
     let counted = tables.counts.len() != 0;
     let joints = tables.enabled.len();
     let lists = lists_in(tables, manifolds);

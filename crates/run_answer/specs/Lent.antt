@@ -8,7 +8,7 @@ use Rattle.island.specs.Lent as island_lent
 use Rattle.plan_questions.specs.Plans as plans
 use Rattle.plan_questions.specs.declared.PlanTables as plan_code
 use Rattle.plan_questions.specs.Lent as plan_lent
-use Rattle.frame_tables.specs.declared.FrameTables.{FrameTables}
+use Rattle.frame.specs.declared.FrameTables.{FrameTables}
 use Rattle.frame_tables.specs.declared.ByIsland.{ByIsland}
 
 -- ---- the lent tables

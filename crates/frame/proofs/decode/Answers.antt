@@ -1,28 +1,7 @@
--- `frame::decode`: types, flags and manifolds of either version, and then the joints of the file's version.
-use Rattle.std.proofs.Common.{sym, ◌∙◌, arith}
+-- `frame::decode`: an accepted file has its types.
+use Rattle.std.proofs.Common.{arith}
 use Rattle.frame.proofs.Files.{file_sized}
-use Rattle.frame.proofs.Decodes.{front_long, entries-ready, pairs_ready, first_decoded, second_decoded}
 use Rattle.frame.proofs.decode.Goals as goal
 
-pub decode_types-requires : goal.decode_types-requires
-decode_types-requires c = omega (arith, (file_sized c.args.bytes.now c.requires.file).bytes, c.requires.types)
-
-pub decode_pairs-requires : goal.decode_pairs-requires
-decode_pairs-requires c =
-    let long = front_long _ _ _ _ _ _ _ c.requires in
-    let s = file_sized c.args.bytes.now c.requires.file in
-    (omega arith, omega (arith, long, s.bytes, c.requires.types, c.requires.manifolds, c.decode_types.auto.types), omega (arith, long))
-
-pub decode-requires : goal.decode-requires
-decode-requires c = entries-ready _ _ _ _ _ _ _ c.requires _ _ c.decode_types.ensures c.decode_types.auto.types c.decode_pairs.ensures c.decode_pairs.auto.pairs (sym c.is_second.ensures ∙ c.if-is_second.true) _ c.fill_twos.ensures c.fill_twos.auto.counts
-
-pub decode_pairs-requires-2 : goal.decode_pairs-requires-2
-decode_pairs-requires-2 c =
-    let ready = pairs_ready _ _ _ _ _ _ _ c.requires _ _ c.decode_types.ensures c.decode_types.auto.types c.decode_pairs.ensures c.decode_pairs.auto.pairs (sym c.is_second.ensures ∙ c.if-is_second.false) in
-    (omega arith, ready.0, ready.1)
-
-pub returns-then-is_second : goal.returns-then-is_second
-returns-then-is_second c = second_decoded _ _ _ _ _ _ _ c.requires _ _ c.decode_types.ensures c.decode_types.auto.types c.decode_pairs.ensures c.decode_pairs.auto.pairs (sym c.is_second.ensures ∙ c.if-is_second.true) _ c.fill_twos.ensures c.fill_twos.auto.counts _ _ _ _ c.flag_bodies.ensures c.decode.ensures
-
-pub returns : goal.returns
-returns c = first_decoded _ _ _ _ _ _ _ c.requires _ _ c.decode_types.ensures c.decode_types.auto.types c.decode_pairs.ensures c.decode_pairs.auto.pairs (sym c.is_second.ensures ∙ c.if-is_second.false) _ _ _ c.flag_bodies.ensures c.decode_pairs-2.ensures c.decode_enabled.ensures
+pub decode_bodies-requires-clause-types : goal.decode_bodies-requires-clause-types
+decode_bodies-requires-clause-types c = omega (arith, (file_sized c.args.bytes.now c.requires.file).bytes, c.requires.types)

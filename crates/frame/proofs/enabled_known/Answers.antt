@@ -1,18 +1,22 @@
--- `frame::enabled_known`: the next byte decides, or is passed by.
-use Rattle.std.proofs.Common.{◌+◌, ◌-◌, ◌*◌, ◌≡◌, sym, ◌∙◌, arith}
+-- `frame::enabled_known`: the next joint's byte decides, or is passed by.
+use Rattle.std.proofs.Common.{sym, ap, ◌∙◌, arith}
+use Rattle.frame.specs.Questions.{bits}
 use Rattle.frame.proofs.Decoding.{enabled-end, known_stop, known_turn}
 use Rattle.frame.proofs.enabled_known.Goals as goal
 
-pub returns-then-enabled-gt1 : goal.returns-then-enabled-gt1
-returns-then-enabled-gt1 c = sym (known_stop c.args.bytes.now (c.args.from + 5 * c.loop-j.j) (c.args.joints - c.loop-j.j) (omega arith) c.if-enabled-gt1.true) ∙ c.loop-j.invariant
+pub returns-then-joint-gt1 : goal.returns-then-joint-gt1
+returns-then-joint-gt1 c =
+    let i = c.loop-joint.invariant in
+    let x = c.in-Some.ensures.steps.1 in
+    sym (known_stop _ _ _ x.0 (x.1 ∙ i.size) c.if-joint-gt1.true) ∙ i.known
 
-pub loop-j-preserved : goal.loop-j-preserved
-loop-j-preserved c =
-    let at = c.args.from + 5 * c.loop-j.j in
-    let left = c.args.joints - c.loop-j.j in
-    let next : at + 5 ≡ c.args.from + 5 * (c.loop-j.j + 1) = omega arith in
-    let less : left - 1 ≡ c.args.joints - (c.loop-j.j + 1) = omega arith in
-    rw (← next, ← less) (known_turn c.args.bytes.now at left (omega arith) c.if-enabled-gt1.false ∙ c.loop-j.invariant)
+pub loop-joint-preserved : goal.loop-joint-preserved
+loop-joint-preserved c =
+    let i = c.loop-joint.invariant in
+    let x = c.in-Some.ensures.steps.1 in
+    record { size = c.in-Some.ensures.steps.0 ∙ i.size; known = known_turn _ _ _ x.0 (x.1 ∙ i.size) c.if-joint-gt1.false ∙ i.known }
 
 pub returns : goal.returns
-returns c = rw (enabled-end c.args.bytes.now (c.args.from + 5 * c.loop-j.j) (c.args.joints - c.loop-j.j) (omega arith)) at c.loop-j.invariant
+returns c =
+    let i = c.loop-joint.invariant in
+    sym (ap bits (enabled-end _ (omega (arith, c.in-None.ensures.steps.1.0, i.size)))) ∙ i.known

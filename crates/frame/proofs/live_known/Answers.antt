@@ -1,10 +1,17 @@
 -- `frame::live_known`: version 1's joints fill the rest of the file.
-use Rattle.std.proofs.Common.{sym, ◌∙◌, arith}
-use Rattle.frame.proofs.Files.{headed, first_bytes}
+use Rattle.std.proofs.Common.{sym, ap, ◌∙◌, arith}
+use Rattle.frame.specs.Questions.{bits}
+use Rattle.frame.proofs.Files.{joints_inside, live-first}
+use Rattle.frame.proofs.Whole.{rest_part}
 use Rattle.frame.proofs.live_known.Goals as goal
 
-pub enabled_known-requires-2 : goal.enabled_known-requires-2
-enabled_known-requires-2 c =
-    let r = c.requires in
-    let h = headed c.args.bytes.now r.head in
-    (omega (arith, first_bytes c.args.bytes.now r.head (sym c.is_second.ensures ∙ c.if-is_second.false) r.walked, r.place, r.joints), omega (arith, h.joints, r.joints))
+pub slice_bounds-enabled_known-start : goal.slice_bounds-enabled_known-start
+slice_bounds-enabled_known-start c =
+    let h = c.requires.placed in
+    omega (arith, joints_inside c.args.part.bytes.now h.head c.requires.walked, h.place)
+
+pub returns : goal.returns
+returns c =
+    let h = c.requires.placed in
+    let v = sym c.is_second.ensures ∙ c.if-is_second.false in
+    c.enabled_known-2.ensures ∙ ap bits (live-first c.args.part.bytes.now _ c.args.part.from h.head v c.requires.walked h.place (rest_part c.args.part.from c.args.part.bytes.now))

@@ -6,6 +6,6 @@ use Rattle.frame.proofs.entries.enabled_known.Given as goal
 
 abbrev pub invariant-loop-j : goal.invariant-loop-j
 invariant-loop-j l = record {
-  walked : entries_refusal l.bytes l.at (l.joints - l._j) ≡ 0;
-  known : bits (live_from l.bytes l.at (l.joints - l._j)) ≡ bits (live_from l.bytes l.from l.joints);
+  walked : entries_refusal l.part.bytes.now l.at (l.part.joints - l._j) ≡ 0;
+  known : bits (live_from l.part.bytes.now l.at (l.part.joints - l._j)) ≡ bits (live_from l.part.bytes.now l.part.from l.part.joints);
 }

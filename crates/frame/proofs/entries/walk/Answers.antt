@@ -10,7 +10,7 @@ pub returns-in_err-ask : goal.returns-in_err-ask
 returns-in_err-ask c =
     let p = err_from_is_err_and c.from_residual.result c.from_residual.ensures.1 in
     rw (p.1, p.2) (record {
-      refusal = walk_early c.args.bytes.now c.args.from c.args.joints _ c.in_err-ask.ensures (numbered c.in_err-ask.field-0.0);
+      refusal = walk_early c.args.part.bytes.now c.args.part.from c.args.part.joints _ c.in_err-ask.ensures (numbered c.in_err-ask.field-0.0);
       ends = tt;
     })
 
@@ -18,7 +18,7 @@ pub returns-in_err-ask_entry : goal.returns-in_err-ask_entry
 returns-in_err-ask_entry c =
     let p = err_from_is_err_and c.from_residual-in_err-ask_entry.result c.from_residual-in_err-ask_entry.ensures.1 in
     rw (p.1, p.2) (record {
-      refusal = walk_stop c.args.bytes.now c.loop-j.at (c.args.joints - c.loop-j._j) _ (omega arith) c.in_err-ask_entry.ensures (numbered c.in_err-ask_entry.field-0.0) ∙ c.loop-j.invariant.refusal;
+      refusal = walk_stop c.args.part.bytes.now c.loop-j.at (c.args.part.joints - c.loop-j._j) _ (omega arith) c.in_err-ask_entry.ensures (numbered c.in_err-ask_entry.field-0.0) ∙ c.loop-j.invariant.refusal;
       ends = tt;
     })
 
@@ -26,22 +26,22 @@ pub returns-in_err-ask-2 : goal.returns-in_err-ask-2
 returns-in_err-ask-2 c =
     let p = err_from_is_err_and c.from_residual-in_err-ask-2.result c.from_residual-in_err-ask-2.ensures.1 in
     rw (p.1, p.2) (record {
-      refusal = walk_over c.args.bytes.now c.loop-j.at (c.args.joints - c.loop-j._j) _ (omega arith) c.in_err-ask-2.ensures ∙ c.loop-j.invariant.refusal;
+      refusal = walk_over c.args.part.bytes.now c.loop-j.at (c.args.part.joints - c.loop-j._j) _ (omega arith) c.in_err-ask-2.ensures ∙ c.loop-j.invariant.refusal;
       ends = tt;
     })
 
-pub bounds-bytes-at : goal.bounds-bytes-at
-bounds-bytes-at c = let w = whole c.args.bytes.now c.loop-j.at (sym c.in_ok-ask_entry.ensures) in omega (arith, w.begun)
+pub bounds-part-at : goal.bounds-part-at
+bounds-part-at c = let w = whole c.args.part.bytes.now c.loop-j.at (sym c.in_ok-ask_entry.ensures) in omega (arith, w.begun)
 
 pub loop-j-preserved : goal.loop-j-preserved
 loop-j-preserved c =
-    let bs = c.args.bytes.now in
+    let bs = c.args.part.bytes.now in
     let l = c.loop-j in
-    let left = c.args.joints - l._j in
+    let left = c.args.part.joints - l._j in
     let passes = sym c.in_ok-ask_entry.ensures in
     let w = whole bs l.at passes in
     let next : l.at + (2 + 2 * c.from-count.result) ≡ entry_end bs l.at = omega (arith, c.from-count.ensures) in
-    let less : left - 1 ≡ c.args.joints - (l._j + 1) = omega arith in
+    let less : left - 1 ≡ c.args.part.joints - (l._j + 1) = omega arith in
     record {
       inside = omega (arith, w.ended, c.from-count.ensures);
       few = omega (arith, l.invariant.few);
@@ -51,9 +51,9 @@ loop-j-preserved c =
 
 pub returns : goal.returns
 returns c =
-    let bs = c.args.bytes.now in
+    let bs = c.args.part.bytes.now in
     let l = c.loop-j in
-    let left = c.args.joints - l._j in
+    let left = c.args.part.joints - l._j in
     record {
       refusal = walk_over bs l.at left 0 (omega arith) c.in_ok-ask-2.ensures ∙ l.invariant.refusal;
       ends = omega (arith, l.invariant.ends, ends-none_long bs l.at left (omega arith));

@@ -6,8 +6,8 @@ use Rattle.frame.proofs.entries.walk.Given as goal
 
 abbrev pub invariant-loop-j : goal.invariant-loop-j
 invariant-loop-j l = record {
-  inside : l.at ≤ length l.bytes;
+  inside : l.at ≤ length l.part.bytes.now;
   few : l.ends ≤ l.at;
-  refusal : entries_refusal l.bytes l.at (l.joints - l._j) ≡ entries_refusal l.bytes l.from l.joints;
-  ends : l.ends + length (ends_from l.bytes l.at (l.joints - l._j)) ≡ length (ends_from l.bytes l.from l.joints);
+  refusal : entries_refusal l.part.bytes.now l.at (l.part.joints - l._j) ≡ entries_refusal l.part.bytes.now l.part.from l.part.joints;
+  ends : l.ends + length (ends_from l.part.bytes.now l.at (l.part.joints - l._j)) ≡ length (ends_from l.part.bytes.now l.part.from l.part.joints);
 }
