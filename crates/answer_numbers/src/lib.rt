@@ -22,7 +22,7 @@ pub fn part_start(offsets: &[u16], group: usize, size: usize) -> usize
     if offsets.len() <= group {
         return 0;
     }
-    offsets[group] as usize
+    usize::from(offsets[group])
 }
 
 // A position that was handed back, 0 past the last.
@@ -49,9 +49,9 @@ pub fn hand(taken: Result<Taken, Refusal>, handed: &mut [u16; 4]) -> u8
         Ok(taken) => {
             *handed = [
                 taken.first,
-                taken.first_dynamic as u16,
+                u16::from(taken.first_dynamic),
                 taken.second,
-                taken.second_dynamic as u16,
+                u16::from(taken.second_dynamic),
             ];
             0
         }
@@ -72,13 +72,13 @@ pub fn hand_taken(taken: Result<TakenAt, Refusal>, handed: &mut [u16; 8]) -> u8
             let dynamic = taken.dynamic;
             *handed = [
                 bodies[0],
-                dynamic[0] as u16,
+                u16::from(dynamic[0]),
                 bodies[1],
-                dynamic[1] as u16,
+                u16::from(dynamic[1]),
                 bodies[2],
-                dynamic[2] as u16,
+                u16::from(dynamic[2]),
                 bodies[3],
-                dynamic[3] as u16,
+                u16::from(dynamic[3]),
             ];
             0
         }

@@ -109,7 +109,7 @@ pub extern "C" fn engkarupi_update(
     };
     let answer = before.update(flags, pairs, &mut tables);
     *plan = answer.plan_after(before).into();
-    *changed = answer.is_changed() as u8;
+    *changed = u8::from(answer.is_changed());
     answer.refusal()
 }
 

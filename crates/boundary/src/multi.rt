@@ -106,7 +106,7 @@ pub extern "C" fn engkarupi_update_multi(
     };
     let answer = before.update(flags, ends, counts_in, counts, &mut tables);
     *plan = answer.plan_after(before).plan.into();
-    *changed = answer.is_changed() as u8;
+    *changed = u8::from(answer.is_changed());
     answer.refusal()
 }
 
