@@ -1,21 +1,14 @@
--- Answers as numbers: plans, positions, and the bodies that a take hands.
+-- Answers as numbers: plans with counts, positions, and the bodies that a take hands.
 use Rattle.std.specs.Prelude.{ℕ, false, Result, Ok, Err, List, [], ◌∷◌, map, get_or}
 use Rattle.std.specs.List.{range_with_len}
 use Rattle.std.specs.Borrow.{Bor}
 use Rattle.lists.specs.Basics.{one}
 use Rattle.frame.specs.declared.refusal.Refusal.{Refusal}
-use Rattle.constraint_coloring.specs.declared.ConstraintColoring.{ConstraintColoring}
 use Rattle.constraint_coloring.specs.Calls.{positions_values}
+use Rattle.constraint_coloring.specs.Numbers.{plan_of_numbers, plan_numbers}
 use Rattle.multi_coloring.specs.declared.MultiColoring.{MultiColoring}
 use Rattle.colored_bodies.specs.declared.multi.TakenAt.{TakenAt}
 use Rattle.colored_bodies.specs.declared.Taken.{Taken}
-
--- a plan as four numbers: bodies, constraints, groups, and the constraints of the largest group
-abbrev pub plan_of_numbers : List ℕ → ConstraintColoring
-plan_of_numbers p = record { body_count = get_or p 0 0; constraint_count = get_or p 1 0; color_count = get_or p 2 0; max_color_constraint_count = get_or p 3 0 }
-
-abbrev pub plan_numbers : ConstraintColoring → List ℕ
-plan_numbers p = p.body_count ∷ p.constraint_count ∷ p.color_count ∷ p.max_color_constraint_count ∷ []
 
 -- positions in n places; those past the last are 0
 abbrev pub placed : ℕ → List ℕ → List ℕ

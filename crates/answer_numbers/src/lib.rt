@@ -4,38 +4,13 @@
 ghost use Rattle.std.specs.Prelude.{◌≡◌, cond, eqb, get_or};
 ghost use Rattle.frame.specs.Refusals.{refused_by};
 ghost use Rattle.constraint_coloring.specs.Calls.{positions_values};
-ghost use Rattle.answer_numbers.specs.Numbers.{plan_of_numbers, plan_numbers, placed, handed_numbers, taken_numbers};
+ghost use Rattle.answer_numbers.specs.Numbers.{placed, handed_numbers, taken_numbers};
 
 use colored_bodies::Taken;
 use colored_bodies::multi::TakenAt;
-use constraint_coloring::ConstraintColoring;
 use frame::Refusal;
 use frame::refusal::refusal_number;
 use std::array;
-
-// The plan that four numbers give.
-pub fn plan_from(plan: &[usize; 4]) -> ConstraintColoring
-    ensures { result ≡ plan_of_numbers plan.now }
-{
-    ConstraintColoring {
-        body_count: plan[0],
-        constraint_count: plan[1],
-        color_count: plan[2],
-        max_color_constraint_count: plan[3],
-    }
-}
-
-// And its four numbers.
-pub fn numbers_from(plan: ConstraintColoring) -> [usize; 4]
-    ensures { result ≡ plan_numbers plan }
-{
-    [
-        plan.body_count,
-        plan.constraint_count,
-        plan.color_count,
-        plan.max_color_constraint_count,
-    ]
-}
 
 // Where the part of a group starts, if it is not empty.
 pub fn part_start(offsets: &[u16], group: usize, size: usize) -> usize

@@ -11,7 +11,8 @@ use Rattle.plan_questions.specs.Plans.{part, group_part}
 use Rattle.constraint_coloring.specs.Calls.{positions_values}
 use Rattle.multi_coloring.specs.Counts.{count_read, multi_positions_refusal, positions_in}
 use Rattle.multi_coloring.specs.Calls.{MultiLocated}
-use Rattle.answer_numbers.specs.Numbers.{plan_of_numbers, placed}
+use Rattle.constraint_coloring.specs.Numbers.{plan_of_numbers}
+use Rattle.answer_numbers.specs.Numbers.{placed}
 use Rattle.boundary.specs.Exports.{Found, MultiLocates}
 
 empty : (xs table : List ℕ) (start : ℕ) → xs ≡ [] → take (length xs) (drop start table) ≡ xs

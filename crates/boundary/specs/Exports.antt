@@ -14,7 +14,8 @@ use Rattle.colored_bodies.specs.declared.multi.TakenAt.{TakenAt}
 use Rattle.colored_bodies.specs.Answers.{Takes, TakesAt}
 use Rattle.multi_coloring.specs.declared.MultiColoring.{MultiColoring}
 use Rattle.multi_coloring.specs.Calls.{MultiUpdated, MultiLocated}
-use Rattle.answer_numbers.specs.Numbers.{plan_of_numbers, plan_numbers, multi_plan_of_numbers, multi_plan_numbers, position_numbers, handed_numbers, taken_numbers}
+use Rattle.constraint_coloring.specs.Numbers.{plan_of_numbers, plan_numbers}
+use Rattle.answer_numbers.specs.Numbers.{multi_plan_of_numbers, multi_plan_numbers, position_numbers, handed_numbers, taken_numbers}
 use Rattle.run_answer.specs.declared.Report.{Report}
 use Rattle.run_answer.specs.Answers.{run_report}
 use Rattle.run_answer.specs.Lent.{Lent}

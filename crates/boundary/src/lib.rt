@@ -13,6 +13,7 @@ ghost use Rattle.plan_questions.specs.Plans.{tables_of};
 ghost use Rattle.boundary.specs.Exports.{Updates, Found, Locates, Took};
 
 use colored_bodies::BodyBinding;
+use constraint_coloring::ConstraintColoring;
 use frame::refusal::refusal_number;
 use frame::{Frame, Lists};
 use frame_file::Sizes;
@@ -90,7 +91,7 @@ pub extern "C" fn engkarupi_update(
         color_stamps.new body_stamps.new color_offsets.new
         colored_constraints.new color_body_offsets.new color_bodies.new constraint_body_positions.new) result changed.new plan.new }
 {
-    let before = answer_numbers::plan_from(plan);
+    let before = ConstraintColoring::from(*plan);
     let mut tables = PlanTables {
         dynamic_bodies,
         endpoints,
@@ -107,8 +108,8 @@ pub extern "C" fn engkarupi_update(
         constraint_body_positions,
     };
     let answer = before.update(flags, pairs, &mut tables);
-    *plan = answer_numbers::numbers_from(answer.plan_after(before));
-    *changed = answer.is_changed() as u8;
+    *plan = answer.plan_after(before).into();
+    *changed = u8::from(answer.is_changed());
     answer.refusal()
 }
 
@@ -123,7 +124,7 @@ pub extern "C" fn engkarupi_members(
 ) -> usize
     ensures { Found (get_or plan.now 2 0) color_offsets.now colored_constraints.now group start.new result }
 {
-    let planned = answer_numbers::plan_from(plan);
+    let planned = ConstraintColoring::from(*plan);
     let part = planned.constraints_in_schedule_group(color_offsets, colored_constraints, group);
     let size = part.len();
     *start = answer_numbers::part_start(color_offsets, group, size);
@@ -141,7 +142,7 @@ pub extern "C" fn engkarupi_bodies(
 ) -> usize
     ensures { Found (get_or plan.now 2 0) color_body_offsets.now color_bodies.now group start.new result }
 {
-    let planned = answer_numbers::plan_from(plan);
+    let planned = ConstraintColoring::from(*plan);
     let part = planned.bodies_in_schedule_group(color_body_offsets, color_bodies, group);
     let size = part.len();
     *start = answer_numbers::part_start(color_body_offsets, group, size);
@@ -158,7 +159,7 @@ pub extern "C" fn engkarupi_positions(
 ) -> u8
     ensures { Locates (get_or plan.now 1 0) constraint_body_positions.now constraint result places.new }
 {
-    let planned = answer_numbers::plan_from(plan);
+    let planned = ConstraintColoring::from(*plan);
     let answer = planned.body_positions_for_constraint(constraint_body_positions, constraint);
     answer_numbers::locate(answer, places)
 }

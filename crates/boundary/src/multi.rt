@@ -5,6 +5,7 @@ ghost use Rattle.island.specs.Calls.{island_tables_of, rooms_of, multi_island_re
 ghost use Rattle.plan_questions.specs.Plans.{tables_of};
 ghost use Rattle.boundary.specs.Exports.{MultiUpdates, MultiLocates, TookAt};
 
+use constraint_coloring::ConstraintColoring;
 use frame::refusal::refusal_number;
 use frame::{Frame, Lists};
 use island::IslandTables;
@@ -86,7 +87,7 @@ pub extern "C" fn engkarupi_update_multi(
         colored_constraints.new color_body_offsets.new color_bodies.new constraint_body_positions.new) counts.new result changed.new plan.new }
 {
     let before = MultiColoring {
-        plan: answer_numbers::plan_from(plan),
+        plan: ConstraintColoring::from(*plan),
     };
     let mut tables = PlanTables {
         dynamic_bodies,
@@ -104,8 +105,8 @@ pub extern "C" fn engkarupi_update_multi(
         constraint_body_positions,
     };
     let answer = before.update(flags, ends, counts_in, counts, &mut tables);
-    *plan = answer_numbers::numbers_from(answer.plan_after(before).plan);
-    *changed = answer.is_changed() as u8;
+    *plan = answer.plan_after(before).plan.into();
+    *changed = u8::from(answer.is_changed());
     answer.refusal()
 }
 
@@ -122,7 +123,7 @@ pub extern "C" fn engkarupi_positions_multi(
     ensures { MultiLocates (get_or plan.now 1 0) counts.now constraint_body_positions.now constraint result places.new count.new }
 {
     let planned = MultiColoring {
-        plan: answer_numbers::plan_from(plan),
+        plan: ConstraintColoring::from(*plan),
     };
     let answer = planned.body_positions_for_constraint(
         counts,

@@ -1,6 +1,8 @@
 // Conflict-free groups of constraints (constraint_coloring.rs): the plan that an update builds, and the lookups in it.
 #![tactic(auto)]
 
+mod numbers;
+
 ghost use Rattle.std.specs.Prelude.{◌≡◌, ◌≤◌, ◌+◌, ◌*◌, [], length};
 ghost use Rattle.lists.specs.Basics.{over};
 ghost use Rattle.groups.specs.Groups.{group_count, plan_from, pair_at};

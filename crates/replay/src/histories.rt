@@ -47,13 +47,7 @@ impl Stage {
     }
 
     fn put_plan(&self, out: &mut Answer) {
-        let plan = self.plan;
-        for number in [
-            plan.body_count,
-            plan.constraint_count,
-            plan.color_count,
-            plan.max_color_constraint_count,
-        ] {
+        for number in <[usize; 4]>::from(self.plan) {
             out.byte((number % 256) as u8);
         }
     }

@@ -3,4 +3,4 @@ use Rattle.boundary.proofs.Numbers.{found_by}
 use Rattle.boundary.proofs.engkarupi_members.Goals as goal
 
 pub returns : goal.returns
-returns c = found_by c.args.plan.now c.args.color_offsets.now c.args.colored_constraints.now c.args.group c.plan_from-planned.ensures c.constraints_in_schedule_group-part.ensures c.part_start.ensures
+returns c = found_by c.args.plan.now c.args.color_offsets.now c.args.colored_constraints.now c.args.group c.from-planned.ensures c.constraints_in_schedule_group-part.ensures c.part_start.ensures
