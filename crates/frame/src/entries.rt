@@ -51,6 +51,7 @@ pub fn walk(bytes: &[u8], from: usize, joints: usize) -> Result<usize, Refusal>
 }
 
 // Question 5 of the enabled bytes of the `joints` entries that start at `from`.
+#[tactic(auto, using(crate::proofs::Walks::walk_outside))]
 pub fn enabled_known(bytes: &[u8], from: usize, joints: usize) -> bool
     requires { entries_refusal bytes.now from joints ≡ 0 }
     ensures { result ≡ bits (live_from bytes.now from joints) }
@@ -77,6 +78,7 @@ fn decode_halves(bytes: &[u8], from: usize, halves: &mut [u16])
 }
 
 // The entries that start at `from`: their endpoints one entry after another, their counts and their enabled bytes.
+#[tactic(auto, using(crate::proofs::Walks::walk_outside))]
 pub fn decode(bytes: &[u8], from: usize, ends: &mut [u16], counts: &mut [u8], enabled: &mut [u8])
     requires { Walkable bytes.now from ends.old counts.old enabled.old }
     ensures { Entered bytes.now from (length enabled.old) ends.new counts.new enabled.new }
@@ -95,6 +97,7 @@ pub fn decode(bytes: &[u8], from: usize, ends: &mut [u16], counts: &mut [u8], en
 }
 
 // The places of all entries of a file.
+#[tactic(auto, using(crate::proofs::Walks::walk_outside))]
 pub fn entry_places(bytes: &[u8], places: &mut [u16])
     requires { Placeable bytes.now places.old }
     ensures { places.new ≡ places_from bytes.now (joints_at bytes.now) (count_j bytes.now) }
