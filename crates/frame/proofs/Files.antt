@@ -123,19 +123,10 @@ module _ (bs : List ℕ) (e : asked (file_questions bs) ≡ 0) where
   pub file-types : types_known (types_in bs) ≡ true
   file-types = and_left (types_known (types_in bs)) (bits (live_in bs)) file-known
 
-  pub file-bits : bits (live_in bs) ≡ true
-  file-bits = and_right (types_known (types_in bs)) (bits (live_in bs)) file-known
-
   pub types_long : length (types_in bs) ≡ count_b bs
   types_long = let s = file_sized in length-take-le (count_b bs) (drop 11 bs) (omega (arith, length-drop 11 bs, s.bytes))
 
-  -- of version 1: its first byte, its length
-  pub file_version : second bs ≡ false → byte bs 0 ≡ 1
-  file_version v = let h = file_headed in eqb-true (byte bs 0) 1 (go (eqb (byte bs 0) 1) (rw v at h.version))
-    where
-      go : (b : Bool) → (b || false) ≡ true → b ≡ true
-      go true k = refl
-      go false k = k
+  -- of version 1: its length
 
   pub file_bytes : second bs ≡ false → length bs ≡ 11 + count_b bs + 4 * count_m bs + 5 * count_j bs
   file_bytes v = first_bytes bs head_parts.0 v joint_parts.0
@@ -176,9 +167,7 @@ module _ (bs : List ℕ) where
       (λ v. rw v (live_long bs (joints_at bs) (count_j bs)))
       (λ v. rw v (enabled_long bs (joints_at bs) (count_j bs)))
 
-  -- on version 1 there are no counts, and two endpoints a joint
-  pub counts-first : second bs ≡ false → counts_in bs ≡ []
-  counts-first v = rw v
+  -- on version 1 there are two endpoints a joint
 
   pub ends-first_long : second bs ≡ false → length (joint_ends_in bs) ≡ 2 * count_j bs
   ends-first_long v = rw v (pairs_long bs (joints_at bs) 5 (count_j bs))
@@ -301,23 +290,6 @@ module _ (bs : List ℕ) (n : ℕ) where
       ∙ ap (λ (cs : List Constraint). (get_or cs (n - count_m bs) nothing).ends) (decode-second bs v)
       ∙ ap (λ (c : Constraint). c.ends) (get_or-map-lt (entry_in bs) ps (n - count_m bs) nothing 0 (omega (arith, places_long bs (joints_at bs) (count_j bs))))
 
--- ---- constraints that are pairs: all of version 1, and the manifolds of version 2
-abbrev pub is_pair : Constraint → Bool
-is_pair c = eqb (length c.ends) 2
-
-pub manifolds_pairs : (bs : List ℕ) → all is_pair (decode bs).manifolds ≡ true
-unfolding decode
-manifolds_pairs bs = pairs_two (manifolds_in bs) []
-
-pub first_pairs : (bs : List ℕ) → second bs ≡ false → all is_pair (constraints (decode bs)) ≡ true
-first_pairs bs v =
-    all_append is_pair (decode bs).manifolds (decode bs).joints
-    ∙ and_both (all is_pair (decode bs).manifolds) (all is_pair (decode bs).joints) (manifolds_pairs bs)
-    (ap (λ (f : Frame). all is_pair f.joints) (decode-first bs v) ∙ pairs_two (joints_in bs) (enabled_in bs))
-
--- so a constraint of version 1 has two endpoints, and so has a manifold
+-- a constraint of version 1 has two endpoints
 pub two-ends : (bs : List ℕ) (n : ℕ) → second bs ≡ false → n < count_m bs + count_j bs → length (constraint_at (decode bs) n).ends ≡ 2
 two-ends bs n v h = ap length (ends-first bs n v h)
-
-pub manifold_two : (bs : List ℕ) (n : ℕ) → n < count_m bs → length (constraint_at (decode bs) n).ends ≡ 2
-manifold_two bs n h = ap length (ends_manifold bs n h)

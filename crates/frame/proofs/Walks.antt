@@ -91,6 +91,10 @@ module _ (bs : List ℕ) where
   pub walk_next : (s n next : ℕ) → 0 < n → entries_refusal bs s n ≡ 0 → next ≡ entry_end bs s → entries_refusal bs next (n - 1) ≡ 0
   walk_next s n next h e i = walk_turn s n next h (walk_first s n h e) i ∙ e
 
+  -- one whose first entry does not lie inside the file gets a "no"
+  pub walk_outside : (s n : ℕ) → 0 < n → length bs < entry_end bs s → 1 ≤ entries_refusal bs s n
+  walk_outside s n h l = by_cases (leb 1 (entries_refusal bs s n)) (λ t. leb-true 1 (entries_refusal bs s n) t) (λ t. let w = walk_whole s n h (omega (arith, leb-false 1 (entries_refusal bs s n) t)) in absurd (omega (arith, w.ended)))
+
   pub walk_begun : (s n : ℕ) → entries_refusal bs s n ≡ 0 → s ≤ length bs
   unfolding entries_refusal
   walk_begun s zero e = by_cases (eqb s (length bs)) (λ t. omega (arith, eqb-true s (length bs) t)) (λ t. let z : ◌≡◌ {A = ℕ} 4 0 = rw t at e in absurd (omega arith))

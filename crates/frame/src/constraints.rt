@@ -100,6 +100,7 @@ impl<'a> Constraints<'a> for Counted<'a> {
 
 // Question 7 of one constraint.
 #[inline(always)]
+#[tactic(auto, unfolding(crate::specs::Frames::sound, crate::specs::Frames::fits))]
 pub fn sound_one(bodies: usize, constraint: Lent<'_>) -> bool
     ensures { result ≡ sound bodies (lent constraint.entry) }
 {

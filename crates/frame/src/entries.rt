@@ -40,6 +40,7 @@ pub fn walk(part: JointBytes<'_>) -> Result<usize, Refusal>
 }
 
 // Question 5 of the enabled bytes of a part's entries.
+#[tactic(auto, using(crate::proofs::Walks::walk_outside))]
 pub fn enabled_known(part: JointBytes<'_>) -> bool
     requires { entries_refusal part.bytes.now part.from part.joints ≡ 0 }
     ensures { result ≡ bits (live_from part.entry.bytes.now part.entry.from part.entry.joints) }
@@ -66,6 +67,7 @@ fn decode_halves(bytes: &[u8], from: usize, halves: &mut [u16])
 }
 
 // The entries that start at `from`: their endpoints one entry after another, their counts and their enabled bytes.
+#[tactic(auto, using(crate::proofs::Walks::walk_outside))]
 pub fn decode(bytes: &[u8], from: usize, ends: &mut [u16], counts: &mut [u8], enabled: &mut [u8])
     requires { Walkable bytes.now from ends.old counts.old enabled.old }
     ensures { Entered bytes.now from (length enabled.old) ends.new counts.new enabled.new }
@@ -84,6 +86,7 @@ pub fn decode(bytes: &[u8], from: usize, ends: &mut [u16], counts: &mut [u8], en
 }
 
 // The places of all entries of a file.
+#[tactic(auto, using(crate::proofs::Walks::walk_outside))]
 pub fn entry_places(bytes: &[u8], places: &mut [u16])
     requires { Placeable bytes.now places.old }
     ensures { places.new ≡ places_from bytes.now (joints_at bytes.now) (count_j bytes.now) }

@@ -95,6 +95,7 @@ pub struct FrameTables<'a> {
 }
 
 // The 16-bit number at a place, big-endian.
+#[tactic(auto, unfolding(crate::specs::Files::half))]
 fn half_at(bytes: &[u8], i: usize) -> usize
     requires { i + 2 ≤ length bytes.now }
     ensures { (result ≡ half bytes.now i) × (result < 65536) }
@@ -103,6 +104,7 @@ fn half_at(bytes: &[u8], i: usize) -> usize
 }
 
 // The 32-bit number at a place, big-endian.
+#[tactic(auto, unfolding(crate::specs::Files::word))]
 fn word_at(bytes: &[u8], i: usize) -> usize
     requires { i + 4 ≤ length bytes.now }
     ensures { (result ≡ word bytes.now i) × (result < 65536 * 65536) }
@@ -136,6 +138,7 @@ fn length_right(bytes: &[u8]) -> bool
 }
 
 // Question 3.
+#[tactic(auto, unfolding(crate::specs::Questions::few_each))]
 pub fn few_each(bodies: usize, manifolds: usize, joints: usize) -> bool
     ensures { result ≡ few_each bodies manifolds joints }
 {
@@ -389,6 +392,7 @@ pub fn byte_or_zero(bytes: &[u8], i: usize) -> usize
 }
 
 // The 16-bit number at any place, big-endian. The print reads with it, whose file need not be an accepted one.
+#[tactic(auto, unfolding(crate::specs::Files::half))]
 pub fn half_or_zero(bytes: &[u8], i: usize) -> usize
     requires { i < 1048576 }
     ensures { (result ≡ half bytes.now i) × (result < 65536) }

@@ -48,6 +48,7 @@ pub fn distinct_below(list: &[u16], n: usize) -> bool
 }
 
 // Question 7 of the endpoints of a live constraint: two to four, all different and below the number of bodies.
+#[tactic(auto, unfolding(crate::specs::Frames::fits))]
 pub fn ends_fit(bodies: usize, ends: &[u16]) -> bool
     ensures { result ≡ fits bodies ends.now }
 {

@@ -305,15 +305,6 @@ module _ (bs : List ℕ) (l : Lent) where
     counts_cut : (x : List ℕ) → counted ≤ length x → length (take counted x) ≡ length (all_counts bs)
     counts_cut x h = length-take-le counted x h ∙ s.counted
 
-    pub cut_decodable : Decodable bs a.manifolds (take a.bodies l.types) (take a.bodies l.flags) (take (2 * a.manifolds + a.joint_ends) l.pairs) (take counted l.counts) (take a.joints l.enabled)
-    cut_decodable = record {
-      file = s.file;
-      manifolds = s.manifolds;
-      types = length-take-le a.bodies l.types s.types ∙ s.bodies;
-      flags = length-take-le a.bodies l.flags s.flags ∙ s.bodies;
-      ends = length-take-le (2 * a.manifolds + a.joint_ends) l.pairs s.pairs ∙ s.ends;
-      counts = counts_cut l.counts s.counts;
-      enabled = length-take-le a.joints l.enabled s.enabled ∙ s.joints;
     }
 
     pub cut_roomy : RoomySized bs l.islands l.turns (take (2 * a.manifolds + a.joint_ends) l.island_pairs) (take counted l.island_counts) (take (a.manifolds + a.joints) l.numbers) l.plan (take counted l.plan_counts)

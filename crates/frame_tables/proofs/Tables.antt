@@ -1,6 +1,6 @@
 -- Once questions 1 to 6 are passed, an islands call asks only 7, with counts or without. Its labels, read from the front of the lent tables,
 -- are the frame's, or none after 7, and either way they can be sorted.
-use Rattle.std.proofs.Common.{ℕ, ◌+◌, ◌*◌, ◌/◌, ◌%◌, ◌≤◌, ◌≡◌, refl, sym, ap, ◌∙◌, subst, true, false, not, cond, List, Result, Ok, Err, [], ◌∷◌, ◌++◌, map, arith, eqb, length, take, drop, replicate, length-append, take_at, drop_at, length-take-le, le-leb, eq-eqb, eqb-true}
+use Rattle.std.proofs.Common.{ℕ, ◌+◌, ◌*◌, ◌/◌, ◌%◌, ◌≤◌, ◌≡◌, refl, sym, ap, ◌∙◌, subst, true, false, not, cond, List, Result, Ok, Err, [], ◌∷◌, ◌++◌, map, arith, eqb, length, take, drop, replicate, take_at, drop_at, length-take-le, le-leb, eq-eqb, eqb-true}
 use Rattle.std.proofs.Math.ListN.{length-map, length-replicate, replicate-append-replicate}
 use Rattle.std.proofs.Math.Seq.{drop-nil}
 use Rattle.std.proofs.lemmas.Bool.{eqb-false}
@@ -92,9 +92,6 @@ module _ (bs : List ℕ) (e : asked (file_questions bs) ≡ 0) where
   -- ---- the frame that stands in the decoded tables
 
   module _ (m : ℕ) (ts fs ps cs es : List ℕ) (em : m ≡ count_m bs) (d : Decoded bs ts fs ps cs es) where
-    pub pairs_inside : 2 * m ≤ length ps
-    pairs_inside = omega (arith, ap length d.ends, length-append (manifolds_in bs) (joint_ends_in bs), manifold_ends_long bs, em)
-
     -- with counts the file is of version 2
     counted-second : (length cs ≡ 0 → ⊥) → second bs ≡ true
     counted-second n = some_counts bs (λ z. n (ap length d.counts ∙ z))

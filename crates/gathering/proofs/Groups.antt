@@ -2,7 +2,7 @@
 -- endpoints, so the bodies of the groups fit the table; the part of group k starts where the bodies of the groups before it end.
 use Rattle.std.proofs.Common.{ℕ, zero, suc, ◌+◌, ◌*◌, ◌≤◌, ◌<◌, ◌≡◌, refl, sym, ap, ◌∙◌, Bool, true, false, List, [], ◌∷◌, ◌++◌, arith, add-one, eqb, ltb, length, get_or, set, take, drop, length-append, length-set, take_at, take-suc-set, drop-drop, eqb-true, lt-ltb, le-ltb, ltb-true, ltb-false}
 use Rattle.std.proofs.Math.ListN.{get_or-eq_default}
-use Rattle.std.proofs.Math.Seq.{take-length, drop-append-add}
+use Rattle.std.proofs.Math.Seq.{drop-append-add}
 use Rattle.std.proofs.lemmas.Bool.{eqb-false}
 use Rattle.lists.specs.Basics.{one, all, sum_of, range, mem, over, join_map}
 use Rattle.lists.proofs.Sums.{sum_le, sum_ext, sum_add, sum_filter, sum_get_or}
@@ -13,7 +13,7 @@ use Rattle.groups.specs.Groups.{members, group_bodies, flatten, offsets}
 use Rattle.groups.proofs.Tables.{flatten-zero, flatten-suc, start-suc}
 use Rattle.groups.proofs.Members.{member_is}
 use Rattle.gathering.specs.Gathers.{among, Fresh, Listed, Gatherable}
-use Rattle.parts.proofs.Groups.{group_cut, group_is}
+use Rattle.parts.proofs.Groups.{begins_listed, group_cut, group_is}
 use Rattle.gathering.proofs.Ends.{group_bodies_lem, among-few}
 
 -- ---- the endpoints of the groups before k
@@ -91,16 +91,13 @@ module _ {nb n : ℕ} {cs : List (List ℕ)} {colors color_offsets constraints s
         started = take-suc-set starts₀ 0 0 (omega (arith, p.ends));
       }
 
-  constraints_listed : take (length (flatten (members colors) n)) constraints ≡ flatten (members colors) n
-  constraints_listed = rw p.constraints (take-length (flatten (members colors) n))
-
   pub members-cut : (color : ℕ) → color < n → Cut constraints color_offsets color (color + 1)
-  members-cut color h = group_cut (members colors) n color_offsets constraints p.starts constraints_listed color h
+  members-cut color h = group_cut (members colors) n color_offsets constraints p.starts (begins_listed p.constraints) color h
 
   -- the endpoints of a constraint are those that `ends` gives
   module _ (ends : ℕ → List ℕ) (size : length cs ≡ length colors) (same : (r : ℕ) → r < length colors → get_or cs r [] ≡ ends r) (color : ℕ) (h : color < n) where
     group_part_lem : cut constraints color_offsets color (color + 1) ≡ members colors color
-    group_part_lem = group_is (members colors) n color_offsets constraints p.starts constraints_listed color h
+    group_part_lem = group_is (members colors) n color_offsets constraints p.starts (begins_listed p.constraints) color h
 
     pub part_below : (r : ℕ) → mem r (cut constraints color_offsets color (color + 1)) ≡ true → r < length colors
     part_below r m = (member_is colors color r (rw group_part_lem at m)).0

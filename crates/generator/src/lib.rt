@@ -136,6 +136,7 @@ fn write_lift(out: &mut [u8], seed: u32, sizes: Sizes)
 }
 
 // Question 13: no pair is wanted, or there are two bodies for it.
+#[tactic(auto, unfolding(frame::specs::Questions::few_each, crate::specs::Calls::pairs_possible))]
 fn pairs_possible(sizes: Sizes) -> bool
     requires { few_each sizes.bodies sizes.manifolds sizes.joints ≡ true }
     ensures { result ≡ pairs_possible sizes.bodies sizes.manifolds sizes.joints }

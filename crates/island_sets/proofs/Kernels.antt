@@ -1,6 +1,7 @@
 -- Joining by weight and joining by lowest body make the same sets. Either step gives one number, that of a's set or of b's, to both sets, and leaves the rest:
 -- so after it two bodies are together exactly if they were, or each was with a or with b. That only asks which bodies were together before.
 use Rattle.std.proofs.Common.{ℕ, ◌≤◌, min, arith, ⊎_elim, ◌≡◌, refl, sym, ap, ◌∙◌, Bool, true, false, ◌&&◌, ◌||◌, cond, eqb, ltb, eqb-true, eq-eqb, ne_eqb}
+use Rattle.std.proofs.Math.Bool.{or-true, or-false}
 use Rattle.std.proofs.Math.Decide.{dec_le}
 use Rattle.std.proofs.lemmas.Bool.{eqb-false}
 use Rattle.lists.specs.Basics.{one, range}
@@ -28,14 +29,6 @@ module _ (a b v : ℕ) (h : either a b v ≡ true) where
   apart_back : (x y : ℕ) → either a b x ≡ false → either a b y ≡ true → eqb x y ≡ false
   apart_back x y i j = ne_eqb x y (λ e. clashes (either a b x) (ap (either a b) e ∙ j) i)
 
-  or-true : (t : Bool) → (t || true) ≡ true
-  or-true true = refl
-  or-true false = refl
-
-  or-false : (t : Bool) → t ≡ (t || false)
-  or-false true = refl
-  or-false false = refl
-
   step_eqb : (x y : ℕ) → eqb (cond (either a b x) v x) (cond (either a b y) v y) ≡ (eqb x y || (either a b x && either a b y))
   step_eqb x y = by_cases (either a b x) (λ i. by_cases (either a b y) (both i) (left i)) (λ i. by_cases (either a b y) (right i) (none i))
     where
@@ -43,13 +36,13 @@ module _ (a b v : ℕ) (h : either a b v ≡ true) where
       both i j = rw (i, j) (eq-eqb v v refl ∙ sym (or-true (eqb x y)))
 
       left : either a b x ≡ true → either a b y ≡ false → eqb (cond (either a b x) v x) (cond (either a b y) v y) ≡ (eqb x y || (either a b x && either a b y))
-      left i j = rw (i, j) (apart v y h j ∙ sym (apart x y i j) ∙ or-false (eqb x y))
+      left i j = rw (i, j) (apart v y h j ∙ sym (apart x y i j) ∙ sym (or-false (eqb x y)))
 
       right : either a b x ≡ false → either a b y ≡ true → eqb (cond (either a b x) v x) (cond (either a b y) v y) ≡ (eqb x y || (either a b x && either a b y))
-      right i j = rw (i, j) (apart_back x v i h ∙ sym (apart_back x y i j) ∙ or-false (eqb x y))
+      right i j = rw (i, j) (apart_back x v i h ∙ sym (apart_back x y i j) ∙ sym (or-false (eqb x y)))
 
       none : either a b x ≡ false → either a b y ≡ false → eqb (cond (either a b x) v x) (cond (either a b y) v y) ≡ (eqb x y || (either a b x && either a b y))
-      none i j = rw (i, j) (or-false (eqb x y))
+      none i j = rw (i, j) (sym (or-false (eqb x y)))
 
 -- ---- the two steps are of that kind
 min-either : (p q : ℕ) → Dec (p ≤ q) → either p q (min p q) ≡ true

@@ -1,11 +1,11 @@
 -- Scans of a list: one element more, the same test in other words, one filter behind another; and the first places of a rising list.
-use Rattle.std.proofs.Common.{ℕ, zero, suc, ◌+◌, ◌<◌, ◌≡◌, refl, sym, ap, ◌∙◌, Bool, true, false, ◌||◌, List, [], ◌∷◌, add-one, arith, ltb, eqb, length, get_or, take, drop, take-append-drop, take-suc, length-take-le, get_or-take, eqb-true, ltb-true}
-use Rattle.std.proofs.Math.Bool.{or-false}
+use Rattle.std.proofs.Common.{ℕ, zero, suc, ◌+◌, ◌<◌, ◌≡◌, refl, sym, ap, ◌∙◌, Bool, true, false, ◌||◌, List, [], ◌∷◌, arith, ltb, eqb, length, get_or, take, drop, take-append-drop, length-take-le, get_or-take, eqb-true, ltb-true}
+use Rattle.std.proofs.lemmas.List.Folds.{list_any_more}
 use Rattle.lists.specs.Basics.{any, all, filter, mem, place, rises}
 use Rattle.lists.proofs.Laws.{or_left, or_right, or_cases, and_left, and_right, clashes, by_cases, not-true-false, any_append, all_in, mem_self, get_or-mem, place-lt, place_get}
 
 pub any_next : (p : ℕ → Bool) (xs : List ℕ) (i : ℕ) → i < length xs → any p (take (i + 1) xs) ≡ (any p (take i xs) || p (get_or xs i 0))
-any_next p xs i l = rw (add-one, take-suc xs i 0 l) (any_append p (take i xs) (get_or xs i 0 ∷ []) ∙ rw or-false)
+any_next p xs i l = list_any_more p xs i 0 l
 
 pub any-first : {A : Type 0} (p : A → Bool) (i : ℕ) (xs : List A) → any p (take i xs) ≡ true → any p xs ≡ true
 any-first p i xs h = ap (any p) (sym (take-append-drop i xs)) ∙ any_append p (take i xs) (drop i xs) ∙ or_left (any p (take i xs)) (any p (drop i xs)) h

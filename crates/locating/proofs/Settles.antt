@@ -1,7 +1,6 @@
 -- The positions of all constraints. A group's constraints and bodies are the parts that stand for it in their tables, and each endpoint of
 -- its constraints is among its bodies, so group after group every constraint gets its positions; they fill the table.
-use Rattle.std.proofs.Common.{ℕ, suc, ◌+◌, ◌≤◌, ◌<◌, ◌≡◌, refl, sym, ◌∙◌, Bool, true, List, [], arith, eqb, ltb, length, get_or, take, eqb-true, ltb-true, lt-ltb}
-use Rattle.std.proofs.Math.Seq.{take-length}
+use Rattle.std.proofs.Common.{ℕ, suc, ◌+◌, ◌≤◌, ◌<◌, ◌≡◌, refl, sym, ◌∙◌, Bool, true, List, [], arith, eqb, ltb, length, get_or, eqb-true, ltb-true, lt-ltb}
 use Rattle.std.proofs.lemmas.Bool.{eqb-false}
 use Rattle.lists.specs.Basics.{all, mem, join_map}
 use Rattle.lists.proofs.Laws.{by_cases, all_in, all_intro, all-get_or, max_in, get_or-mem}
@@ -12,7 +11,7 @@ use Rattle.parts.specs.Parts.{cut, Cut, part_at, parts_at, Bounded}
 use Rattle.parts.specs.Steps.{Gapless}
 use Rattle.parts.proofs.Parts.{parts-at}
 use Rattle.parts.proofs.Gapless.{parts_whole}
-use Rattle.parts.proofs.Groups.{group_cut, group_is}
+use Rattle.parts.proofs.Groups.{begins_listed, group_cut, group_is}
 use Rattle.locating.specs.Locates.{Locatable, Arranged, Findable, MembersLocated}
 
 -- a group's bodies have all endpoints of its constraints
@@ -24,17 +23,14 @@ bodies-all nb cs colors k below r m =
 
 -- ---- group k in the tables: its constraints ms and its bodies bs
 module _ {nb n : ℕ} {cs : List (List ℕ)} {colors offsets constraints starts bodies places₀ : List ℕ} (p : Locatable nb cs colors n offsets constraints starts bodies places₀) (k : ℕ) (h : k < n) where
-  constraints_listed : take (length (flatten (members colors) n)) constraints ≡ flatten (members colors) n
-  constraints_listed = rw p.constraints (take-length (flatten (members colors) n))
-
   pub members-cut : Cut constraints offsets k (k + 1)
-  members-cut = group_cut (members colors) n offsets constraints p.starts constraints_listed k h
+  members-cut = group_cut (members colors) n offsets constraints p.starts (begins_listed p.constraints) k h
 
   pub bodies-cut : Cut bodies starts k (k + 1)
   bodies-cut = group_cut (group_bodies nb cs colors) n starts bodies p.body_starts p.bodies k h
 
   members_are : {ms : List ℕ} → ms ≡ cut constraints offsets k (k + 1) → ms ≡ members colors k
-  members_are m = m ∙ group_is (members colors) n offsets constraints p.starts constraints_listed k h
+  members_are m = m ∙ group_is (members colors) n offsets constraints p.starts (begins_listed p.constraints) k h
 
   bodies_are : {bs : List ℕ} → bs ≡ cut bodies starts k (k + 1) → bs ≡ group_bodies nb cs colors k
   bodies_are b = b ∙ group_is (group_bodies nb cs colors) n starts bodies p.body_starts p.bodies k h

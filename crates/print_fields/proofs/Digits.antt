@@ -1,6 +1,6 @@
 -- Decimal digits of a machine number: the last digit stands behind the digits of the rest, and there are at most 20.
 -- `digits d n` is the same for each d that is enough, that is, n < 10 ^ d.
-use Rattle.std.proofs.Common.{ℕ, zero, suc, ◌+◌, ◌*◌, ◌^◌, ◌/◌, ◌%◌, ◌≤◌, ◌<◌, ◌≡◌, sym, ap, ◌∙◌, List, [], ◌∷◌, ◌++◌, arith, ltb, length, length-append, lt-ltb, le-ltb, refl}
+use Rattle.std.proofs.Common.{ℕ, zero, suc, ◌+◌, ◌*◌, ◌^◌, ◌/◌, ◌%◌, ◌≤◌, ◌<◌, ◌≡◌, sym, ap, ◌∙◌, List, [], ◌∷◌, ◌++◌, arith, ltb, length, length-append, lt-ltb, le-ltb}
 use Rattle.std.specs.Fmt as std
 use Rattle.std.proofs.lemmas.Fmt.{decimal_by_steps}
 use Rattle.lists.proofs.Laws.{by_cases}
@@ -35,17 +35,6 @@ digits-one d n h = rw (lt-ltb n 10 h)
 pub decimal-one : (n : ℕ) → n < 10 → decimal n ≡ (48 + n) ∷ []
 unfolding decimal
 decimal-one n h = digits-one 19 n h
-
-digits_some : (d n : ℕ) → 1 ≤ length (digits (suc d) n)
-unfolding digits
-digits_some d n =
-    by_cases (ltb n 10)
-    (λ e. rw e (omega arith))
-    (λ e. rw e (omega (arith, length-append (digits d (n / 10)) ((48 + n % 10) ∷ []))))
-
-pub decimal_some : (n : ℕ) → 1 ≤ length (decimal n)
-unfolding decimal
-decimal_some n = digits_some 19 n
 
 digits-few : (d n : ℕ) → length (digits d n) ≤ d
 unfolding digits

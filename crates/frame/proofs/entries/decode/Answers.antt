@@ -4,7 +4,6 @@ use Rattle.lists.proofs.Fills.{whole, fill_end}
 use Rattle.frame.specs.Files.{byte, count_at, entry_end}
 use Rattle.frame.proofs.Walks.{walk_whole, walk_next, entry_turn, ends_long, ends-next_long, ends-none, ends-none_long, places-none, part_long, table_long, table_turn}
 use Rattle.frame.proofs.entries.decode.Goals as goal
-use Rattle.frame.proofs.entries.decode.Goals.{After-loop-j}
 
 pub loop-j-init : goal.loop-j-init
 loop-j-init c =
@@ -22,24 +21,6 @@ loop-j-init c =
       enabled = rw e;
     }
 
-pub overflow_add-at : goal.overflow_add-at
-overflow_add-at c = let l = c.loop-j in let w = walk_whole c.args.bytes.now l.at _ (omega arith) l.invariant.walked in omega (arith, w.begun)
-
-pub bounds-bytes-at : goal.bounds-bytes-at
-bounds-bytes-at c = let l = c.loop-j in let w = walk_whole c.args.bytes.now l.at _ (omega arith) l.invariant.walked in omega (arith, w.begun)
-
-pub bounds-bytes-at-in-loop-j : goal.bounds-bytes-at-in-loop-j
-bounds-bytes-at-in-loop-j c = let l = c.loop-j in let w = walk_whole c.args.bytes.now l.at _ (omega arith) l.invariant.walked in omega (arith, w.begun)
-
-pub overflow_add-counts : goal.overflow_add-counts
-overflow_add-counts c = let l = c.loop-j in let w = walk_whole c.args.bytes.now l.at _ (omega arith) l.invariant.walked in omega (arith, w.begun)
-
-pub bounds-bytes-at-in-loop-j-2 : goal.bounds-bytes-at-in-loop-j-2
-bounds-bytes-at-in-loop-j-2 c = let l = c.loop-j in let w = walk_whole c.args.bytes.now l.at _ (omega arith) l.invariant.walked in omega (arith, w.begun)
-
-pub overflow_add-at-in-loop-j : goal.overflow_add-at-in-loop-j
-overflow_add-at-in-loop-j c = let l = c.loop-j in let w = walk_whole c.args.bytes.now l.at _ (omega arith) l.invariant.walked in omega (arith, w.begun)
-
 pub slice_bounds-decode_halves-end : goal.slice_bounds-decode_halves-end
 slice_bounds-decode_halves-end c =
     let l = c.loop-j in
@@ -54,9 +35,6 @@ decode_halves-requires c =
     let w = walk_whole bs l.at _ (omega arith) l.invariant.walked in
     let inside : l.k + c.from-count.result ≤ length l.ends = omega (arith, l.invariant.room, l.invariant.ends_long, ends-next_long bs l.at (length c.args.enabled.now - l.j) _ (omega arith) refl, c.from-count.ensures) in
     omega (arith, part_long l.ends l.k c.from-count.result inside, w.ended, c.from-count.ensures)
-
-pub overflow_add-at-in-loop-j-3 : goal.overflow_add-at-in-loop-j-3
-overflow_add-at-in-loop-j-3 c = let l = c.loop-j in let w = walk_whole c.args.bytes.now l.at _ (omega arith) l.invariant.walked in omega (arith, w.ended, c.from-count.ensures)
 
 pub loop-j-preserved : goal.loop-j-preserved
 loop-j-preserved c =

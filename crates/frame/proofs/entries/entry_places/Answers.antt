@@ -9,15 +9,6 @@ use Rattle.frame.proofs.entries.entry_places.Goals as goal
 pub overflow_cast-place : goal.overflow_cast-place
 overflow_cast-place c = let l = c.loop-place in let w = walk_whole c.args.bytes.now l.at _ (omega arith) l.invariant.walked in omega (arith, w.begun, file_short c.args.bytes.now c.requires.file)
 
-pub overflow_add-at-in-loop-place : goal.overflow_add-at-in-loop-place
-overflow_add-at-in-loop-place c = let l = c.loop-place in let w = walk_whole c.args.bytes.now l.at _ (omega arith) l.invariant.walked in omega (arith, w.begun, file_short c.args.bytes.now c.requires.file)
-
-pub bounds-bytes-at : goal.bounds-bytes-at
-bounds-bytes-at c = let l = c.loop-place in let w = walk_whole c.args.bytes.now l.at _ (omega arith) l.invariant.walked in omega (arith, w.begun)
-
-pub overflow_add-at-in-loop-place-3 : goal.overflow_add-at-in-loop-place-3
-overflow_add-at-in-loop-place-3 c = let l = c.loop-place in let w = walk_whole c.args.bytes.now l.at _ (omega arith) l.invariant.walked in omega (arith, w.ended, file_short c.args.bytes.now c.requires.file, c.from.ensures)
-
 pub loop-place-preserved : goal.loop-place-preserved
 loop-place-preserved c =
     let l = c.loop-place in
