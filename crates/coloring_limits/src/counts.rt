@@ -1,7 +1,7 @@
 // Updates of constraints that have a count each: as many as there may be, of four bodies each, and one more. Then one constraint of three on
 // tables of just the lengths that are asked for, and with each of them one place short; and the lookup of its positions, in tables that are
 // one place short and past the last constraint: the refusal, how many positions, and these.
-use crate::{cut, cut_tables, show};
+use crate::{SHORT, Table, cut, cut_tables, show};
 use constraint_coloring::ConstraintColoring;
 use frame::Refusal;
 use multi_coloring::MultiColoring;
@@ -38,26 +38,20 @@ fn most(rt: &impl Print) -> io::Result<()> {
     Ok(())
 }
 
-// One constraint of three on tables of just the lengths asked for, but one of them a place short: the tables of a plan are counted from
-// 0, but 2 stands for the counts, and those behind it are one further; 14 stands for none.
-fn exact(rt: &impl Print, short: usize) -> io::Result<()> {
+// One constraint of three on tables of just the lengths asked for, but one of them a place short.
+fn exact(rt: &impl Print, case: usize, short: Option<Table>) -> io::Result<()> {
     let mut arrays = PlanArrays::<3, 4, 1, 2, 3>::filled(7, 7);
     let mut counts = [7];
-    let table = match short {
-        0 | 1 => short,
-        2 => 13,
-        _ => short - 1,
-    };
     let before = MultiColoring::new();
     let answer = before.update(
         &[1; 3],
         &[2, 0, 1],
         &[3],
-        cut(&mut counts, short == 2),
-        &mut cut_tables(&mut arrays, table),
+        cut(&mut counts, short == Some(Table::Counts)),
+        &mut cut_tables(&mut arrays, short),
     );
     let plan = answer.plan_after(before).plan;
-    show(rt, short, answer, plan, &arrays.constraint_body_positions)
+    show(rt, case, answer, plan, &arrays.constraint_body_positions)
 }
 
 // How many positions, and these in four places; those past them are 0.
@@ -69,7 +63,7 @@ fn print_positions(rt: &impl Print, answer: Result<&[u16], Refusal>) -> io::Resu
                 print!(rt; " {}", places.get(place).copied().unwrap_or(0))?;
             }
         }
-        Err(refusal) => print!(rt; "{}", refusal.number())?,
+        Err(refusal) => print!(rt; "{refusal}")?,
     }
     println!(rt; "")
 }
@@ -105,8 +99,8 @@ fn lookups(rt: &impl Print) -> io::Result<()> {
 
 pub fn limits(rt: &impl Print) -> io::Result<()> {
     most(rt)?;
-    for short in 0..15 {
-        exact(rt, short)?;
+    for (case, short) in SHORT.iter().enumerate() {
+        exact(rt, case, *short)?;
     }
     lookups(rt)
 }

@@ -10,7 +10,7 @@ mod counts;
 use constraint_coloring::{ConstraintColoring, Update};
 use plan_arrays::PlanArrays;
 use plan_questions::PlanTables;
-use records::first;
+use records::{first, mix};
 use std::{array, io};
 
 // How many flags and entries an input may have: one body and one pair more than an update takes.
@@ -105,9 +105,7 @@ impl Case {
 
 // A checksum of a list.
 fn checksum(list: &[u16]) -> u32 {
-    list.iter().fold(0, |sum, x| {
-        ((sum % 65521) * 31 + u32::from(*x) + 1) % 65521
-    })
+    list.iter().fold(0, |sum, &x| mix(sum, u32::from(x) + 1))
 }
 
 // The line of an update: `plan` is the plan after it.
@@ -127,7 +125,21 @@ fn show<P: Copy>(
     )
 }
 
-// One update and its line: the plan after it.
+// The line of an update of pairs, with the positions of these: the plan after it.
+fn show_pairs(
+    rt: &impl Print,
+    case: usize,
+    answer: Update<ConstraintColoring>,
+    before: ConstraintColoring,
+    positions: &mut [u16],
+) -> io::Result<ConstraintColoring> {
+    let plan = answer.plan_after(before);
+    let count = plan.constraint_count.saturating_mul(2);
+    show(rt, case, answer, plan, first(positions, count))?;
+    Ok(plan)
+}
+
+// One update: the plan after it.
 fn next(
     rt: &impl Print,
     number: usize,
@@ -139,11 +151,13 @@ fn next(
     let flags = first(&mut flags, case.bodies);
     let pairs = first(&mut pairs, case.entries);
     let answer = before.update(flags, pairs, &mut arrays.tables());
-    let plan = answer.plan_after(before);
-    let count = plan.constraint_count.saturating_mul(2);
-    let positions = first(&mut arrays.constraint_body_positions, count);
-    show(rt, number, answer, plan, positions)?;
-    Ok(plan)
+    show_pairs(
+        rt,
+        number,
+        answer,
+        before,
+        &mut arrays.constraint_body_positions,
+    )
 }
 
 // On tables that hold `mark` everywhere.
@@ -156,50 +170,106 @@ fn on_tables(rt: &impl Print, flag: u8, mark: u16) -> io::Result<()> {
     Ok(())
 }
 
+// A table of an update.
+#[derive(Clone, Copy, PartialEq, Eq)]
+enum Table {
+    DynamicBodies,
+    Endpoints,
+    Counts,
+    BodyOffsets,
+    BodyConstraints,
+    ScratchOffsets,
+    ConstraintColors,
+    ColorStamps,
+    BodyStamps,
+    ColorOffsets,
+    ColoredConstraints,
+    ColorBodyOffsets,
+    ColorBodies,
+    ConstraintBodyPositions,
+}
+
+// Which table is a place short, from case to case; in the last none is.
+const SHORT: [Option<Table>; 15] = [
+    Some(Table::DynamicBodies),
+    Some(Table::Endpoints),
+    Some(Table::Counts),
+    Some(Table::BodyOffsets),
+    Some(Table::BodyConstraints),
+    Some(Table::ScratchOffsets),
+    Some(Table::ConstraintColors),
+    Some(Table::ColorStamps),
+    Some(Table::BodyStamps),
+    Some(Table::ColorOffsets),
+    Some(Table::ColoredConstraints),
+    Some(Table::ColorBodyOffsets),
+    Some(Table::ColorBodies),
+    Some(Table::ConstraintBodyPositions),
+    None,
+];
+
 // A table, a place short if it is to be.
 fn cut<T>(table: &mut [T], short: bool) -> &mut [T] {
     let count = table.len().saturating_sub(usize::from(short));
     &mut table[..count]
 }
 
-// The tables, the one of this number a place short.
+// The tables of a plan, the one that is `short` a place short.
 fn cut_tables<'a, const B: usize, const B1: usize, const C: usize, const C1: usize, const E: usize>(
     arrays: &'a mut PlanArrays<B, B1, C, C1, E>,
-    short: usize,
+    short: Option<Table>,
 ) -> PlanTables<'a> {
+    let is = |table| short == Some(table);
     PlanTables {
-        dynamic_bodies: cut(&mut arrays.dynamic_bodies, short == 0),
-        endpoints: cut(&mut arrays.endpoints, short == 1),
-        body_offsets: cut(&mut arrays.body_offsets, short == 2),
-        body_constraints: cut(&mut arrays.body_constraints, short == 3),
-        scratch_offsets: cut(&mut arrays.scratch_offsets, short == 4),
-        constraint_colors: cut(&mut arrays.constraint_colors, short == 5),
-        color_stamps: cut(&mut arrays.color_stamps, short == 6),
-        body_stamps: cut(&mut arrays.body_stamps, short == 7),
-        color_offsets: cut(&mut arrays.color_offsets, short == 8),
-        colored_constraints: cut(&mut arrays.colored_constraints, short == 9),
-        color_body_offsets: cut(&mut arrays.color_body_offsets, short == 10),
-        color_bodies: cut(&mut arrays.color_bodies, short == 11),
-        constraint_body_positions: cut(&mut arrays.constraint_body_positions, short == 12),
+        dynamic_bodies: cut(&mut arrays.dynamic_bodies, is(Table::DynamicBodies)),
+        endpoints: cut(&mut arrays.endpoints, is(Table::Endpoints)),
+        body_offsets: cut(&mut arrays.body_offsets, is(Table::BodyOffsets)),
+        body_constraints: cut(&mut arrays.body_constraints, is(Table::BodyConstraints)),
+        scratch_offsets: cut(&mut arrays.scratch_offsets, is(Table::ScratchOffsets)),
+        constraint_colors: cut(&mut arrays.constraint_colors, is(Table::ConstraintColors)),
+        color_stamps: cut(&mut arrays.color_stamps, is(Table::ColorStamps)),
+        body_stamps: cut(&mut arrays.body_stamps, is(Table::BodyStamps)),
+        color_offsets: cut(&mut arrays.color_offsets, is(Table::ColorOffsets)),
+        colored_constraints: cut(
+            &mut arrays.colored_constraints,
+            is(Table::ColoredConstraints),
+        ),
+        color_body_offsets: cut(&mut arrays.color_body_offsets, is(Table::ColorBodyOffsets)),
+        color_bodies: cut(&mut arrays.color_bodies, is(Table::ColorBodies)),
+        constraint_body_positions: cut(
+            &mut arrays.constraint_body_positions,
+            is(Table::ConstraintBodyPositions),
+        ),
     }
 }
 
-// One pair on tables of just the lengths asked for, but one of them a place short; 13 stands for none.
-fn exact(rt: &impl Print, short: usize) -> io::Result<()> {
+// One pair on tables of just the lengths asked for, but one of them a place short.
+fn exact(rt: &impl Print, case: usize, short: Option<Table>) -> io::Result<()> {
     let mut arrays = PlanArrays::<2, 3, 1, 2, 2>::filled(7, 7);
     let before = ConstraintColoring::new();
     let answer = before.update(&[1, 1], &[0, 1], &mut cut_tables(&mut arrays, short));
-    let plan = answer.plan_after(before);
-    let count = plan.constraint_count.saturating_mul(2);
-    let positions = first(&mut arrays.constraint_body_positions, count);
-    show(rt, short, answer, plan, positions)
+    show_pairs(
+        rt,
+        case,
+        answer,
+        before,
+        &mut arrays.constraint_body_positions,
+    )?;
+    Ok(())
+}
+
+// The cases of pairs, which have no table of counts.
+fn short_tables(rt: &impl Print) -> io::Result<()> {
+    let tables = SHORT.iter().filter(|short| **short != Some(Table::Counts));
+    for (case, short) in tables.enumerate() {
+        exact(rt, case, *short)?;
+    }
+    Ok(())
 }
 
 fn main(rt: HostRuntime) -> io::Result<()> {
     on_tables(&rt, 0, 0)?;
     on_tables(&rt, 255, 65535)?;
-    for short in 0..14 {
-        exact(&rt, short)?;
-    }
+    short_tables(&rt)?;
     counts::limits(&rt)
 }

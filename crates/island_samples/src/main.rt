@@ -4,13 +4,10 @@
 // not lent is a dash too; every lent place holds 9 before the call.
 #![tactic(auto)]
 
-use frame::{Lists, Refusal};
+use frame::{Frame, Lists, Refusal};
 use island::IslandTables;
 use island_arrays::{IslandArrays, Room};
-use std::io;
-
-// The label of what has no island.
-const NONE: usize = 65535;
+use std::{fmt, io};
 
 // A sample: its name, and the frame. Joints without counts are pairs.
 #[derive(Clone, Copy)]
@@ -52,9 +49,9 @@ struct Way {
     links: usize,
 }
 
-// The value at a place of a table; none beyond its end.
-fn at(values: &[u16], place: usize) -> usize {
-    values.get(place).map_or(NONE, |x| usize::from(*x))
+// The number at a place of a table: none beyond its end, and none for the label of what has no island.
+fn at(values: &[u16], place: usize) -> Option<u16> {
+    values.get(place).copied().filter(|x| *x != Frame::NONE)
 }
 
 // The way of a body in a table of parents, cut after as many links as there are bodies: it ends in any table.
@@ -62,11 +59,10 @@ fn way_of(parents: &[u16], bodies: usize, body: usize) -> Way {
     let mut root = body;
     // `root` is `links` links on from `body`.
     for links in 0..bodies {
-        let parent = at(parents, root);
-        if parent == root {
-            return Way { root, links };
+        match at(parents, root).map(usize::from) {
+            Some(parent) if parent != root => root = parent,
+            _ => return Way { root, links },
         }
-        root = parent;
     }
     Way {
         root,
@@ -75,16 +71,15 @@ fn way_of(parents: &[u16], bodies: usize, body: usize) -> Way {
 }
 
 // A number, or a dash for none.
-fn put(rt: &impl Print, value: usize) -> io::Result<()> {
-    if value == NONE {
-        print!(rt; " -")
-    } else {
-        print!(rt; " {value}")
+fn put<D: fmt::Display + Drop>(rt: &impl Print, value: Option<D>) -> io::Result<()> {
+    match value {
+        Some(value) => print!(rt; " {value}"),
+        None => print!(rt; " -"),
     }
 }
 
 // A word, and a value for each number below `count`; nothing where `count` is 0.
-fn put_each<F: Fn(usize) -> usize + Drop>(
+fn put_each<D: fmt::Display + Drop, F: Fn(usize) -> Option<D> + Drop>(
     rt: &impl Print,
     word: &str,
     count: usize,
@@ -105,8 +100,8 @@ fn put_each<F: Fn(usize) -> usize + Drop>(
 // The sets of the bodies: of each its root, the links to it and the size there.
 fn put_sets(rt: &impl Print, bodies: usize, parents: &[u16], sizes: &[u16]) -> io::Result<()> {
     let way = |body| way_of(parents, bodies, body);
-    put_each(rt, "roots", bodies, |body| way(body).root)?;
-    put_each(rt, "links", bodies, |body| way(body).links)?;
+    put_each(rt, "roots", bodies, |body| Some(way(body).root))?;
+    put_each(rt, "links", bodies, |body| Some(way(body).links))?;
     put_each(rt, "sizes", bodies, |body| at(sizes, way(body).root))
 }
 
@@ -128,7 +123,7 @@ fn put_answer(
             put_sets(rt, bodies, tables.parents, tables.sizes)
         }
         Err(refusal) => {
-            print!(rt; " refused {}", refusal.number())?;
+            print!(rt; " refused {refusal}")?;
             put_values(rt, "parents", bodies, tables.parents)?;
             put_values(rt, "sizes", bodies, tables.sizes)
         }

@@ -3,10 +3,10 @@
 // A list is records of a kind, the lengths of the question and of the answer in 16 bits each, the question and the answer. A head of zeros
 // ends the list.
 //
-// Besides, the first places of a table, for the programs that lend only those.
+// Besides, the first places of a table, for the programs that lend only those, and the step of a sum over a list.
 #![tactic(auto)]
 
-ghost use Rattle.std.specs.Prelude.{◌≡◌, ◌↔◌, IsTrue, take};
+ghost use Rattle.std.specs.Prelude.{◌≡◌, ◌↔◌, ◌+◌, ◌*◌, ◌%◌, IsTrue, take};
 
 mod reader;
 mod writer;
@@ -49,16 +49,18 @@ struct List<R> {
     sum: u32,
 }
 
-// A sum that any wrong byte changes: 31 has an inverse modulo the prime 65,521.
-fn mix(sum: u32, x: u8) -> u32 {
-    ((sum % 65521) * 31 + u32::from(x)) % 65521
+// A sum that any wrong number below 65,521 changes: 31 has an inverse modulo this prime.
+pub fn mix(sum: u32, x: u32) -> u32
+    ensures { result ≡ (sum % 65521 * 31 + x % 65521) % 65521 }
+{
+    ((sum % 65521) * 31 + x % 65521) % 65521
 }
 
 impl<R: Read> List<R> {
     // Fills a part with the list's next bytes.
     fn fill(&mut self, part: &mut [u8]) -> io::Result<()> {
         self.input.read_exact(part)?;
-        self.sum = part.iter().fold(self.sum, |sum, x| mix(sum, *x));
+        self.sum = part.iter().fold(self.sum, |sum, &x| mix(sum, u32::from(x)));
         Ok(())
     }
 
