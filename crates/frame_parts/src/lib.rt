@@ -10,6 +10,7 @@ ghost use Rattle.island.specs.Answers.{answer_islands};
 ghost use Rattle.island.specs.Calls.{rooms_of, Built};
 ghost use Rattle.island.specs.Lent.{tables_in, SameTables};
 ghost use Rattle.island_numbers.specs.Numbers.{by_island, Labels, Sortable};
+ghost use Rattle.island_numbers.specs.Tables.{labels_of};
 ghost use Rattle.frame_parts.specs.Parts.{Standing, standing_refusal, Countable};
 
 use frame::{Lists, Refusal};
@@ -68,6 +69,17 @@ pub fn degree_of(built: Result<u16, Refusal>, lists: Lists<'_>, on_bodies: &mut 
     degrees::degree(lists.asked(), &mut on_bodies[..lists.types.len()])
 }
 
+// The labels of so many manifolds and joints.
+pub fn labels_in<'a>(tables: &'a IslandTables<'_>, manifolds: usize, joints: usize) -> IslandLabels<'a>
+    requires { (manifolds ≤ length tables.now.manifold_islands.now) × (joints ≤ length tables.now.joint_islands.now) }
+    ensures { labels_of result ≡ take manifolds tables.now.manifold_islands.now ++ take joints tables.now.joint_islands.now }
+{
+    IslandLabels {
+        manifolds: &tables.manifold_islands[..manifolds],
+        joints: &tables.joint_islands[..joints],
+    }
+}
+
 // The numbers by island, where the label tables hold at least so many manifolds and the rest joints.
 pub fn sort(
     tables: &IslandTables<'_>,
@@ -84,10 +96,7 @@ pub fn sort(
     requires sortable { Sortable (manifolds + joints) (take (manifolds + joints) keys.old) scratch_offsets.old offsets.old numbers.old }
     ensures { numbers.new ≡ by_island islands (take manifolds tables.now.manifold_islands.now ++ take joints tables.now.joint_islands.now) }
 {
-    let labels = IslandLabels {
-        manifolds: &tables.manifold_islands[..manifolds],
-        joints: &tables.joint_islands[..joints],
-    };
+    let labels = labels_in(tables, manifolds, joints);
     island_numbers::sort(
         labels,
         islands,

@@ -30,17 +30,6 @@ fn count_of(filling: Result<Filling, Refusal>) -> u16
     filling.map_or(0, |filled| filled.islands)
 }
 
-// The labels of so many manifolds and joints.
-fn labels_in<'a>(islands: &'a IslandTables<'_>, manifolds: usize, joints: usize) -> IslandLabels<'a>
-    requires { (manifolds ≤ length islands.now.manifold_islands.now) × (joints ≤ length islands.now.joint_islands.now) }
-    ensures { labels_of result ≡ take manifolds islands.now.manifold_islands.now ++ take joints islands.now.joint_islands.now }
-{
-    IslandLabels {
-        manifolds: &islands.manifold_islands[..manifolds],
-        joints: &islands.joint_islands[..joints],
-    }
-}
-
 // The filled tables, to be read only.
 fn filled_in<'a>(
     tables: &'a FrameTables<'_>,
@@ -104,7 +93,7 @@ fn run_sized(
         &mut numbers[..constraints],
         plan,
     );
-    let labels = labels_in(islands, asked.manifolds, asked.joints);
+    let labels = frame_parts::labels_in(islands, asked.manifolds, asked.joints);
     let filled = filled_in(tables, labels, &numbers[..constraints]);
     let tally = island_run::run_islands(
         count_of(filling),

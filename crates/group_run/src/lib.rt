@@ -42,7 +42,7 @@ fn take_pair(
     let places = planned
         .plan
         .body_positions_for_constraint(planned.positions, rank)?;
-    let marked = marks.take(places[0] as usize, places[1] as usize)?;
+    let marked = marks.take(usize::from(places[0]), usize::from(places[1]))?;
     Ok(pair_taken(marked))
 }
 
@@ -118,7 +118,7 @@ fn take_members(
 {
     // The members passed are taken, and their turns appended.
     for &rank in members {
-        take_member(planned, group, rank as usize, marks, turns);
+        take_member(planned, group, usize::from(rank), marks, turns);
     }
 }
 

@@ -7,11 +7,11 @@ pub loop-rank-init : goal.loop-rank-init
 loop-rank-init c = (going_first refl, refl)
 
 pub take_member-requires : goal.take_member-requires
-take_member-requires c = going_room c.requires c.loop-rank.invariant.0 _ _ (calls_next _ _ _ _ _ _ _ c.loop-rank-test.true)
+take_member-requires c = rw c.from.ensures (going_room c.requires c.loop-rank.invariant.0 _ _ (calls_next _ _ _ _ _ _ _ c.loop-rank-test.true))
 
 pub loop-rank-preserved : goal.loop-rank-preserved
 loop-rank-preserved c =
-    let m = c.take_member.ensures in
+    let m = rw c.from.ensures at c.take_member.ensures in
     (going_more c.requires c.loop-rank.invariant.0 _ _ _ (calls_after _ _ _ _ _ _ _ _ c.loop-rank-test.true m.after) m.added, m.same ∙ c.loop-rank.invariant.1)
 
 pub returns-clause-appended : goal.returns-clause-appended

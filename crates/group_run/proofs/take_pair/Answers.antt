@@ -12,7 +12,7 @@ returns-in_err-places c =
 pub returns-in_err-marked : goal.returns-in_err-marked
 returns-in_err-marked c =
     let p = err_from_is_err_and c.from_residual-in_err-marked.result c.from_residual-in_err-marked.ensures.1 in
-    rw (p.1, p.2) (pair_is_taken _ _ _ _ _ _ _ c.requires _ _ _ c.in_ok-places.ensures _ _ (c.in_err-marked.ensures.taken []) c.in_err-marked.ensures.same)
+    rw (p.1, p.2) (pair_is_taken _ _ _ _ _ _ _ c.requires _ _ _ c.in_ok-places.ensures _ _ (rw (c.from.ensures, c.from-2.ensures) at (c.in_err-marked.ensures.taken [])) c.in_err-marked.ensures.same)
 
 pub returns : goal.returns
-returns c = rw c.pair_taken.ensures (pair_is_taken _ _ _ _ _ _ _ c.requires _ _ _ c.in_ok-places.ensures _ _ (c.in_ok-marked.ensures.taken []) c.in_ok-marked.ensures.same)
+returns c = rw c.pair_taken.ensures (pair_is_taken _ _ _ _ _ _ _ c.requires _ _ _ c.in_ok-places.ensures _ _ (rw (c.from.ensures, c.from-2.ensures) at (c.in_ok-marked.ensures.taken [])) c.in_ok-marked.ensures.same)
