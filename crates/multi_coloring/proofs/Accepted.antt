@@ -45,13 +45,16 @@ accepted flags ends counts t c e =
     }
 
 module _ {flags ends counts : List ℕ} {t : Tables} {c : List ℕ} (o : Accepted flags ends counts t c) where
-  -- at least two endpoints a constraint
+  -- at least two endpoints a constraint, at most 32,768 in all
   pub two-each : 2 * length counts ≤ length ends
   two-each = omega (arith, (known-many counts o.known).0, o.whole)
 
   -- there is room for two bounds a constraint
   pub bounds_room : 2 * length counts ≤ length t.body_constraints
   bounds_room = omega (arith, two-each, o.tables.1.1.1.0)
+
+  pub few-ends : end_count counts ≤ 32768
+  few-ends = omega (arith, (known-many counts o.known).1, o.few)
 
   pub buildable : (bounds : List ℕ) → BoundsOf counts bounds → length bounds ≡ 2 * length counts → Buildable flags ends bounds (length counts) (lent t)
   buildable bounds b l =
