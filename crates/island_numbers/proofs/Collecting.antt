@@ -1,6 +1,6 @@
 -- One turn of the loop over parts; and that the parts between the bounds of counts are the parts by counts, so that what is collected are the
 -- endpoints and counts of the listed constraints.
-use Rattle.std.proofs.Common.{ℕ, ◌+◌, ◌*◌, ◌/◌, ◌≤◌, ◌<◌, ◌≡◌, refl, sym, ap, ◌∙◌, true, List, [], ◌∷◌, ◌++◌, map, append_assoc, arith, add-one, ltb, length, get_or, take, drop, length-append, drop-cons, length-take-le, take_at, eq-eqb, ne_eqb, lt-ltb, ltb-true}
+use Rattle.std.proofs.Common.{ℕ, ◌+◌, ◌*◌, ◌/◌, ◌≤◌, ◌<◌, ◌≡◌, refl, sym, ap, ◌∙◌, true, List, [], ◌∷◌, ◌++◌, map, append_assoc, arith, add-one, ltb, length, get_or, take, drop, length-append, drop-cons, eq-eqb, ne_eqb, lt-ltb, ltb-true}
 use Rattle.std.proofs.Math.ListN.{length-map}
 use Rattle.lists.specs.Basics.{all, mem, join_map}
 use Rattle.lists.proofs.Laws.{all_in, all_intro, no_length}
@@ -23,14 +23,10 @@ module _ (g : ℕ → List ℕ) (ns out part : List ℕ) (rank start : ℕ) (h :
   pub part-room : start + length part + length (join_map g (drop (rank + 1) ns)) ≡ length out
   part-room = omega (arith, room, ap length part-first, length-append part (join_map g (drop (rank + 1) ns)))
 
-  pub part_turn : (new post : List ℕ) → new ≡ part → take start out ++ join_map g (drop rank ns) ≡ join_map g ns
-      → take (start + length part) (take start out ++ (new ++ post)) ++ join_map g (drop (rank + 1) ns) ≡ join_map g ns
-  part_turn new post e v =
-      let front = take start out ++ part in
-      let long : length front ≡ start + length part = omega (arith, length-append (take start out) part, length-take-le start out (omega arith)) in
-      let copied : take start out ++ (new ++ post) ≡ front ++ post = ap (λ (l : List ℕ). take start out ++ (l ++ post)) e ∙ sym (append_assoc (take start out) part post) in
-      ap (λ (l : List ℕ). take (start + length part) l ++ join_map g (drop (rank + 1) ns)) copied
-      ∙ ap (λ (l : List ℕ). l ++ join_map g (drop (rank + 1) ns)) (take_at front post (start + length part) long)
+  pub part_turn : (new : List ℕ) → take (start + length part) new ≡ take start out ++ part → take start out ++ join_map g (drop rank ns) ≡ join_map g ns
+      → take (start + length part) new ++ join_map g (drop (rank + 1) ns) ≡ join_map g ns
+  part_turn new e v =
+      ap (λ (l : List ℕ). l ++ join_map g (drop (rank + 1) ns)) e
       ∙ append_assoc (take start out) part (join_map g (drop (rank + 1) ns))
       ∙ ap (λ (l : List ℕ). take start out ++ l) (sym part-first)
       ∙ v

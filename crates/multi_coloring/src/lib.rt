@@ -2,9 +2,9 @@
 // and positions stand constraint after constraint without gaps; a further table remembers the counts.
 #![tactic(auto)]
 
-ghost use Rattle.std.specs.Prelude.{◌≡◌, ℕ, List, [], ◌≤◌, ◌<◌, ◌*◌, ◌&&◌, map, leb, length};
+ghost use Rattle.std.specs.Prelude.{◌≡◌, ℕ, true, List, [], ◌≤◌, ◌<◌, ◌*◌, ◌&&◌, map, leb, length};
 ghost use Rattle.lists.specs.Basics.{same};
-ghost use Rattle.frame.specs.Frames.{end_count};
+ghost use Rattle.frame.specs.Frames.{counts_known, end_count};
 ghost use Rattle.frame.specs.Refusals.{refused_by};
 ghost use Rattle.groups.specs.Groups.{multi_plan_of};
 ghost use Rattle.parts.specs.Steps.{BoundsOf};
@@ -23,6 +23,17 @@ use plan_questions::PlanTables;
 #[derive(Clone, Copy, Debug, PartialEq, Eq)]
 pub struct MultiColoring {
     pub plan: ConstraintColoring,
+}
+
+// The input of an update that passed questions 3 to 5: flags, one a body, and the endpoints of constraints that have a count each.
+#[derive(Clone, Copy)]
+struct Listed<'a> {
+    flags: &'a [u8],
+    ends: &'a [u16],
+    counts: &'a [u8],
+    ghost few: { length counts.now ≤ 8192 },
+    ghost known: { counts_known counts.now ≡ true },
+    ghost whole: { end_count counts.now ≡ length ends.now },
 }
 
 // A remembered count as it is read: outside two to four it is two.
@@ -109,9 +120,7 @@ fn ask_update(flags: &[u8], ends: &[u16], counts: &[u8], room: bool) -> Result<(
 // two places for each, since it has one for each endpoint. The tables `body_offsets` and `color_stamps` are not lent; they stand as [] in the
 // contract, as does that of the bounds, which is free.
 fn build_counted(
-    flags: &[u8],
-    ends: &[u16],
-    counts: &[u8],
+    listed: Listed<'_>,
     dynamic_bodies: &mut [u8],
     endpoints: &mut [u16],
     body_constraints: &mut [u16],
@@ -124,12 +133,12 @@ fn build_counted(
     color_bodies: &mut [u16],
     constraint_body_positions: &mut [u16],
 ) -> ConstraintColoring
-    requires bounds { (2 * length counts.now ≤ length body_constraints.old) × (length counts.now ≤ 8192) × (end_count counts.now ≤ 32768) × (end_count counts.now ≡ length ends.now) }
-    requires buildable { (bounds : List ℕ) → BoundsOf counts.now bounds → length bounds ≡ 2 * length counts.now → Buildable flags.now ends.now bounds (length counts.now)
+    requires room { 2 * length listed.counts.now ≤ length body_constraints.old }
+    requires buildable { (bounds : List ℕ) → BoundsOf listed.counts.now bounds → length bounds ≡ 2 * length listed.counts.now → Buildable listed.flags.now listed.ends.now bounds (length listed.counts.now)
         (tables_of dynamic_bodies.old endpoints.old [] [] scratch_offsets.old
         constraint_colors.old [] body_stamps.old color_offsets.old
         colored_constraints.old color_body_offsets.old color_bodies.old constraint_body_positions.old) }
-    ensures { Rebuilt flags.now ends.now (multi_plan_of flags.now ends.now counts.now)
+    ensures { Rebuilt listed.entry.flags.now listed.entry.ends.now (multi_plan_of listed.entry.flags.now listed.entry.ends.now listed.entry.counts.now)
         (tables_of dynamic_bodies.old endpoints.old [] [] scratch_offsets.old
         constraint_colors.old [] body_stamps.old color_offsets.old
         colored_constraints.old color_body_offsets.old color_bodies.old constraint_body_positions.old)
@@ -137,15 +146,16 @@ fn build_counted(
         constraint_colors.new [] body_stamps.new color_offsets.new
         colored_constraints.new color_body_offsets.new color_bodies.new constraint_body_positions.new) result }
 {
-    let bounds = &mut body_constraints[..2 * counts.len()];
-    parts::bound_counts(counts, bounds);
+    let count = listed.counts.len();
+    let bounds = &mut body_constraints[..2 * count];
+    parts::bound_counts(listed.counts, bounds);
     let ends = Ends {
-        endpoints: ends,
+        endpoints: listed.ends,
         bounds,
-        count: counts.len(),
+        count,
     };
     constraint_coloring::build_plan(
-        flags,
+        listed.flags,
         ends,
         dynamic_bodies,
         endpoints,
@@ -172,28 +182,22 @@ impl MultiColoring {
 
     // Whether the plan, with its tables and its counts, holds exactly this input.
     #[tactic(auto, unfolding(crate::specs::Calls::multi_holds))]
-    fn holds(
-        self,
-        flags: &[u8],
-        ends: &[u16],
-        counts_in: &[u8],
-        counts: &[u8],
-        tables: &PlanTables<'_>,
-    ) -> bool
-        requires { length counts_in.now ≤ length counts.now }
-        ensures { result ≡ multi_holds self (tables_in tables.now) counts.now flags.now ends.now counts_in.now }
+    fn holds(self, listed: Listed<'_>, counts: &[u8], tables: &PlanTables<'_>) -> bool
+        requires { length listed.counts.now ≤ length counts.now }
+        ensures { result ≡ multi_holds self (tables_in tables.now) counts.now listed.entry.flags.now listed.entry.ends.now listed.entry.counts.now }
     {
         let plan = self.plan;
-        tables.hold(plan.body_count, plan.constraint_count, flags, counts_in.len(), ends)
-            && same_counts(counts_in, &counts[..counts_in.len()])
+        let count = listed.counts.len();
+        tables.hold(plan.body_count, plan.constraint_count, listed.flags, count, listed.ends)
+            && same_counts(listed.counts, &counts[..count])
     }
 
     // Questions 3 to 7; then equal input is "unchanged" and writes nothing, and other input is remembered and its plan built.
-    pub fn update(
+    pub fn update<'a>(
         self,
-        flags: &[u8],
-        ends: &[u16],
-        counts_in: &[u8],
+        flags: &'a [u8],
+        ends: &'a [u16],
+        counts_in: &'a [u8],
         counts: &mut [u8],
         tables: &mut PlanTables<'_>,
     ) -> Update<Self>
@@ -207,14 +211,17 @@ impl MultiColoring {
             Err(refusal) => return Update::Refused(refusal),
             Ok(()) => {}
         }
-        if self.holds(flags, ends, counts_in, counts, tables) {
+        let listed = Listed {
+            flags,
+            ends,
+            counts: counts_in,
+        };
+        if self.holds(listed, counts, tables) {
             return Update::Unchanged;
         }
         constraint_coloring::copy_over(counts_in, counts);
         let plan = build_counted(
-            flags,
-            ends,
-            counts_in,
+            listed,
             tables.dynamic_bodies,
             tables.endpoints,
             tables.body_constraints,

@@ -1,19 +1,20 @@
 -- `build_counted`: the bounds of the counts have room, and a plan can be built by them; the parts by these bounds are the constraints by counts.
 use Rattle.std.proofs.Common.{◌*◌, ◌≡◌, ◌∙◌, arith, length, length-take-le}
+use Rattle.frame.proofs.Counted.{known-many}
 use Rattle.parts.proofs.Bounds.{parts-counted, counted_bounded}
 use Rattle.multi_coloring.proofs.Updates.{built_counts}
 use Rattle.multi_coloring.proofs.build_counted.Goals as goal
 use Rattle.multi_coloring.proofs.build_counted.Goals.{After-bound_counts}
 
-bounds_long : (p : After-bound_counts) → length p.bound_counts.new.bounds ≡ 2 * length p.args.counts.now
-bounds_long p = p.bound_counts.auto.bounds ∙ length-take-le _ _ p.requires.bounds.0
+bounds_long : (p : After-bound_counts) → length p.bound_counts.new.bounds ≡ 2 * length p.args.listed.counts.now
+bounds_long p = p.bound_counts.auto.bounds ∙ length-take-le _ _ p.requires.room
 
 pub bound_counts-requires : goal.bound_counts-requires
-bound_counts-requires c = (length-take-le _ _ c.requires.bounds.0, c.requires.bounds.1, c.requires.bounds.2)
+bound_counts-requires c = (length-take-le _ _ c.requires.room, c.args.listed.few, omega (arith, (known-many c.args.listed.counts.now c.args.listed.known).1, c.args.listed.few))
 
 pub invariant_of-ends : goal.invariant_of-ends
 invariant_of-ends c =
-    record { bounded = counted_bounded c.bound_counts.ensures (bounds_long (goal.at.invariant_of-ends c).After-bound_counts) c.args.ends.now (omega (arith, c.requires.bounds.3)) }
+    record { bounded = counted_bounded c.bound_counts.ensures (bounds_long (goal.at.invariant_of-ends c).After-bound_counts) c.args.listed.ends.now (omega (arith, c.args.listed.whole)) }
 
 pub build_plan-requires : goal.build_plan-requires
 build_plan-requires c = c.requires.buildable _ c.bound_counts.ensures (bounds_long (goal.at.build_plan-requires c).After-bound_counts)
@@ -21,4 +22,4 @@ build_plan-requires c = c.requires.buildable _ c.bound_counts.ensures (bounds_lo
 pub returns : goal.returns
 returns c =
     let p = (goal.at.returns c).After-bound_counts in
-    built_counts c.args.counts.now (rw (parts-counted c.bound_counts.ensures (bounds_long p) c.args.ends.now) at c.build_plan.ensures)
+    built_counts c.args.listed.counts.now (rw (parts-counted c.bound_counts.ensures (bounds_long p) c.args.listed.ends.now) at c.build_plan.ensures)

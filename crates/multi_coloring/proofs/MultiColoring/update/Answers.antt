@@ -5,7 +5,7 @@ use Rattle.plan_questions.specs.Lent.{tables_in}
 use Rattle.multi_coloring.specs.Counts.{multi_update_refusal}
 use Rattle.multi_coloring.specs.Calls.{multi_refusal_with}
 use Rattle.constraint_coloring.proofs.Updates.{built}
-use Rattle.multi_coloring.proofs.Accepted.{accepted, bounds_room, few-ends, buildable}
+use Rattle.multi_coloring.proofs.Accepted.{accepted, bounds_room, buildable}
 use Rattle.multi_coloring.proofs.Updates.{refused, unchanged, changed}
 use Rattle.multi_coloring.proofs.MultiColoring.update.Goals as goal
 use Rattle.multi_coloring.proofs.MultiColoring.update.Goals.{After-has_room_for}
@@ -19,6 +19,12 @@ pub returns-in-Err-clause-updated : goal.returns-in-Err-clause-updated
 returns-in-Err-clause-updated c =
     let q = (goal.at.returns-in-Err-clause-updated c).After-has_room_for in
     refused _ _ _ _ (tables_in c.args.tables.now) _ _ (c.in-Err.ensures ∙ asked q)
+
+pub invariant_of-listed : goal.invariant_of-listed
+invariant_of-listed c =
+    let q = (goal.at.invariant_of-listed c).After-has_room_for in
+    let o = accepted _ _ _ (tables_in c.args.tables.now) _ (sym (c.in-Ok.ensures ∙ asked q)) in
+    record { few = o.few; known = o.known; whole = o.whole }
 
 pub holds-requires : goal.holds-requires
 holds-requires c =
@@ -39,7 +45,7 @@ pub build_counted-plan-requires : goal.build_counted-plan-requires
 build_counted-plan-requires c =
     let q = (goal.at.build_counted-plan-requires c).After-has_room_for in
     let o = accepted _ _ _ (tables_in c.args.tables.now) _ (sym (c.in-Ok.ensures ∙ asked q)) in
-    record { bounds = (bounds_room o, o.few, few-ends o, o.whole); buildable = buildable o }
+    record { room = bounds_room o; buildable = buildable o }
 
 pub returns-clause-updated : goal.returns-clause-updated
 returns-clause-updated c =
