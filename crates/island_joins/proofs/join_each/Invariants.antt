@@ -4,7 +4,7 @@ use Rattle.island_joins.proofs.Joining.{Joining}
 use Rattle.island_joins.proofs.join_each.Given as goal
 
 abbrev pub invariant-loop-constraint : goal.invariant-loop-constraint
-invariant-loop-constraint g l = Joining l.body_types (g.C.Constraints.left l.initial.constraints) (g.C.Constraints.left l.constraints) l.initial.parents l.initial.body_islands l.parents l.sizes l.body_islands
+invariant-loop-constraint g l = Joining l.body_types (g.C.Constraints.left l.initial.constraints) (g.C.Constraints.left l.constraints) l.initial.sets l.initial.body_islands l.sets l.body_islands
 
 abbrev pub decreases-loop-constraint : goal.decreases-loop-constraint
 decreases-loop-constraint g l = length (g.C.Constraints.left l.constraints)
