@@ -3,7 +3,7 @@
 -- constraints joins them all.
 use Rattle.std.proofs.Common.{ℕ, ◌+◌, ◌*◌, ◌≤◌, ◌<◌, arith, add-one, ◌≡◌, refl, sym, ap, ◌∙◌, Bool, true, false, ◌&&◌, cond, List, [], ◌∷◌, ◌++◌, map, append_assoc, append-nil, eqb, ltb, length, get_or, take, drop, drop_of_length-le, drop-cons, eqb-true, eq-eqb, ne_eqb, ltb-true}
 use Rattle.std.proofs.Math.Bool.{or-false}
-use Rattle.lists.specs.Basics.{filter, any, all, mem}
+use Rattle.lists.specs.Basics.{any, all, mem}
 use Rattle.lists.proofs.Laws.{and_left, and_right, and_both, not-true-false, any_append, all_append, cond-or}
 use Rattle.lists.proofs.Ranges.{join_map-append}
 use Rattle.frame.specs.Frames.{Constraint, Frame, constraint, dynamic, on, sound, none}
