@@ -31,11 +31,11 @@ fn root_of(parents: &[u16], body: usize) -> Found
     requires { Balanced parents.now × (body < length parents.now) }
     ensures { LookedUp parents.now body result }
 {
-    let mut root = parents[body] as usize;
-    let mut links = (root != body) as u16;
+    let mut root = usize::from(parents[body]);
+    let mut links = u16::from(root != body);
     // `root` is `links` links on from `body`.
     loop {
-        let parent = parents[root] as usize;
+        let parent = usize::from(parents[root]);
         if parent == root {
             break;
         }
@@ -54,12 +54,12 @@ fn compress(parents: &mut [u16], start: u16, root: u16)
     requires { Balanced parents.old × (start < length parents.old) × (root ≡ root_of parents.old start) }
     ensures { Shortened parents.old parents.new }
 {
-    let mut body = parents[start as usize];
-    parents[start as usize] = root;
+    let mut body = parents[usize::from(start)];
+    parents[usize::from(start)] = root;
     // Every body has the root that it had; those on the way before `body` are linked to it.
     while body != root {
-        let parent = parents[body as usize];
-        parents[body as usize] = root;
+        let parent = parents[usize::from(body)];
+        parents[usize::from(body)] = root;
         body = parent;
     }
 }
@@ -69,7 +69,7 @@ fn find(parents: &mut [u16], body: u16) -> Found
     requires { Balanced parents.old × (body < length parents.old) }
     ensures { LookedUp parents.old body result × Shortened parents.old parents.new }
 {
-    let found = root_of(parents, body as usize);
+    let found = root_of(parents, usize::from(body));
     compress(parents, body, found.root);
     found
 }
@@ -102,8 +102,8 @@ fn link_under(parents: &mut [u16], sizes: &mut [u16], top: u16, under: u16)
     ensures { (parents.new ≡ set parents.old under top)
         × (sizes.new ≡ set sizes.old top (get_or sizes.old top 0 + get_or sizes.old under 0)) }
 {
-    parents[under as usize] = top;
-    sizes[top as usize] += sizes[under as usize];
+    parents[usize::from(under)] = top;
+    sizes[usize::from(top)] += sizes[usize::from(under)];
 }
 
 // The sets of two different roots become one. Of few bodies either side may be the larger, and a wrong guess would cost more than the choice;
@@ -115,8 +115,8 @@ fn join_roots(parents: &mut [u16], sizes: &mut [u16], left: u16, right: u16)
     ensures { Sets parents.new sizes.new
         × (root_of parents.new ≡ hang (length parents.old) (root_of parents.old) left right) }
 {
-    let size_left = sizes[left as usize];
-    let size_right = sizes[right as usize];
+    let size_left = sizes[usize::from(left)];
+    let size_right = sizes[usize::from(right)];
     if size_left + size_right < FEW {
         let top = pick_winner(size_left, size_right, left, right);
         link_under(parents, sizes, top, left + right - top);
