@@ -10,7 +10,7 @@ returns-then-not-constraint c = rw c.if-not-constraint.true
 
 pub returns-in-len2 : goal.returns-in-len2
 unfolding sound
-returns-in-len2 c = rw c.if-not-constraint.false (fits_two c.args.bodies c.args.constraint.ends.now (omega arith))
+returns-in-len2 c = rw c.if-not-constraint.false (rw (c.from.ensures, c.from-in-len2.ensures) (fits_two c.args.bodies c.args.constraint.ends.now (omega arith)))
 
 pub returns-in_default : goal.returns-in_default
 unfolding sound
