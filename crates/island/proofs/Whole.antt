@@ -7,7 +7,7 @@ use Rattle.lists.specs.Basics.{any, all, count, range}
 use Rattle.lists.proofs.Laws.{and_left, and_right, all_append, replicate-at}
 use Rattle.frame.specs.Frames.{Frame, constraints, dynamic, on, sound, all_sound, none}
 use Rattle.island_sets.specs.Sets.{root_of, links_of, size_in}
-use Rattle.island_sets.specs.Steps.{LowestOf}
+use Rattle.island_sets.specs.Steps.{Sets, LowestOf}
 use Rattle.island_sets.proofs.Links.{root_end}
 use Rattle.island_sets.proofs.Weights.{ends, told_at, bound_told}
 use Rattle.island_labels.specs.Labels.{bare, in_island_by, leads_by, Together, Numberable, Numbered, NumberedByLowest, label_by}
@@ -21,7 +21,7 @@ use Rattle.island.proofs.Tables.{tabled}
 use Rattle.island.proofs.Labelling.{labels_are}
 
 -- ---- fresh tables p₁ and b₁, all constraints joined
-module _ (f : Frame) (p₁ b₁ p s b m j : List ℕ) (k : ℕ) (alone : root_of p₁ ≡ (λ (x : ℕ). x)) (eb : b₁ ≡ replicate k none) (z : Sized f p b m j) (w : Joined f.types (constraints f) p₁ b₁ p s b) where
+module _ (f : Frame) (p₁ b₁ p s b m j : List ℕ) (k : ℕ) (alone : root_of p₁ ≡ (λ (x : ℕ). x)) (eb : b₁ ≡ replicate k none) (z : Sized f p b m j) (sets : Sets p s) (w : Joined f.types (constraints f) p₁ b₁ p b) where
   edges-bare : edges (bare f.types) (constraints f) ≡ edges f (constraints f)
   unfolding edges edges_of dynamic
   edges-bare = refl
@@ -34,7 +34,6 @@ module _ (f : Frame) (p₁ b₁ p s b m j : List ℕ) (k : ℕ) (alone : root_of
   ready ok = record {
     sized = z;
     passed = ok;
-    balanced = (s, w.sets);
     roots = roots_are;
     constrained = λ x. w.constrained x ∙ ap (λ (v : ℕ). cond (any (on x) (constraints f)) 0 v) (ap (λ (l : List ℕ). get_or l x none) eb ∙ replicate-at k x none);
   }
@@ -45,10 +44,10 @@ module _ (f : Frame) (p₁ b₁ p s b m j : List ℕ) (k : ℕ) (alone : root_of
 
   pub weighed-sets : WeighedSets f p s
   weighed-sets = record {
-    ends = root_end p (ends p s w.sets.weighed);
+    ends = root_end p (ends p s sets.weighed);
     roots = λ x. ap (λ (g : ℕ → ℕ). g x) roots_are;
-    links = λ x h. omega (arith, bound_told p (s, w.sets) x (links_of p x) (omega (arith, h, z.long_parents)) refl, size_here x);
-    sizes = λ x h. told_at p s w.sets x (omega (arith, h, z.long_parents)) ∙ size_here x;
+    links = λ x h. omega (arith, bound_told p (s, sets) x (links_of p x) (omega (arith, h, z.long_parents)) refl, size_here x);
+    sizes = λ x h. told_at p s sets x (omega (arith, h, z.long_parents)) ∙ size_here x;
   }
 
 -- ---- what the labels and the roots say
@@ -71,7 +70,6 @@ module _ (f : Frame) (p b m j : List ℕ) (r : Ready f p b m j) where
   pub numberable : Numberable f.types p b
   unfolding Together
   numberable = record {
-    balanced = r.balanced;
     long_parents = r.sized.long_parents;
     long_bodies = r.sized.long_bodies;
     together = λ x y e.

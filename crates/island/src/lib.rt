@@ -5,10 +5,9 @@
 // a few passes over the bodies and the constraints.
 #![tactic(auto)]
 
-ghost use Rattle.std.specs.Prelude.{◌≡◌, ◌&&◌, [], ◌/◌, ◌%◌, ◌≤◌, eqb, length, replicate};
-ghost use Rattle.lists.specs.Basics.{range};
+ghost use Rattle.std.specs.Prelude.{◌≡◌, ◌&&◌, [], ◌/◌, ◌%◌, ◌≤◌, eqb, length};
 ghost use Rattle.frame.specs.Asked.{frame_asked};
-ghost use Rattle.frame.specs.Frames.{frame_of, end_count, none, counts_known};
+ghost use Rattle.frame.specs.Frames.{frame_of, end_count, counts_known};
 ghost use Rattle.frame.specs.Lists.{frame_in};
 ghost use Rattle.frame.specs.Questions.{asked, types_known, bits};
 ghost use Rattle.frame.specs.Refusals.{refused_by};
@@ -21,6 +20,7 @@ use frame::asked::AskedLists;
 use frame::refusal::ask;
 use frame::{Frame, Lists, Refusal};
 use island_labels::NONE;
+use island_sets::BodySets;
 
 // The tables that an islands call is lent: two to join bodies in, and three for the labels.
 #[derive(Drop)]
@@ -45,28 +45,18 @@ impl IslandTables<'_> {
     }
 }
 
-// Every body alone, and no body constrained.
-fn reset(parents: &mut [u16], sizes: &mut [u16], body_islands: &mut [u16])
-    requires { length parents.old ≤ 4096 }
-    ensures { (parents.new ≡ range (length parents.old)) × (sizes.new ≡ replicate (length sizes.old) 1)
-        × (body_islands.new ≡ replicate (length body_islands.old) none) }
-{
-    island_sets::reset(parents, sizes);
-    body_islands.fill(NONE);
-}
-
 // The labels of a frame whose constraints are joined. Answers how many islands there are.
 fn label_frame(
     lists: AskedLists<'_>,
-    parents: &[u16],
+    sets: &BodySets<'_>,
     body_islands: &mut [u16],
     manifold_islands: &mut [u16],
     joint_islands: &mut [u16],
 ) -> u16
-    requires { Ready (frame_asked lists) parents.now body_islands.old manifold_islands.old joint_islands.old }
+    requires { Ready (frame_asked lists) sets.now.parents.now body_islands.old manifold_islands.old joint_islands.old }
     ensures { Labelled (frame_asked lists.entry) body_islands.new manifold_islands.new joint_islands.new result }
 {
-    let islands = island_labels::number(lists.types, parents, body_islands);
+    let islands = island_labels::number(lists.types, sets, body_islands);
     island_labels::label_each(lists.manifolds, body_islands, manifold_islands);
     island_labels::label_joints(lists.joints, body_islands, joint_islands);
     islands
@@ -85,16 +75,19 @@ fn build_sized(
     requires sizes_len { length sizes.old ≡ length parents.old }
     ensures { BuiltSized (frame_asked lists.entry) parents.new sizes.new body_islands.new manifold_islands.new joint_islands.new result }
 {
-    reset(parents, sizes, body_islands);
-    if !island_joins::join_frame(lists, parents, sizes, body_islands) {
-        reset(parents, sizes, body_islands);
+    island_sets::reset(parents, sizes);
+    let mut sets = BodySets { parents, sizes };
+    body_islands.fill(NONE);
+    if !island_joins::join_frame(lists, &mut sets, body_islands) {
+        sets.reset();
+        body_islands.fill(NONE);
         manifold_islands.fill(NONE);
         joint_islands.fill(NONE);
         return Err(Refusal::Endpoints);
     }
     Ok(label_frame(
         lists,
-        parents,
+        &sets,
         body_islands,
         manifold_islands,
         joint_islands,

@@ -3,12 +3,14 @@
 -- constraints joins them all.
 use Rattle.std.proofs.Common.{ℕ, ◌+◌, ◌*◌, ◌≤◌, ◌<◌, arith, add-one, ◌≡◌, refl, sym, ap, ◌∙◌, Bool, true, false, ◌&&◌, cond, List, [], ◌∷◌, ◌++◌, map, append_assoc, append-nil, eqb, ltb, length, get_or, take, drop, drop_of_length-le, drop-cons, eqb-true, eq-eqb, ne_eqb, ltb-true}
 use Rattle.std.proofs.Math.Bool.{or-false}
-use Rattle.lists.specs.Basics.{filter, any, all, mem}
+use Rattle.lists.specs.Basics.{any, all, mem}
 use Rattle.lists.proofs.Laws.{and_left, and_right, and_both, not-true-false, any_append, all_append, cond-or}
 use Rattle.lists.proofs.Ranges.{join_map-append}
 use Rattle.frame.specs.Frames.{Constraint, Frame, constraint, dynamic, on, sound, none}
 use Rattle.island_sets.specs.Sets.{root_of, hang}
-use Rattle.island_sets.specs.Steps.{Sets}
+use Rattle.island_sets.specs.declared.BodySets.{BodySets}
+use Rattle.island_sets.specs.Kept.{Kept}
+use Rattle.island_sets.proofs.Keeps.{kept_here, kept_on}
 use Rattle.island_labels.specs.Labels.{bare}
 use Rattle.island_labels.proofs.Labelling.{tied}
 use Rattle.connected_sets.specs.Islands.{Edge, star, edges_of, edges, hang_all}
@@ -94,34 +96,34 @@ joins_none ts bs p e = sym (ap (λ (ds : List ℕ). hang_all (length ts) (root_o
 
 -- it is joined with each later one: the loop, at place i of those behind it
 module _ (ts bs : List ℕ) (first : ℕ) (others : List ℕ) (f : FirstDynamic ts bs first others) where
-  pub record Starring (p₀ p s : List ℕ) (i : ℕ) : Type 0 where
-    pub sets : Sets p s
-    pub long : length p ≡ length ts
-    pub roots : hang_all (length ts) (root_of p) (map (edge first) (dynamics ts (drop i others))) ≡ hang_all (length ts) (root_of p₀) (edges_of (bare ts) (tied true bs))
+  pub record Starring (s₀ s : BodySets) (i : ℕ) : Type 0 where
+    pub kept : Kept s₀ s
+    pub long : length s.parents.now ≡ length ts
+    pub roots : hang_all (length ts) (root_of s.parents.now) (map (edge first) (dynamics ts (drop i others))) ≡ hang_all (length ts) (root_of s₀.parents.now) (edges_of (bare ts) (tied true bs))
 
-  pub starring_starts : (p s : List ℕ) → Sets p s → length p ≡ length ts → Starring p p s 0
+  pub starring_starts : (s : BodySets) → length s.parents.now ≡ length ts → Starring s s 0
   unfolding edges_of
-  starring_starts p s h e = record { sets = h; long = e; roots = sym (ap (λ (ds : List ℕ). hang_all (length ts) (root_of p) (star ds)) f.parted) }
+  starring_starts s e = record { kept = kept_here s; long = e; roots = sym (ap (λ (ds : List ℕ). hang_all (length ts) (root_of s.parents.now) (star ds)) f.parted) }
 
-  module _ (p₀ p s : List ℕ) (i : ℕ) (w : Starring p₀ p s i) where
+  module _ (s₀ s : BodySets) (i : ℕ) (w : Starring s₀ s i) where
     step : (t u : Bool) (g : ℕ → ℕ) (b : ℕ) (ds : List ℕ) → t ≡ true → hang_all (length ts) (hang_all (length ts) g (star (cond t (first ∷ cond u (b ∷ []) []) (cond u (b ∷ []) [])))) (map (edge first) ds) ≡ hang_all (length ts) g (map (edge first) (cond u (b ∷ ds) ds))
     step t true g b ds e = rw e
     step t false g b ds e = rw e
 
-    pub starring_turns : (p' s' : List ℕ) → i < length others → Sets p' s' → length p' ≡ length p → root_of p' ≡ hang_all (length ts) (root_of p) (edges_of (bare ts) (constraint true first (at ts others i))) → Starring p₀ p' s' (i + 1)
+    pub starring_turns : (s' : BodySets) → i < length others → Kept s s' → root_of s'.parents.now ≡ hang_all (length ts) (root_of s.parents.now) (edges_of (bare ts) (constraint true first (at ts others i))) → Starring s₀ s' (i + 1)
     unfolding edges_of
-    starring_turns p' s' h k e q = record {
-      sets = k;
-      long = e ∙ w.long;
+    starring_turns s' h k q = record {
+      kept = kept_on w.kept k;
+      long = k.long ∙ w.long;
       roots =
           ap (λ (g : ℕ → ℕ). hang_all (length ts) g (map (edge first) (dynamics ts (drop (i + 1) others)))) q
-          ∙ step (dynamic (bare ts) first) (dynamic (bare ts) (at ts others i)) (root_of p) (at ts others i) (dynamics ts (drop (i + 1) others)) f.dynamic_first
-          ∙ ap (λ (ds : List ℕ). hang_all (length ts) (root_of p) (map (edge first) ds)) (sym (dynamics_next ts others i h))
+          ∙ step (dynamic (bare ts) first) (dynamic (bare ts) (at ts others i)) (root_of s.parents.now) (at ts others i) (dynamics ts (drop (i + 1) others)) f.dynamic_first
+          ∙ ap (λ (ds : List ℕ). hang_all (length ts) (root_of s.parents.now) (map (edge first) ds)) (sym (dynamics_next ts others i h))
           ∙ w.roots;
     }
 
-    pub starring_ends : length others ≤ i → root_of p ≡ hang_all (length ts) (root_of p₀) (edges_of (bare ts) (tied true bs))
-    starring_ends h = sym (ap (λ (ds : List ℕ). hang_all (length ts) (root_of p) (map (edge first) ds)) (dynamics_end ts others i h)) ∙ w.roots
+    pub starring_ends : length others ≤ i → root_of s.parents.now ≡ hang_all (length ts) (root_of s₀.parents.now) (edges_of (bare ts) (tied true bs))
+    starring_ends h = sym (ap (λ (ds : List ℕ). hang_all (length ts) (root_of s.parents.now) (map (edge first) ds)) (dynamics_end ts others i h)) ∙ w.roots
 
 -- ---- which bodies are constrained
 -- the loop over bodies bs, at place i
@@ -131,9 +133,9 @@ pub record Constraining (bs l₀ l : List ℕ) (i : ℕ) : Type 0 where
 
 -- ---- one constraint
 module _ (ts p l : List ℕ) (t : Bool) (bs : List ℕ) where
-  pub joined_dead : (s : List ℕ) → Sets p s → t ≡ false → Joined ts (tied t bs ∷ []) p l p s l
+  pub joined_dead : t ≡ false → Joined ts (tied t bs ∷ []) p l p l
   unfolding edges edges_of on
-  joined_dead s h e = record { sets = h; roots = rw e; constrained = λ x. rw e }
+  joined_dead e = record { roots = rw e; constrained = λ x. rw e }
 
 -- the two of a list of two
 pub two_ends : (bs : List ℕ) → length bs ≡ 2 → bs ≡ get_or bs 0 0 ∷ get_or bs 1 0 ∷ []
@@ -143,12 +145,11 @@ two_ends (a ∷ b ∷ []) h = refl
 two_ends (a ∷ b ∷ c ∷ bs) h = absurd (omega arith)
 
 -- a live one, on bodies bs
-pub joined_live : (ts bs p l p' s' l' : List ℕ) → Sets p' s'
+pub joined_live : (ts bs p l p' l' : List ℕ)
     → root_of p' ≡ hang_all (length ts) (root_of p) (edges_of (bare ts) (tied true bs)) → ((x : ℕ) → get_or l' x none ≡ cond (mem x bs) 0 (get_or l x none))
-    → Joined ts (tied true bs ∷ []) p l p' s' l'
+    → Joined ts (tied true bs ∷ []) p l p' l'
 unfolding edges on
-joined_live ts bs p l p' s' l' h r m = record {
-  sets = h;
+joined_live ts bs p l p' l' r m = record {
   roots = r ∙ ap (hang_all (length ts) (root_of p)) (sym (append-nil (edges_of (bare ts) (tied true bs))));
   constrained = λ x. m x ∙ ap (λ (u : Bool). cond u 0 (get_or l x none)) (sym (or-false (mem x bs)));
 }
@@ -158,13 +159,12 @@ edges-append : (f : Frame) (cs ds : List Constraint) → edges f (cs ++ ds) ≡ 
 unfolding edges
 edges-append f cs ds = join_map-append (edges_of f) cs ds
 
-pub joined_none : (ts p s l : List ℕ) → Sets p s → Joined ts [] p l p s l
+joined_none : (ts p l : List ℕ) → Joined ts [] p l p l
 unfolding edges
-joined_none ts p s l h = record { sets = h; roots = refl; constrained = λ x. refl }
+joined_none ts p l = record { roots = refl; constrained = λ x. refl }
 
-pub joined_append : (ts : List ℕ) (cs ds : List Constraint) (p₀ l₀ p₁ s₁ l₁ p₂ s₂ l₂ : List ℕ) → Joined ts cs p₀ l₀ p₁ s₁ l₁ → Joined ts ds p₁ l₁ p₂ s₂ l₂ → Joined ts (cs ++ ds) p₀ l₀ p₂ s₂ l₂
-joined_append ts cs ds p₀ l₀ p₁ s₁ l₁ p₂ s₂ l₂ u v = record {
-  sets = v.sets;
+joined_append : (ts : List ℕ) (cs ds : List Constraint) (p₀ l₀ p₁ l₁ p₂ l₂ : List ℕ) → Joined ts cs p₀ l₀ p₁ l₁ → Joined ts ds p₁ l₁ p₂ l₂ → Joined ts (cs ++ ds) p₀ l₀ p₂ l₂
+joined_append ts cs ds p₀ l₀ p₁ l₁ p₂ l₂ u v = record {
   roots =
       v.roots
       ∙ ap (λ (g : ℕ → ℕ). hang_all (length ts) g (edges (bare ts) ds)) u.roots
@@ -178,37 +178,35 @@ joined_append ts cs ds p₀ l₀ p₁ s₁ l₁ p₂ s₂ l₂ u v = record {
 }
 
 -- the first list has a constraint that does not pass; or all pass, and the second list is tried
-module _ (ts : List ℕ) (cs ds : List Constraint) (p₀ l₀ p₁ s₁ l₁ : List ℕ) (r : Bool) (u : JoinedOrRefused ts cs p₀ l₀ p₁ s₁ l₁ r) where
-  abbrev passes : Constraint → Bool
-  passes = sound (length ts)
-
-  both_lists : (t : Bool) → r ≡ t → all passes (cs ++ ds) ≡ (t && all passes ds)
-  both_lists t e = all_append passes cs ds ∙ ap (λ (x : Bool). x && all passes ds) (sym u.answer ∙ e)
-
-  pub tried_both : r ≡ true → (p₂ s₂ l₂ : List ℕ) (r₂ : Bool) → JoinedOrRefused ts ds p₁ l₁ p₂ s₂ l₂ r₂ → JoinedOrRefused ts (cs ++ ds) p₀ l₀ p₂ s₂ l₂ r₂
-  tried_both e p₂ s₂ l₂ r₂ v = record { answer = v.answer ∙ sym (both_lists true e); joined = λ t. joined_append ts cs ds p₀ l₀ p₁ s₁ l₁ p₂ s₂ l₂ (u.joined e) (v.joined t) }
+module _ {ts : List ℕ} {cs ds : List Constraint} {s₀ : BodySets} {l₀ : List ℕ} {s₁ : BodySets} {l₁ : List ℕ} {r : Bool} (u : JoinedOrRefused ts cs s₀ l₀ s₁ l₁ r) where
+  pub tried_both : r ≡ true → {s₂ : BodySets} {l₂ : List ℕ} {r₂ : Bool} → JoinedOrRefused ts ds s₁ l₁ s₂ l₂ r₂ → JoinedOrRefused ts (cs ++ ds) s₀ l₀ s₂ l₂ r₂
+  tried_both e v = record {
+    kept = kept_on u.kept v.kept;
+    answer = v.answer ∙ sym (all_append (sound (length ts)) cs ds ∙ ap (λ (x : Bool). x && all (sound (length ts)) ds) (sym u.answer ∙ e));
+    joined = λ t. joined_append _ cs ds _ _ _ _ _ _ (u.joined e) (v.joined t);
+  }
 
 -- ---- the loop over constraints cs, of which these are left: those before are done, and passed question 7
-pub record Joining (ts : List ℕ) (cs left : List Constraint) (p₀ l₀ p s l : List ℕ) : Type 0 where
-  pub long_p : length p ≡ length p₀
+pub record Joining (ts : List ℕ) (cs left : List Constraint) (s₀ : BodySets) (l₀ : List ℕ) (s : BodySets) (l : List ℕ) : Type 0 where
+  pub kept : Kept s₀ s
   pub long_l : length l ≡ length l₀
   pub done : List Constraint
   pub whole : done ++ left ≡ cs
   pub passed : all (sound (length ts)) done ≡ true
-  pub joined : Joined ts done p₀ l₀ p s l
+  pub joined : Joined ts done s₀.parents.now l₀ s.parents.now l
 
-pub joining_starts : (ts : List ℕ) (cs : List Constraint) (p s l : List ℕ) → Sets p s → Joining ts cs cs p l p s l
-joining_starts ts cs p s l h = record { long_p = refl; long_l = refl; done = []; whole = refl; passed = refl; joined = joined_none ts p s l h }
+pub joining_starts : (ts : List ℕ) (cs : List Constraint) (s : BodySets) (l : List ℕ) → Joining ts cs cs s l s l
+joining_starts ts cs s l = record { kept = kept_here s; long_l = refl; done = []; whole = refl; passed = refl; joined = joined_none ts s.parents.now l }
 
 -- the next of them, c, is tried
-module _ (ts : List ℕ) (cs left : List Constraint) (p₀ l₀ p s l : List ℕ) (w : Joining ts cs left p₀ l₀ p s l) where
-  module _ (c : Constraint) (rest : List Constraint) (e : left ≡ c ∷ rest) (p' s' l' : List ℕ) (r : Bool) (j : JoinedOrRefused ts (c ∷ []) p l p' s' l' r) where
-    pub joining_turns : r ≡ true → length p' ≡ length p → length l' ≡ length l → Joining ts cs rest p₀ l₀ p' s' l'
-    joining_turns ok ep el = record {
-      long_p = ep ∙ w.long_p;
+module _ {ts : List ℕ} {cs left : List Constraint} {s₀ : BodySets} {l₀ : List ℕ} {s : BodySets} {l : List ℕ} (w : Joining ts cs left s₀ l₀ s l) where
+  module _ (c : Constraint) (rest : List Constraint) (e : left ≡ c ∷ rest) {s' : BodySets} {l' : List ℕ} {r : Bool} (j : JoinedOrRefused ts (c ∷ []) s l s' l' r) where
+    pub joining_turns : r ≡ true → length l' ≡ length l → Joining ts cs rest s₀ l₀ s' l'
+    joining_turns ok el = record {
+      kept = kept_on w.kept j.kept;
       long_l = el ∙ w.long_l;
       done = w.done ++ (c ∷ []);
       whole = append_assoc w.done (c ∷ []) rest ∙ ap (λ (ds : List Constraint). w.done ++ ds) (sym e) ∙ w.whole;
       passed = all_append (sound (length ts)) w.done (c ∷ []) ∙ and_both (all (sound (length ts)) w.done) (all (sound (length ts)) (c ∷ [])) w.passed (sym j.answer ∙ ok);
-      joined = joined_append ts w.done (c ∷ []) p₀ l₀ p s l p' s' l' w.joined (j.joined ok);
+      joined = joined_append ts w.done (c ∷ []) _ _ _ _ _ _ w.joined (j.joined ok);
     }

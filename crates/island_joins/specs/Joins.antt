@@ -4,13 +4,13 @@ use Rattle.lists.specs.Basics.{filter, any, all}
 use Rattle.frame.specs.Frames.{Constraint, dynamic, on, sound, none}
 use Rattle.connected_sets.specs.Islands.{edges, hang_all}
 use Rattle.island_sets.specs.Sets.{root_of}
-use Rattle.island_sets.specs.Steps.{Sets}
+use Rattle.island_sets.specs.declared.BodySets.{BodySets}
+use Rattle.island_sets.specs.Kept.{Kept}
 use Rattle.island_labels.specs.Labels.{bare}
 
--- parents, sizes and labels, as many of each as bodies
-pub record Fit (ts p s l : List ℕ) : Type 0 where
-  pub sets : Sets p s
-  pub long_parents : length p ≡ length ts
+-- as many parents and labels as bodies
+pub record Fit (ts : List ℕ) (s : BodySets) (l : List ℕ) : Type 0 where
+  pub long_parents : length s.parents.now ≡ length ts
   pub long_bodies : length l ≡ length ts
 
 -- the dynamic ones of the bodies bs
@@ -25,12 +25,12 @@ pub record FirstDynamic (ts bs : List ℕ) (first : ℕ) (others : List ℕ) : T
   pub parted : dynamics ts bs ≡ first ∷ dynamics ts others
 
 -- the constraints cs join the sets of p₀, in order, and constrain the bodies that they are on in l₀
-pub record Joined (ts : List ℕ) (cs : List Constraint) (p₀ l₀ p s l : List ℕ) : Type 0 where
-  pub sets : Sets p s
+pub record Joined (ts : List ℕ) (cs : List Constraint) (p₀ l₀ p l : List ℕ) : Type 0 where
   pub roots : root_of p ≡ hang_all (length ts) (root_of p₀) (edges (bare ts) cs)
   pub constrained : (x : ℕ) → get_or l x none ≡ cond (any (on x) cs) 0 (get_or l₀ x none)
 
 -- r says whether all of them pass question 7; where one does not, the tables are left anyhow
-pub record JoinedOrRefused (ts : List ℕ) (cs : List Constraint) (p₀ l₀ p s l : List ℕ) (r : Bool) : Type 0 where
+pub record JoinedOrRefused (ts : List ℕ) (cs : List Constraint) (s₀ : BodySets) (l₀ : List ℕ) (s : BodySets) (l : List ℕ) (r : Bool) : Type 0 where
+  pub kept : Kept s₀ s
   pub answer : r ≡ all (sound (length ts)) cs
-  pub joined : r ≡ true → Joined ts cs p₀ l₀ p s l
+  pub joined : r ≡ true → Joined ts cs s₀.parents.now l₀ s.parents.now l

@@ -8,13 +8,14 @@ ghost use Rattle.frame.specs.Asked.{joints_in, frame_asked};
 ghost use Rattle.frame.specs.Frames.{constraint, constraints, none};
 ghost use Rattle.connected_sets.specs.Islands.{edges_of, hang_all};
 ghost use Rattle.island_sets.specs.Sets.{root_of};
-ghost use Rattle.island_sets.specs.Steps.{Sets};
+ghost use Rattle.island_sets.specs.Kept.{Kept};
 ghost use Rattle.island_labels.specs.Labels.{bare};
 ghost use Rattle.island_joins.specs.Joins.{Fit, dynamics, FirstDynamic, Joined, JoinedOrRefused};
 
 use frame::Frame;
 use frame::asked::{AskedLists, Joints};
 use frame::constraints::{Constraints, Lent, sound_one};
+use island_sets::BodySets;
 
 // The types of two dynamic bodies, 2 and 2, as the two bytes of one number.
 const BOTH_DYNAMIC: usize = 514;
@@ -22,10 +23,10 @@ const BOTH_DYNAMIC: usize = 514;
 // Two bodies are joined if both are dynamic. Their types are tested as one number: one branch to guess, not two. Its code stands in the
 // loops that call it, so that no pair costs a call.
 #[inline(always)]
-fn join_dynamic(body_types: &[u8], parents: &mut [u16], sizes: &mut [u16], a: u16, b: u16)
-    requires { Sets parents.old sizes.old × (length parents.old ≡ length body_types.now) × (a < length body_types.now) × (b < length body_types.now) }
-    ensures { Sets parents.new sizes.new
-        × (root_of parents.new ≡ hang_all (length body_types.now) (root_of parents.old) (edges_of (bare body_types.now) (constraint true a b))) }
+fn join_dynamic(body_types: &[u8], sets: &mut BodySets<'_>, a: u16, b: u16)
+    requires { (length sets.old.parents.now ≡ length body_types.now) × (a < length body_types.now) × (b < length body_types.now) }
+    ensures { Kept sets.old sets.new
+        × (root_of sets.new.parents.now ≡ hang_all (length body_types.now) (root_of sets.old.parents.now) (edges_of (bare body_types.now) (constraint true a b))) }
 {
     let type_a = usize::from(body_types[usize::from(a)]);
     let type_b = usize::from(body_types[usize::from(b)]);
@@ -33,7 +34,7 @@ fn join_dynamic(body_types: &[u8], parents: &mut [u16], sizes: &mut [u16], a: u1
     if types != BOTH_DYNAMIC {
         return;
     }
-    island_sets::union(parents, sizes, a, b);
+    sets.union(a, b);
 }
 
 // The first dynamic body of a list, and the bodies behind it.
@@ -52,17 +53,17 @@ fn first_dynamic<'a>(body_types: &[u8], ends: &'a [u16]) -> Option<(u16, &'a [u1
 }
 
 // The first dynamic body of a list is joined with each later dynamic one.
-fn join_dynamics(body_types: &[u8], parents: &mut [u16], sizes: &mut [u16], ends: &[u16])
-    requires { Sets parents.old sizes.old × (length parents.old ≡ length body_types.now)
+fn join_dynamics(body_types: &[u8], sets: &mut BodySets<'_>, ends: &[u16])
+    requires { (length sets.old.parents.now ≡ length body_types.now)
         × (all (λ b. ltb b (length body_types.now)) ends.now ≡ true) }
-    ensures { Sets parents.new sizes.new
-        × (root_of parents.new ≡ hang_all (length body_types.now) (root_of parents.old)
+    ensures { Kept sets.old sets.new
+        × (root_of sets.new.parents.now ≡ hang_all (length body_types.now) (root_of sets.old.parents.now)
         (edges_of (bare body_types.now) (record { ends = ends.now; live = true }))) }
 {
     if let Some((first, others)) = first_dynamic(body_types, ends) {
         // The first dynamic body is joined with the dynamic ones among those passed.
         for other in others {
-            join_dynamic(body_types, parents, sizes, first, *other);
+            join_dynamic(body_types, sets, first, *other);
         }
     }
 }
@@ -85,21 +86,21 @@ fn constrain(body_islands: &mut [u16], ends: &[u16])
 fn join_live(
     body_types: &[u8],
     ends: &[u16],
-    parents: &mut [u16],
-    sizes: &mut [u16],
+    sets: &mut BodySets<'_>,
     body_islands: &mut [u16],
 )
-    requires { Fit body_types.now parents.old sizes.old body_islands.old × (all (λ b. ltb b (length body_types.now)) ends.now ≡ true) }
-    ensures { Joined body_types.now (record { ends = ends.now; live = true } ∷ []) parents.old body_islands.old parents.new sizes.new body_islands.new }
+    requires { Fit body_types.now sets.old body_islands.old × (all (λ b. ltb b (length body_types.now)) ends.now ≡ true) }
+    ensures { Kept sets.old sets.new
+        × Joined body_types.now (record { ends = ends.now; live = true } ∷ []) sets.old.parents.now body_islands.old sets.new.parents.now body_islands.new }
 {
     match ends {
         [a, b] => {
             let pair = [*a, *b];
-            join_dynamic(body_types, parents, sizes, pair[0], pair[1]);
+            join_dynamic(body_types, sets, pair[0], pair[1]);
             constrain(body_islands, &pair);
         }
         ends => {
-            join_dynamics(body_types, parents, sizes, ends);
+            join_dynamics(body_types, sets, ends);
             constrain(body_islands, ends);
         }
     }
@@ -110,12 +111,11 @@ fn join_live(
 fn join_one(
     body_types: &[u8],
     constraint: Lent<'_>,
-    parents: &mut [u16],
-    sizes: &mut [u16],
+    sets: &mut BodySets<'_>,
     body_islands: &mut [u16],
 ) -> bool
-    requires { Fit body_types.now parents.old sizes.old body_islands.old }
-    ensures { JoinedOrRefused body_types.now (lent constraint.entry ∷ []) parents.old body_islands.old parents.new sizes.new body_islands.new result }
+    requires { Fit body_types.now sets.old body_islands.old }
+    ensures { JoinedOrRefused body_types.now (lent constraint.entry ∷ []) sets.old body_islands.old sets.new body_islands.new result }
 {
     if !sound_one(body_types.len(), constraint) {
         return false;
@@ -123,7 +123,7 @@ fn join_one(
     if !constraint.live {
         return true;
     }
-    join_live(body_types, constraint.ends, parents, sizes, body_islands);
+    join_live(body_types, constraint.ends, sets, body_islands);
     true
 }
 
@@ -132,17 +132,16 @@ fn join_one(
 fn join_each<'a, C: Constraints<'a>>(
     body_types: &[u8],
     constraints: C,
-    parents: &mut [u16],
-    sizes: &mut [u16],
+    sets: &mut BodySets<'_>,
     body_islands: &mut [u16],
 ) -> bool
-    requires { Fit body_types.now parents.old sizes.old body_islands.old }
+    requires { Fit body_types.now sets.old body_islands.old }
     ensures { JoinedOrRefused body_types.now (C.left constraints)
-        parents.old body_islands.old parents.new sizes.new body_islands.new result }
+        sets.old body_islands.old sets.new body_islands.new result }
 {
     // The constraints before those left passed question 7 and are joined.
     for constraint in constraints {
-        if !join_one(body_types, constraint, parents, sizes, body_islands) {
+        if !join_one(body_types, constraint, sets, body_islands) {
             return false;
         }
     }
@@ -153,18 +152,17 @@ fn join_each<'a, C: Constraints<'a>>(
 fn join_joints(
     body_types: &[u8],
     joints: Joints<'_>,
-    parents: &mut [u16],
-    sizes: &mut [u16],
+    sets: &mut BodySets<'_>,
     body_islands: &mut [u16],
 ) -> bool
-    requires { Fit body_types.now parents.old sizes.old body_islands.old }
+    requires { Fit body_types.now sets.old body_islands.old }
     ensures { JoinedOrRefused body_types.now (joints_in joints.entry)
-        parents.old body_islands.old parents.new sizes.new body_islands.new result }
+        sets.old body_islands.old sets.new body_islands.new result }
 {
     match joints {
-        Joints::Paired(pairs) => join_each(body_types, pairs, parents, sizes, body_islands),
+        Joints::Paired(pairs) => join_each(body_types, pairs, sets, body_islands),
         Joints::WithCounts(counted) => {
-            join_each(body_types, counted, parents, sizes, body_islands)
+            join_each(body_types, counted, sets, body_islands)
         }
     }
 }
@@ -172,16 +170,16 @@ fn join_joints(
 // Every constraint of a frame.
 pub fn join_frame(
     lists: AskedLists<'_>,
-    parents: &mut [u16],
-    sizes: &mut [u16],
+    sets: &mut BodySets<'_>,
     body_islands: &mut [u16],
 ) -> bool
-    requires { Fit lists.types.now parents.old sizes.old body_islands.old }
-    ensures { JoinedOrRefused lists.entry.types.now (constraints (frame_asked lists.entry))
-        parents.old body_islands.old parents.new sizes.new body_islands.new result }
+    requires { Fit lists.types.now sets.old body_islands.old }
+    ensures joined { JoinedOrRefused lists.entry.types.now (constraints (frame_asked lists.entry))
+        sets.old body_islands.old sets.new body_islands.new result }
+    ensures same { Kept sets.old sets.new }
 {
-    if !join_each(lists.types, lists.manifolds, parents, sizes, body_islands) {
+    if !join_each(lists.types, lists.manifolds, sets, body_islands) {
         return false;
     }
-    join_joints(lists.types, lists.joints, parents, sizes, body_islands)
+    join_joints(lists.types, lists.joints, sets, body_islands)
 }

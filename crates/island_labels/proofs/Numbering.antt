@@ -217,7 +217,7 @@ pub record Numbering (p f l : List ℕ) (n b : ℕ) : Type 0 where
   pub long : length l ≡ length f
   pub states : (low : ℕ → ℕ) → LowestOf (root_of p) low → State p (waits f) low l n b
 
-module _ (ts p l₀ f : List ℕ) (h : Numberable ts p l₀) (w : Flagged (in_island_by ts l₀) f) (size : length f ≡ length l₀) where
+module _ (ts p l₀ f : List ℕ) (q : Balanced p) (h : Numberable ts p l₀) (w : Flagged (in_island_by ts l₀) f) (size : length f ≡ length l₀) where
   waits_are : waits f ≡ in_island_by ts l₀
   waits_are = fun_ext (λ y. ap (λ (v : ℕ). eqb v unnumbered) (w.labels y) ∙ told (in_island_by ts l₀ y))
     where
@@ -239,7 +239,7 @@ module _ (ts p l₀ f : List ℕ) (h : Numberable ts p l₀) (w : Flagged (in_is
 
     -- few islands so far
     pub numbering_few : n ≤ 4096
-    numbering_few = omega (arith, (v.states h.lowest.0 h.lowest.1).islands, count-le (leads_by (waits f) h.lowest.0) b, v.inside, h.balanced.1.few)
+    numbering_few = omega (arith, (v.states h.lowest.0 h.lowest.1).islands, count-le (leads_by (waits f) h.lowest.0) b, v.inside, q.1.few)
 
     together : Together (waits f) (root_of p)
     together = subst (λ (m : ℕ → Bool). Together m (root_of p)) (sym waits_are) h.together
@@ -249,13 +249,13 @@ module _ (ts p l₀ f : List ℕ) (h : Numberable ts p l₀) (w : Flagged (in_is
       inside = omega (arith, k);
       long = el ∙ v.long;
       states = λ low o. subst (λ (c : ℕ). State p (waits f) low l' n' c) (sym (add-one b))
-          (state_turns p (waits f) low h.balanced waits_inside together o l n b (v.states low o) k long_now l' n' z);
+          (state_turns p (waits f) low q waits_inside together o l n b (v.states low o) k long_now l' n' z);
     }
 
     pub numbering_ends : length l ≤ b → NumberedByLowest ts p l₀ n l
     numbering_ends k = record {
       numbered = λ low o. subst (λ (c : ℕ). Numbered (in_island_by ts l₀) low c n l) (e ∙ h.long_parents)
-          (subst (λ (m : ℕ → Bool). Numbered m low b n l) waits_are (state_ends p (waits f) low h.balanced waits_inside together o l n b (v.states low o) e));
+          (subst (λ (m : ℕ → Bool). Numbered m low b n l) waits_are (state_ends p (waits f) low q waits_inside together o l n b (v.states low o) e));
     }
       where
         e : b ≡ length p

@@ -116,7 +116,6 @@ module _ (p s : List ℕ) (h : Sets p s) (w l : ℕ) (kw : w < length p) (kl : l
       kept x (no n) = ap (moved w l) (ap (root_of p) (link_other p l w x n) ∙ root_step p (ends p s h.weighed) x)
 
   told_hung : Told (length p) (λ x. moved w l (root_of p x)) (set s w total)
-  unfolding Told
   told_hung b k = go (ℕ_discrete (root_of p b) l) (ℕ_discrete (root_of p b) w)
     where
       SizeAt : ℕ → Type 0

@@ -6,3 +6,4 @@ pub mod Ways
 pub mod Unions
 pub mod Merges
 pub mod Kernels
+pub mod Keeps

@@ -52,7 +52,6 @@ pub root_self : (n : ℕ) → root_of (range n) ≡ (λ (x : ℕ). x)
 root_self n = roots_are (range n) (ends (range n) (replicate n 1) (weighed_self n)) (λ x. x) (λ b e. refl) (link_self n)
 
 told_self : (n : ℕ) → Told n (λ x. x) (replicate n 1)
-unfolding Told
 told_self n b k = weight_one n b k ∙ sym (size_alone n b k)
 
 pub sets_self : (n : ℕ) → n ≤ 4096 → Sets (range n) (replicate n 1)

@@ -105,7 +105,6 @@ module _ (p s : List ℕ) (h : Weighed p s) where
 
 -- ---- the number of bodies
 pub told_at : (p s : List ℕ) → Sets p s → (b : ℕ) → b < length p → get_or s (root_of p b) 0 ≡ size_in (length p) (root_of p) (root_of p b)
-unfolding Told
 told_at p s h b k = h.told b k
 
 pub told_root : (p s : List ℕ) → Sets p s → (r : ℕ) → r < length p → root_of p r ≡ r → get_or s r 0 ≡ size_in (length p) (root_of p) r

@@ -14,7 +14,7 @@ pub record Weighed (p s : List ℕ) : Type 0 where
   pub halves : (x : ℕ) → (link p x ≡ x → ⊥) → 2 * get_or s x 0 ≤ get_or s (link p x) 0
 
 -- a root's size is its set's number of bodies
-unfoldable pub Told : ℕ → (ℕ → ℕ) → List ℕ → Type 0
+abbrev pub Told : ℕ → (ℕ → ℕ) → List ℕ → Type 0
 Told nb root s = (b : ℕ) → b < nb → get_or s (root b) 0 ≡ size_in nb root (root b)
 
 pub record Sets (p s : List ℕ) : Type 0 where

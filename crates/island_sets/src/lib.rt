@@ -18,16 +18,24 @@ pub struct Found {
     pub links: u16,
 }
 
+// Sets of bodies: the parent of each body, and at each root how many bodies its set has.
+#[derive(Drop)]
+pub struct BodySets<'a> {
+    pub parents: &'a mut [u16],
+    pub sizes: &'a mut [u16],
+    ghost sets: { Sets parents.now sizes.now },
+}
+
 // Where the links of `body` end, and how many there are. The first link is followed without a branch: most ways have none or one.
-pub fn root_of(parents: &[u16], body: usize) -> Found
+fn root_of(parents: &[u16], body: usize) -> Found
     requires { Balanced parents.now × (body < length parents.now) }
     ensures { LookedUp parents.now body result }
 {
-    let mut root = parents[body] as usize;
-    let mut links = (root != body) as u16;
+    let mut root = usize::from(parents[body]);
+    let mut links = u16::from(root != body);
     // `root` is `links` links on from `body`.
     loop {
-        let parent = parents[root] as usize;
+        let parent = usize::from(parents[root]);
         if parent == root {
             break;
         }
@@ -46,12 +54,12 @@ fn compress(parents: &mut [u16], start: u16, root: u16)
     requires { Balanced parents.old × (start < length parents.old) × (root ≡ root_of parents.old start) }
     ensures { Shortened parents.old parents.new }
 {
-    let mut body = parents[start as usize];
-    parents[start as usize] = root;
+    let mut body = parents[usize::from(start)];
+    parents[usize::from(start)] = root;
     // Every body has the root that it had; those on the way before `body` are linked to it.
     while body != root {
-        let parent = parents[body as usize];
-        parents[body as usize] = root;
+        let parent = parents[usize::from(body)];
+        parents[usize::from(body)] = root;
         body = parent;
     }
 }
@@ -61,7 +69,7 @@ fn find(parents: &mut [u16], body: u16) -> Found
     requires { Balanced parents.old × (body < length parents.old) }
     ensures { LookedUp parents.old body result × Shortened parents.old parents.new }
 {
-    let found = root_of(parents, body as usize);
+    let found = root_of(parents, usize::from(body));
     compress(parents, body, found.root);
     found
 }
@@ -94,8 +102,8 @@ fn link_under(parents: &mut [u16], sizes: &mut [u16], top: u16, under: u16)
     ensures { (parents.new ≡ set parents.old under top)
         × (sizes.new ≡ set sizes.old top (get_or sizes.old top 0 + get_or sizes.old under 0)) }
 {
-    parents[under as usize] = top;
-    sizes[top as usize] += sizes[under as usize];
+    parents[usize::from(under)] = top;
+    sizes[usize::from(top)] += sizes[usize::from(under)];
 }
 
 // The sets of two different roots become one. Of few bodies either side may be the larger, and a wrong guess would cost more than the choice;
@@ -107,8 +115,8 @@ fn join_roots(parents: &mut [u16], sizes: &mut [u16], left: u16, right: u16)
     ensures { Sets parents.new sizes.new
         × (root_of parents.new ≡ hang (length parents.old) (root_of parents.old) left right) }
 {
-    let size_left = sizes[left as usize];
-    let size_right = sizes[right as usize];
+    let size_left = sizes[usize::from(left)];
+    let size_right = sizes[usize::from(right)];
     if size_left + size_right < FEW {
         let top = pick_winner(size_left, size_right, left, right);
         link_under(parents, sizes, top, left + right - top);
@@ -121,24 +129,6 @@ fn join_roots(parents: &mut [u16], sizes: &mut [u16], left: u16, right: u16)
     link_under(parents, sizes, right, left);
 }
 
-// The sets of `left` and `right` become one: the smaller hangs under the larger, and on equal sizes the lower root stays. A set joined
-// with itself stays as it is. Its code stands where it is called, so that no pair of bodies costs a call.
-#[inline(always)]
-pub fn union(parents: &mut [u16], sizes: &mut [u16], left: u16, right: u16)
-    requires { Sets parents.old sizes.old × (left < length parents.old) × (right < length parents.old) }
-    ensures { Sets parents.new sizes.new
-        × (root_of parents.new ≡ hang (length parents.old) (root_of parents.old) left right) }
-{
-    let found_left = find(parents, left);
-    let found_right = find(parents, right);
-    let root_left = found_left.root;
-    let root_right = found_right.root;
-    if root_left == root_right {
-        return;
-    }
-    join_roots(parents, sizes, root_left, root_right);
-}
-
 // Every body alone: its own parent, and of size 1.
 pub fn reset(parents: &mut [u16], sizes: &mut [u16])
     requires { length parents.old ≤ 4096 }
@@ -146,4 +136,43 @@ pub fn reset(parents: &mut [u16], sizes: &mut [u16])
 {
     tables::number_all(parents);
     sizes.fill(1);
+}
+
+impl BodySets<'_> {
+    ghost use Rattle.island_sets.specs.Kept.{Kept, Alone};
+
+    // The root of `body`, and how many links lead to it.
+    #[inline(always)]
+    pub fn root_of(&self, body: usize) -> Found
+        requires { body < length self.now.parents.now }
+        ensures { LookedUp self.now.parents.now body result }
+    {
+        root_of(self.parents, body)
+    }
+
+    // Every body alone again.
+    pub fn reset(&mut self)
+        ensures alone { Alone (length self.old.parents.now) self.new }
+        ensures same { Kept self.old self.new }
+    {
+        reset(self.parents, self.sizes);
+    }
+
+    // The sets of `left` and `right` become one: the smaller hangs under the larger, and on equal sizes the lower root stays. A set joined
+    // with itself stays as it is. Its code stands where it is called, so that no pair of bodies costs a call.
+    #[inline(always)]
+    pub fn union(&mut self, left: u16, right: u16)
+        requires { (left < length self.old.parents.now) × (right < length self.old.parents.now) }
+        ensures { Kept self.old self.new
+            × (root_of self.new.parents.now ≡ hang (length self.old.parents.now) (root_of self.old.parents.now) left right) }
+    {
+        let found_left = find(self.parents, left);
+        let found_right = find(self.parents, right);
+        let root_left = found_left.root;
+        let root_right = found_right.root;
+        if root_left == root_right {
+            return;
+        }
+        join_roots(self.parents, self.sizes, root_left, root_right);
+    }
 }

@@ -1,6 +1,6 @@
 -- One more body is not dynamic, or it is the first that is.
 use Rattle.std.proofs.Common.{refl}
-use Rattle.island_joins.proofs.Joining.{Searching, first_none, first_turns, first_found}
+use Rattle.island_joins.proofs.Joining.{first_none, first_turns, first_found}
 use Rattle.island_joins.proofs.first_dynamic.Goals as goal
 
 pub loop-place-init : goal.loop-place-init

@@ -4,4 +4,4 @@ use Rattle.island_joins.proofs.Joining.{Starring}
 use Rattle.island_joins.proofs.join_dynamics.Given as goal
 
 abbrev pub invariant-loop-other : goal.invariant-loop-other
-invariant-loop-other l = (f : FirstDynamic l.body_types l.ends l.first l.others) × Starring l.body_types l.ends l.first l.others f l.initial.parents l.parents l.sizes l.other-index
+invariant-loop-other l = (f : FirstDynamic l.body_types l.ends l.first l.others) × Starring l.body_types l.ends l.first l.others f l.initial.sets l.sets l.other-index

@@ -3,4 +3,4 @@ use Rattle.island_joins.proofs.Joining.{Joining}
 use Rattle.island_joins.proofs.join_each.Given as goal
 
 abbrev pub invariant-loop-constraint : goal.invariant-loop-constraint
-invariant-loop-constraint g l = Joining l.body_types (g.C.Constraints.left l.fn.constraints) (g.C.Constraints.left l.constraint-iterator) l.initial.parents l.initial.body_islands l.parents l.sizes l.body_islands
+invariant-loop-constraint g l = Joining l.body_types (g.C.Constraints.left l.fn.constraints) (g.C.Constraints.left l.constraint-iterator) l.initial.sets l.initial.body_islands l.sets l.body_islands

@@ -8,13 +8,15 @@ use Rattle.island_joins.proofs.join_live.Goals as goal
 pub returns-in-len2 : goal.returns-in-len2
 returns-in-len2 c =
     let a = c.args in
-    let j = c.join_dynamic in
-    subst (λ (bs : List ℕ). Joined a.body_types.now (tied true bs ∷ []) a.parents.now a.body_islands.now j.new.parents j.new.sizes c.constrain.new.body_islands)
-    (sym (two_ends a.ends.now (omega arith)))
-    (joined_live a.body_types.now (get_or a.ends.now 0 0 ∷ get_or a.ends.now 1 0 ∷ []) a.parents.now a.body_islands.now j.new.parents j.new.sizes c.constrain.new.body_islands j.ensures.0 j.ensures.1 c.constrain.ensures)
+    let j = c.join_dynamic in (
+      j.ensures.0,
+      subst (λ (bs : List ℕ). Joined a.body_types.now (tied true bs ∷ []) a.sets.now.parents.now a.body_islands.now j.new.sets.parents.now c.constrain.new.body_islands)
+          (sym (two_ends a.ends.now (omega arith)))
+          (joined_live a.body_types.now (get_or a.ends.now 0 0 ∷ get_or a.ends.now 1 0 ∷ []) a.sets.now.parents.now a.body_islands.now j.new.sets.parents.now c.constrain.new.body_islands j.ensures.1 c.constrain.ensures),
+    )
 
 pub returns-in_default : goal.returns-in_default
 returns-in_default c =
     let a = c.args in
     let j = c.join_dynamics in
-    joined_live a.body_types.now a.ends.now a.parents.now a.body_islands.now j.new.parents j.new.sizes c.constrain-in_default.new.body_islands j.ensures.0 j.ensures.1 c.constrain-in_default.ensures
+    (j.ensures.0, joined_live a.body_types.now a.ends.now a.sets.now.parents.now a.body_islands.now j.new.sets.parents.now c.constrain-in_default.new.body_islands j.ensures.1 c.constrain-in_default.ensures)

@@ -3,6 +3,7 @@ use Rattle.std.proofs.Common.{length, sym, ◌∙◌}
 use Rattle.std.proofs.Math.Bool.{and-true}
 use Rattle.frame.specs.Constraints.{lent}
 use Rattle.frame.proofs.Counted.{sound-fits}
+use Rattle.island_sets.proofs.Keeps.{kept_here}
 use Rattle.island_joins.proofs.Joining.{joined_dead}
 use Rattle.island_joins.proofs.join_one.Goals as goal
 
@@ -10,8 +11,9 @@ pub returns-then-not-constraint : goal.returns-then-not-constraint
 returns-then-not-constraint c =
     let a = c.args in
     record {
+      kept = kept_here a.sets.now;
       answer = sym c.if-not-sound_one.false ∙ c.sound_one.ensures ∙ sym (and-true _);
-      joined = λ e. joined_dead a.body_types.now a.parents.now a.body_islands.now a.constraint.live a.constraint.ends.now a.sizes.now c.requires.sets c.if-not-constraint.true;
+      joined = λ e. joined_dead a.body_types.now a.sets.now.parents.now a.body_islands.now a.constraint.live a.constraint.ends.now c.if-not-constraint.true;
     }
 
 pub join_live-requires : goal.join_live-requires
@@ -22,6 +24,7 @@ join_live-requires c =
 pub returns : goal.returns
 returns c =
     record {
+      kept = c.join_live.ensures.0;
       answer = sym c.if-not-sound_one.false ∙ c.sound_one.ensures ∙ sym (and-true _);
-      joined = λ e. rw c.if-not-constraint.false c.join_live.ensures;
+      joined = λ e. rw c.if-not-constraint.false c.join_live.ensures.1;
     }

@@ -18,22 +18,23 @@ loop-body-init c =
     let p = c.args.parents.now in
     let b = c.args.start in
     let f = first p b c.args.root c.requires in
-    way_start (set p b c.args.root) c.args.root (get_or p b 0) (omega (arith, f.long, read_inside p c.requires.0 b c.requires.1))
-    (c.requires.2 ∙ sym (read_root p c.requires.0 b c.requires.1) ∙ ap (λ (g : ℕ → ℕ). g (get_or p b 0)) (sym f.roots))
+    rw (c.from.ensures, c.from-2.ensures) (way_start (set p b c.args.root) c.args.root (get_or p b 0) (omega (arith, f.long, read_inside p c.requires.0 b c.requires.1))
+    (c.requires.2 ∙ sym (read_root p c.requires.0 b c.requires.1) ∙ ap (λ (g : ℕ → ℕ). g (get_or p b 0)) (sym f.roots)))
 
 pub loop-body-smaller : goal.loop-body-smaller
 loop-body-smaller c =
     let a = c.args in
     let l = c.loop-body in
-    omega (arith, way_less (set a.parents.now a.start a.root) (balanced a.parents.now a.start a.root c.requires) a.root l.parents l.body l.invariant c.loop-body-test.true)
+    let less = way_less (set a.parents.now a.start a.root) (balanced a.parents.now a.start a.root c.requires) a.root l.parents l.body (rw c.from-2.ensures at l.invariant) c.loop-body-test.true in
+    rw (c.from-2.ensures, c.from-in-loop-body.ensures) (omega (arith, less))
 
 pub loop-body-preserved : goal.loop-body-preserved
 loop-body-preserved c =
     let a = c.args in
     let l = c.loop-body in
-    way_on (set a.parents.now a.start a.root) (balanced a.parents.now a.start a.root c.requires) a.root l.parents l.body l.invariant c.loop-body-test.true
+    rw (c.from-2.ensures, c.from-in-loop-body.ensures, c.from-in-loop-body-2.ensures) (way_on (set a.parents.now a.start a.root) (balanced a.parents.now a.start a.root c.requires) a.root l.parents l.body (rw c.from-2.ensures at l.invariant) c.loop-body-test.true)
 
 pub returns : goal.returns
 returns c =
     let a = c.args in
-    shortened_then a.parents.now (set a.parents.now a.start a.root) c.loop-body.parents (first a.parents.now a.start a.root c.requires) c.loop-body.invariant.short
+    shortened_then a.parents.now (set a.parents.now a.start a.root) c.loop-body.parents (first a.parents.now a.start a.root c.requires) (rw c.from-2.ensures at c.loop-body.invariant).short
