@@ -11,6 +11,7 @@ use colored_bodies::multi::TakenAt;
 use frame::Refusal;
 use frame::refusal::refusal_number;
 use std::array;
+use tables::entry_or;
 
 // Where the part of a group starts, if it is not empty.
 pub fn part_start(offsets: &[u16], group: usize, size: usize) -> usize
@@ -19,17 +20,7 @@ pub fn part_start(offsets: &[u16], group: usize, size: usize) -> usize
     if size == 0 {
         return 0;
     }
-    if offsets.len() <= group {
-        return 0;
-    }
-    usize::from(offsets[group])
-}
-
-// A position that was handed back, 0 past the last.
-fn place_at(places: &[u16], place: usize) -> u16
-    ensures { result ≡ get_or places.now place 0 }
-{
-    places.get(place).copied().unwrap_or(0)
+    usize::from(entry_or(offsets, group, 0))
 }
 
 // The answer of a lookup of positions as numbers, in so many places: those past the last position are 0, and all are where it is refused.
@@ -37,7 +28,7 @@ pub fn locate<const N: usize>(answer: Result<&[u16], Refusal>, places: &mut [u16
     ensures { (result ≡ refused_by answer.entry) × (places.new ≡ placed N (positions_values answer.entry)) }
 {
     let found = answer.unwrap_or(&[]);
-    *places = array::from_fn(|place| place_at(found, place));
+    *places = array::from_fn(|place| entry_or(found, place, 0));
     refusal_number(&answer)
 }
 

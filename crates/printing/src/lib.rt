@@ -3,7 +3,7 @@
 // are left than a line may have, nothing is written.
 #![tactic(auto)]
 
-ghost use Rattle.std.specs.Prelude.{◌≡◌, ◌∷◌, [], ◌+◌, ◌-◌, ◌*◌, ◌≤◌, ◌<◌, true, leb, length, get_or, map};
+ghost use Rattle.std.specs.Prelude.{◌≡◌, ◌∷◌, [], ◌+◌, ◌-◌, ◌*◌, ◌≤◌, ◌<◌, true, leb, length, map};
 ghost use Rattle.frame.specs.Files.{count_m, count_j, second, halves_from};
 ghost use Rattle.schedules.specs.Print.{decimal, line, head_of, turn_line, refusal_line};
 ghost use Rattle.print_fields.specs.Puts.{if_left, if_room};
@@ -13,6 +13,7 @@ ghost use Rattle.writer.specs.Wrote.{Wrote, SameBytes};
 
 use frame::Frame;
 use print_fields::{put_field, put_number};
+use tables::entry_or;
 use turn_table::Turn;
 use writer::Writer;
 
@@ -98,13 +99,6 @@ pub fn put_refusal(out: &mut Writer<'_>, number: usize)
     put_field(out, b"refused", number, b'\n');
 }
 
-// The place in a table of places, 0 behind its end.
-fn place_at(places: &[u16], i: usize) -> usize
-    ensures { (result ≡ get_or places.now i 0) × (result < 65536) }
-{
-    usize::from(places.get(i).copied().unwrap_or(0))
-}
-
 // A count of endpoints as it is from 2 to 4, else one of these.
 fn two_to_four(count: usize) -> usize
     ensures few { (2 ≤ result) × (result ≤ 4) }
@@ -124,7 +118,7 @@ fn ends_of(frame: PrintedFrame<'_>, constraint: usize) -> Ends
     if frame::is_second(frame.bytes) {
         let manifolds = frame::half_or_zero(frame.bytes, 7);
         if manifolds <= constraint {
-            let place = place_at(frame.places, constraint - manifolds);
+            let place = usize::from(entry_or(frame.places, constraint - manifolds, 0));
             return Ends {
                 at: place + 2,
                 count: two_to_four(frame::byte_or_zero(frame.bytes, place + 1)),

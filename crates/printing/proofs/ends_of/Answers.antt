@@ -14,12 +14,13 @@ returns-then-manifolds-constraint-clause-there c =
     let m = c.half_or_zero-manifolds in
     let v : second bs ≡ true = sym c.is_second.ensures ∙ c.if-is_second.true in
     let place = get_or a.frame.places.now (a.constraint - m.result) 0 in
+    let place_is : c.from-place.result ≡ place = c.from-place.ensures ∙ c.entry_or.ensures in
     let e = place_stands bs a.constraint a.frame.places.now (placed v) here v (omega (arith, m.ensures.0, c.if-manifolds-constraint.true)) in
     let stands : EndsStand bs a.constraint (record { at = place + 2; count = count_at bs place }) = rw (← m.ensures.0) at e in
     let b = c.byte_or_zero in
-    let b_is : b.result ≡ count_at bs place = b.ensures.0 ∙ ap (λ (s : ℕ). byte bs (s + 1)) c.place_at-place.ensures.0 in
+    let b_is : b.result ≡ count_at bs place = b.ensures.0 ∙ ap (λ (s : ℕ). byte bs (s + 1)) place_is in
     let count_is : c.two_to_four.result ≡ count_at bs place = c.two_to_four.ensures.kept (omega (arith, b_is, stands.least)) (omega (arith, b_is, stands.most)) ∙ b_is in
-    rw (c.place_at-place.ensures.0, count_is) stands
+    rw (place_is, count_is) stands
 
 pub returns-clause-there : goal.returns-clause-there
 returns-clause-there c =
