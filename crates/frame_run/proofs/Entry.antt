@@ -305,8 +305,6 @@ module _ (bs : List ℕ) (l : Lent) where
     counts_cut : (x : List ℕ) → counted ≤ length x → length (take counted x) ≡ length (all_counts bs)
     counts_cut x h = length-take-le counted x h ∙ s.counted
 
-    }
-
     pub cut_roomy : RoomySized bs l.islands l.turns (take (2 * a.manifolds + a.joint_ends) l.island_pairs) (take counted l.island_counts) (take (a.manifolds + a.joints) l.numbers) l.plan (take counted l.plan_counts)
     cut_roomy =
         spacious bs l s.file s.room _ _ _ _
