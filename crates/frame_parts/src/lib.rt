@@ -70,7 +70,11 @@ pub fn degree_of(built: Result<u16, Refusal>, lists: Lists<'_>, on_bodies: &mut 
 }
 
 // The labels of so many manifolds and joints.
-pub fn labels_in<'a>(tables: &'a IslandTables<'_>, manifolds: usize, joints: usize) -> IslandLabels<'a>
+pub fn labels_in<'a>(
+    tables: &'a IslandTables<'_>,
+    manifolds: usize,
+    joints: usize,
+) -> IslandLabels<'a>
     requires { (manifolds ≤ length tables.now.manifold_islands.now) × (joints ≤ length tables.now.joint_islands.now) }
     ensures { labels_of result ≡ take manifolds tables.now.manifold_islands.now ++ take joints tables.now.joint_islands.now }
 {

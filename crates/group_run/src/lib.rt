@@ -10,9 +10,8 @@ ghost use Rattle.group_run.specs.Appends.{added_by, marks_of, SameLent, pair_tak
 
 use colored_bodies::{BoundMarks, Marked};
 use frame::{Frame, Refusal};
-use turn_table::{Turn, TurnTable};
-
 pub use planned::PlannedIsland;
+use turn_table::{Turn, TurnTable};
 
 mod planned;
 
@@ -27,7 +26,10 @@ fn pair_taken(marked: Marked) -> usize
 fn counted_taken(dynamic: [bool; Frame::MAX_ENDS]) -> usize
     ensures { Ok result ≡ counted_taken (Ok dynamic) }
 {
-    usize::from(dynamic[0]) + usize::from(dynamic[1]) + usize::from(dynamic[2]) + usize::from(dynamic[3])
+    usize::from(dynamic[0])
+        + usize::from(dynamic[1])
+        + usize::from(dynamic[2])
+        + usize::from(dynamic[3])
 }
 
 // A take of a pair: its plan's lookup is asked for its two positions.
@@ -154,13 +156,6 @@ pub fn run_groups(planned: PlannedIsland<'_>, turns: &mut TurnTable<'_>)
     for group in 0..planned.plan.color_count {
         let bodies = planned.bodies_of(group);
         let members = planned.members_of(group);
-        run_group(
-            planned,
-            group as u16,
-            bodies,
-            members,
-            &mut marks,
-            turns,
-        );
+        run_group(planned, group as u16, bodies, members, &mut marks, turns);
     }
 }

@@ -10,11 +10,10 @@ ghost use Rattle.island_numbers.specs.Tables.{labels_of};
 ghost use Rattle.island_run.specs.Islands.{Prepared};
 ghost use Rattle.island_run.specs.Views.{calls_of_frame};
 
+pub use filled::FilledFrame;
 use one_island::Island;
 use plan_questions::PlanTables;
 use turn_table::{Tally, TurnTable};
-
-pub use filled::FilledFrame;
 
 mod filled;
 

@@ -11,11 +11,10 @@ ghost use Rattle.one_island.specs.Views.{calls_for, planned_calls, Boundable, Pl
 
 use constraint_coloring::ConstraintColoring;
 use group_run::PlannedIsland;
+pub use lent::Island;
 use multi_coloring::MultiColoring;
 use plan_questions::PlanTables;
 use turn_table::TurnTable;
-
-pub use lent::Island;
 
 mod lent;
 
