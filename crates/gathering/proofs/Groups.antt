@@ -119,7 +119,6 @@ module _ {nb n : ℕ} {cs : List (List ℕ)} {colors color_offsets constraints s
               };
               room = omega (arith, v.counted, v.bodies_size, starts-few cs colors nb color, before-suc cs colors color, before-few cs colors size (suc color), p.room);
             };
-            few = omega (arith, v.st_size, p.few_bodies);
             fresh = λ b. omega (arith, v.low b);
           })
 

@@ -5,3 +5,4 @@ pub mod Notes
 pub mod Collects
 pub mod Arranges
 pub mod Groups
+pub mod Gatherers

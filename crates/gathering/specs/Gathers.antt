@@ -44,7 +44,6 @@ pub record Noted (stamp : ℕ) (bs : List ℕ) (start : ℕ) (st bodies st' bodi
 -- one group's bodies can be listed: no body has its stamp
 pub record Fresh (bs : List ℕ) (stamp : ℕ) (st bodies : List ℕ) (start : ℕ) : Type 0 where
   pub notable : Notable bs st bodies start
-  pub few : length st ≤ 4096
   pub fresh : (b : ℕ) → get_or st b 0 < stamp
 
 -- they are listed from place `start` to `end`, the other places are kept, and no stamp is above the group's

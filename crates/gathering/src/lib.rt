@@ -2,10 +2,11 @@
 // color plus 1, so that it is listed once.
 #![tactic(auto)]
 
-ghost use Rattle.std.specs.Prelude.{◌≡◌, [], ◌∷◌, ◌≤◌, ◌<◌, length};
+ghost use Rattle.std.specs.Prelude.{◌≡◌, [], ◌∷◌, ◌++◌, ◌-◌, ◌≤◌, ◌<◌, length, take, drop};
+ghost use Rattle.lists.specs.Basics.{sorted};
 ghost use Rattle.parts.specs.Parts.{parts_at};
 ghost use Rattle.parts.specs.MemberEnds.{ends_of};
-ghost use Rattle.gathering.specs.Gathers.{stamped, Stampable, Counted, Notable, Noted, Fresh, Listed, Gatherable, Gathered};
+ghost use Rattle.gathering.specs.Gathers.{stamped, Stampable, Counted, Gatherable, Gathered};
 
 use parts::{Ends, Grouped, Members};
 
@@ -67,126 +68,122 @@ fn collect(body_stamps: &[u16], stamp: u16, part: &mut [u16])
     }
 }
 
-// The bodies of a group with many constraints, from place `start` on; answers where they end.
-#[inline(always)]
-fn list_many(
-    members: Members<'_>,
-    stamp: u16,
-    body_stamps: &mut [u16],
-    color_bodies: &mut [u16],
-    start: usize,
-) -> usize
-    requires fresh { Fresh (ends_of members) stamp body_stamps.old color_bodies.old start }
-    ensures { Listed (ends_of members.entry) stamp body_stamps.new color_bodies.old color_bodies.new start result }
-{
-    let count = stamp_members(members, stamp, body_stamps);
-    let end = start + count;
-    collect(body_stamps, stamp, &mut color_bodies[start..end]);
-    end
-}
-
-// A body with another stamp gets this one and is appended.
-fn note(
-    body: u16,
-    stamp: u16,
-    body_stamps: &mut [u16],
-    color_bodies: &mut [u16],
+// What the listing of the groups' bodies writes: the stamps, and the bodies up to place `end`. The scratch is free.
+#[derive(Drop)]
+struct Gatherer<'a> {
+    body_stamps: &'a mut [u16],
+    color_bodies: &'a mut [u16],
+    scratch_offsets: &'a mut [u16],
     end: usize,
-) -> usize
-    requires { (body < length body_stamps.old) × (end < length color_bodies.old) }
-    ensures { Noted stamp (body ∷ []) end body_stamps.old color_bodies.old body_stamps.new color_bodies.new result }
-{
-    if stamp_body(body, stamp, body_stamps) == 0 {
-        return end;
-    }
-    color_bodies[end] = body;
-    end + 1
+    ghost few: { length body_stamps.now ≤ 4096 },
+    ghost room: { length body_stamps.now ≤ length scratch_offsets.now },
 }
 
-// The bodies of a constraint, as they come.
-fn note_part(
-    bodies: &[u16],
-    stamp: u16,
+// The stamped bodies, into the places from `start` to `end`. The stamps are kept; they are lent as they stand beside the bodies.
+fn collect_part(
     body_stamps: &mut [u16],
+    stamp: u16,
     color_bodies: &mut [u16],
     start: usize,
-) -> usize
-    requires { Notable bodies.now body_stamps.old color_bodies.old start }
-    ensures { Noted stamp bodies.now start body_stamps.old color_bodies.old body_stamps.new color_bodies.new result }
+    end: usize,
+)
+    requires inside { (start ≤ end) × (end ≤ length color_bodies.old) }
+    requires few { (length body_stamps.old ≤ 4096) × (length (take (end - start) (drop start color_bodies.old)) ≡ length (stamped stamp body_stamps.old)) }
+    ensures kept { body_stamps.new ≡ body_stamps.old }
+    ensures collected { color_bodies.new ≡ take start color_bodies.old ++ (stamped stamp body_stamps.old ++ drop (end - start) (drop start color_bodies.old)) }
 {
-    let mut end = start;
-    // The bodies passed are noted, up to place `end`.
-    for &body in bodies {
-        end = note(body, stamp, body_stamps, color_bodies, end);
-    }
-    end
+    collect(body_stamps, stamp, &mut color_bodies[start..end]);
 }
 
-// The bodies of a group's constraints, as they come.
-#[inline(always)]
-fn note_members(
-    members: Members<'_>,
-    stamp: u16,
-    body_stamps: &mut [u16],
-    color_bodies: &mut [u16],
-    start: usize,
-) -> usize
-    requires notable { Notable (ends_of members) body_stamps.old color_bodies.old start }
-    ensures { Noted stamp (ends_of members.entry) start body_stamps.old color_bodies.old body_stamps.new color_bodies.new result }
+// The places from `start` to `end` in rising order.
+fn sort_part(color_bodies: &mut [u16], scratch_offsets: &mut [u16], start: usize, end: usize)
+    requires inside { (start ≤ end) × (end ≤ length color_bodies.old) }
+    requires room { length (take (end - start) (drop start color_bodies.old)) ≤ length scratch_offsets.old }
+    ensures { color_bodies.new ≡ take start color_bodies.old ++ (sorted (take (end - start) (drop start color_bodies.old)) ++ drop (end - start) (drop start color_bodies.old)) }
 {
-    let mut end = start;
-    // The bodies of the members passed are noted, up to place `end`.
-    for &member in members.numbers {
-        let bodies = members.ends.part(usize::from(member));
-        end = note_part(bodies, stamp, body_stamps, color_bodies, end);
-    }
-    end
-}
-
-// The bodies of a group with few constraints, from place `start` on; answers where they end.
-#[inline(always)]
-fn list_few(
-    members: Members<'_>,
-    stamp: u16,
-    body_stamps: &mut [u16],
-    scratch_offsets: &mut [u16],
-    color_bodies: &mut [u16],
-    start: usize,
-) -> usize
-    requires fresh { Fresh (ends_of members) stamp body_stamps.old color_bodies.old start }
-    requires body_stamps_in_bounds { length body_stamps.old ≤ length scratch_offsets.old }
-    ensures { Listed (ends_of members.entry) stamp body_stamps.new color_bodies.old color_bodies.new start result }
-{
-    let end = note_members(members, stamp, body_stamps, color_bodies, start);
     ordering::sort(&mut color_bodies[start..end], scratch_offsets);
-    end
 }
 
-// The bodies of any group, from place `start` on; answers where they end.
-#[inline(always)]
-fn list_bodies(
-    members: Members<'_>,
-    stamp: u16,
-    body_stamps: &mut [u16],
-    scratch_offsets: &mut [u16],
-    color_bodies: &mut [u16],
-    start: usize,
-) -> usize
-    requires fresh { Fresh (ends_of members) stamp body_stamps.old color_bodies.old start }
-    requires body_stamps_in_bounds { length body_stamps.old ≤ length scratch_offsets.old }
-    ensures { Listed (ends_of members.entry) stamp body_stamps.new color_bodies.old color_bodies.new start result }
-{
-    if members.numbers.len() >= body_stamps.len() / BODIES_PER_CONSTRAINT {
-        return list_many(members, stamp, body_stamps, color_bodies, start);
+impl<'a> Gatherer<'a> {
+    ghost use Rattle.gathering.specs.Gatherers.{NotableIn, NotedIn, FreshIn, ListedIn, SameGatherer};
+
+    // A body with another stamp gets this one and is appended.
+    fn note(&mut self, body: u16, stamp: u16)
+        requires { (body < length self.old.body_stamps.now) × (self.old.end < length self.old.color_bodies.now) }
+        ensures noted { NotedIn stamp (body ∷ []) self.old self.new }
+        ensures same { SameGatherer self.old self.new }
+    {
+        if stamp_body(body, stamp, self.body_stamps) == 0 {
+            return;
+        }
+        self.color_bodies[self.end] = body;
+        self.end += 1;
     }
-    list_few(
-        members,
-        stamp,
-        body_stamps,
-        scratch_offsets,
-        color_bodies,
-        start,
-    )
+
+    // The bodies of a constraint, as they come.
+    fn note_part(&mut self, bodies: &[u16], stamp: u16)
+        requires { NotableIn bodies.now self.old }
+        ensures noted { NotedIn stamp bodies.now self.old self.new }
+        ensures same { SameGatherer self.old self.new }
+    {
+        // The bodies passed are noted.
+        for &body in bodies {
+            self.note(body, stamp);
+        }
+    }
+
+    // The bodies of a group's constraints, as they come.
+    #[inline(always)]
+    fn note_members(&mut self, members: Members<'_>, stamp: u16)
+        requires { NotableIn (ends_of members) self.old }
+        ensures noted { NotedIn stamp (ends_of members.entry) self.old self.new }
+        ensures same { SameGatherer self.old self.new }
+    {
+        // The bodies of the members passed are noted.
+        for &member in members.numbers {
+            let bodies = members.ends.part(usize::from(member));
+            self.note_part(bodies, stamp);
+        }
+    }
+
+    // The bodies of a group with many constraints.
+    #[inline(always)]
+    fn list_many(&mut self, members: Members<'_>, stamp: u16)
+        requires { FreshIn (ends_of members) stamp self.old }
+        ensures listed { ListedIn (ends_of members.entry) stamp self.old self.new }
+        ensures same { SameGatherer self.old self.new }
+    {
+        let start = self.end;
+        let end = start + stamp_members(members, stamp, self.body_stamps);
+        collect_part(self.body_stamps, stamp, self.color_bodies, start, end);
+        self.end = end;
+    }
+
+    // The bodies of a group with few constraints.
+    #[inline(always)]
+    fn list_few(&mut self, members: Members<'_>, stamp: u16)
+        requires { FreshIn (ends_of members) stamp self.old }
+        ensures listed { ListedIn (ends_of members.entry) stamp self.old self.new }
+        ensures same { SameGatherer self.old self.new }
+    {
+        let start = self.end;
+        self.note_members(members, stamp);
+        sort_part(self.color_bodies, self.scratch_offsets, start, self.end);
+    }
+
+    // The bodies of any group.
+    #[inline(always)]
+    fn list_bodies(&mut self, members: Members<'_>, stamp: u16)
+        requires { FreshIn (ends_of members) stamp self.old }
+        ensures listed { ListedIn (ends_of members.entry) stamp self.old self.new }
+        ensures same { SameGatherer self.old self.new }
+    {
+        if members.numbers.len() >= self.body_stamps.len() / BODIES_PER_CONSTRAINT {
+            self.list_many(members, stamp);
+        } else {
+            self.list_few(members, stamp);
+        }
+    }
 }
 
 // The bodies of all groups, group after group, and the start of each, with the end. Stamps and scratch are free afterwards.
@@ -207,20 +204,18 @@ pub fn gather(
     ensures { Gathered body_count (parts_at (length constraint_colors.now) ends.entry.bounds.now ends.entry.endpoints.now) constraint_colors.now color_count color_body_offsets.new color_bodies.old color_bodies.new }
 {
     color_body_offsets[0] = 0;
-    let mut end = 0;
-    // The bodies of the groups below `color` are listed up to place `end`, and no stamp is above `color`.
+    let mut listing = Gatherer {
+        body_stamps,
+        color_bodies,
+        scratch_offsets,
+        end: 0,
+    };
+    // The bodies of the groups below `color` are listed, and no stamp is above `color`.
     for color in 0..color_count {
         let numbers = colored_constraints.group(color);
         let members = Members { ends, numbers };
         let stamp = (color + 1) as u16;
-        end = list_bodies(
-            members,
-            stamp,
-            body_stamps,
-            scratch_offsets,
-            color_bodies,
-            end,
-        );
-        color_body_offsets[color + 1] = end as u16;
+        listing.list_bodies(members, stamp);
+        color_body_offsets[color + 1] = listing.end as u16;
     }
 }

@@ -59,6 +59,7 @@ impl<'a> PlanTables<'a> {
     }
 
     // Whether a plan of these counts, with its tables of flags and endpoints, holds exactly this input of so many constraints.
+    #[inline(always)]
     pub fn hold(
         &self,
         body_count: usize,
