@@ -1,7 +1,7 @@
 -- `frame::decode_constraints`: the manifolds of either version, and then the joints of the file's version.
 use Rattle.std.proofs.Common.{◌+◌, ◌*◌, sym, ◌∙◌, arith}
 use Rattle.frame.proofs.Files.{file_sized}
-use Rattle.frame.proofs.Whole.{rest_part}
+use Rattle.std.proofs.lemmas.List.{take_rest}
 use Rattle.frame.proofs.Decodes.{front_long, entries-ready, pairs_ready, enabled-ready, first_decoded, second_decoded}
 use Rattle.frame.proofs.decode_constraints.Goals as goal
 
@@ -22,7 +22,7 @@ decode_pairs-requires-2 c =
 
 pub decode_enabled-requires : goal.decode_enabled-requires
 decode_enabled-requires c =
-    enabled-ready _ _ _ _ _ c.requires _ _ c.half_at-first.ensures.0 c.decode_pairs.ensures c.decode_pairs.auto.pairs (sym c.is_second.ensures ∙ c.if-is_second.false) _ (rest_part (11 + c.half_at-first.result + 4 * c.args.manifolds) c.args.bytes.now)
+    enabled-ready _ _ _ _ _ c.requires _ _ c.half_at-first.ensures.0 c.decode_pairs.ensures c.decode_pairs.auto.pairs (sym c.is_second.ensures ∙ c.if-is_second.false) _ (take_rest c.args.bytes.now (11 + c.half_at-first.result + 4 * c.args.manifolds))
 
 pub returns-then-is_second : goal.returns-then-is_second
 returns-then-is_second c =
@@ -30,4 +30,4 @@ returns-then-is_second c =
 
 pub returns : goal.returns
 returns c =
-    first_decoded _ _ _ _ _ c.requires _ _ c.half_at-first.ensures.0 c.decode_pairs.ensures c.decode_pairs.auto.pairs (sym c.is_second.ensures ∙ c.if-is_second.false) _ (rest_part (11 + c.half_at-first.result + 4 * c.args.manifolds) c.args.bytes.now) _ _ c.decode_pairs-2.ensures c.decode_enabled.ensures
+    first_decoded _ _ _ _ _ c.requires _ _ c.half_at-first.ensures.0 c.decode_pairs.ensures c.decode_pairs.auto.pairs (sym c.is_second.ensures ∙ c.if-is_second.false) _ (take_rest c.args.bytes.now (11 + c.half_at-first.result + 4 * c.args.manifolds)) _ _ c.decode_pairs-2.ensures c.decode_enabled.ensures
