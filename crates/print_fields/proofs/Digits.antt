@@ -1,6 +1,6 @@
 -- Decimal digits of a machine number: the last digit stands behind the digits of the rest, and there are at most 20.
 -- `digits d n` is the same for each d that is enough, that is, n < 10 ^ d.
-use Rattle.std.proofs.Common.{ℕ, zero, suc, ◌+◌, ◌*◌, ◌^◌, ◌/◌, ◌%◌, ◌≤◌, ◌<◌, ◌≡◌, sym, ap, ◌∙◌, List, [], ◌∷◌, ◌++◌, arith, ltb, length, length-append, lt-ltb, le-ltb, refl}
+use Rattle.std.proofs.Common.{ℕ, zero, suc, ◌+◌, ◌*◌, ◌^◌, ◌/◌, ◌%◌, ◌≤◌, ◌<◌, ◌≡◌, sym, ap, ◌∙◌, List, [], ◌∷◌, ◌++◌, arith, ltb, length, length-append, lt-ltb, le-ltb}
 use Rattle.std.specs.Fmt as std
 use Rattle.std.proofs.lemmas.Fmt.{decimal_by_steps}
 use Rattle.lists.proofs.Laws.{by_cases}
