@@ -188,8 +188,13 @@ impl MultiColoring {
     {
         let plan = self.plan;
         let count = listed.counts.len();
-        tables.hold(plan.body_count, plan.constraint_count, listed.flags, count, listed.ends)
-            && same_counts(listed.counts, &counts[..count])
+        tables.hold(
+            plan.body_count,
+            plan.constraint_count,
+            listed.flags,
+            count,
+            listed.ends,
+        ) && same_counts(listed.counts, &counts[..count])
     }
 
     // Questions 3 to 7; then equal input is "unchanged" and writes nothing, and other input is remembered and its plan built.
