@@ -8,6 +8,9 @@ use frame_file::Sizes;
 use records::first;
 use std::io;
 
+// So many bytes are printed one by one.
+const SHORT: usize = 99;
+
 // A sample: its name, the numbers that ask for a lift, and how many bytes are lent.
 #[derive(Clone, Copy)]
 struct Lift<'a> {
@@ -35,28 +38,28 @@ fn fnv(bytes: &[u8]) -> u32 {
     })
 }
 
-// A sample with at most 99 bytes lent.
-fn show_short(rt: &impl Print, sample: Lift<'_>) -> io::Result<()> {
-    let mut bytes = [171; 99];
-    let bytes = first(&mut bytes, sample.lent);
-    let answer = generator::generate(sample.seed, sample.sizes, bytes);
-    print_answer(rt, sample.name, answer)?;
+// All lent bytes in hexadecimal, or, of more than `SHORT`, their sum and their hash.
+fn print_bytes(rt: &impl Print, bytes: &[u8]) -> io::Result<()> {
+    if SHORT < bytes.len() {
+        return print!(rt; " sum {} fnv {}", sum(bytes), fnv(bytes));
+    }
     if !bytes.is_empty() {
         print!(rt; " ")?;
     }
     for byte in bytes {
         print!(rt; "{byte:02x}")?;
     }
-    println!(rt; "")
+    Ok(())
 }
 
-// A sample with at most as many bytes lent as the largest frame has.
-fn show_long(rt: &impl Print, sample: Lift<'_>) -> io::Result<()> {
+// The line of a sample.
+fn show(rt: &impl Print, sample: Lift<'_>) -> io::Result<()> {
     let mut bytes = [171; generator::MAX_BYTES];
     let bytes = first(&mut bytes, sample.lent);
     let answer = generator::generate(sample.seed, sample.sizes, bytes);
     print_answer(rt, sample.name, answer)?;
-    println!(rt; " sum {} fnv {}", sum(bytes), fnv(bytes))
+    print_bytes(rt, bytes)?;
+    println!(rt; "")
 }
 
 fn sample<'a>(
@@ -81,19 +84,19 @@ fn sample<'a>(
 }
 
 fn main(rt: HostRuntime) -> io::Result<()> {
-    show_short(&rt, sample("S1", 0, 2, 1, 1, 22))?;
-    show_short(&rt, sample("S2", 0, 3, 2, 1, 27))?;
-    show_short(&rt, sample("S3", 1, 3, 2, 1, 27))?;
-    show_short(&rt, sample("S4", 4294967295, 2, 0, 2, 23))?;
-    show_short(&rt, sample("S5", 0, 0, 0, 0, 11))?;
-    show_short(&rt, sample("S6", 5, 1, 0, 0, 12))?;
-    show_short(&rt, sample("S7", 0, 0, 1, 0, 0))?;
-    show_short(&rt, sample("S8", 0, 1, 0, 1, 99))?;
-    show_short(&rt, sample("S9", 0, 4097, 1, 0, 0))?;
-    show_short(&rt, sample("S9b", 1, 0, 4097, 0, 0))?;
-    show_short(&rt, sample("S10", 0, 2, 0, 0, 12))?;
-    show_short(&rt, sample("S11", 0, 4, 0, 0, 20))?;
-    show_long(&rt, sample("S12", 0, 4096, 4096, 0, 20491))?;
-    show_long(&rt, sample("S13", 99, 4096, 4096, 0, 20491))?;
-    show_long(&rt, sample("S14", 7, 4096, 4096, 4096, 40971))
+    show(&rt, sample("S1", 0, 2, 1, 1, 22))?;
+    show(&rt, sample("S2", 0, 3, 2, 1, 27))?;
+    show(&rt, sample("S3", 1, 3, 2, 1, 27))?;
+    show(&rt, sample("S4", 4294967295, 2, 0, 2, 23))?;
+    show(&rt, sample("S5", 0, 0, 0, 0, 11))?;
+    show(&rt, sample("S6", 5, 1, 0, 0, 12))?;
+    show(&rt, sample("S7", 0, 0, 1, 0, 0))?;
+    show(&rt, sample("S8", 0, 1, 0, 1, 99))?;
+    show(&rt, sample("S9", 0, 4097, 1, 0, 0))?;
+    show(&rt, sample("S9b", 1, 0, 4097, 0, 0))?;
+    show(&rt, sample("S10", 0, 2, 0, 0, 12))?;
+    show(&rt, sample("S11", 0, 4, 0, 0, 20))?;
+    show(&rt, sample("S12", 0, 4096, 4096, 0, 20491))?;
+    show(&rt, sample("S13", 99, 4096, 4096, 0, 20491))?;
+    show(&rt, sample("S14", 7, 4096, 4096, 4096, 40971))
 }
