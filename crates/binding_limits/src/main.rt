@@ -35,7 +35,7 @@ fn print_take(rt: &impl Print, take: Take) -> io::Result<()> {
             let second_mark = u8::from(taken.second_dynamic);
             println!(rt; " 0 {first} {first_mark} {second} {second_mark}")
         }
-        Err(refusal) => println!(rt; " {}", refusal.number()),
+        Err(refusal) => println!(rt; " {refusal}"),
     }
 }
 

@@ -30,7 +30,7 @@ fn print_positions(rt: &impl Print, answer: Result<&[u16], Refusal>) -> io::Resu
     print!(rt; " |")?;
     match answer {
         Ok(places) => print_numbers(rt, places),
-        Err(refusal) => print!(rt; " refused {}", refusal.number()),
+        Err(refusal) => print!(rt; " refused {refusal}"),
     }
 }
 

@@ -21,7 +21,7 @@ fn print_answer<P: Copy, D: fmt::Display + Drop>(
     match answer {
         Update::Changed(_) => print!(rt; "{changed}"),
         Update::Unchanged => print!(rt; "unchanged"),
-        Update::Refused(refusal) => print!(rt; "refused {}", refusal.number()),
+        Update::Refused(refusal) => print!(rt; "refused {refusal}"),
     }
 }
 

@@ -80,7 +80,7 @@ where
     print!(rt; "{name}")?;
     match answer {
         Ok(islands) => print_islands(rt, islands, &tables)?,
-        Err(refusal) => print!(rt; " refused {}", refusal.number())?,
+        Err(refusal) => print!(rt; " refused {refusal}")?,
     }
     println!(rt; "")
 }

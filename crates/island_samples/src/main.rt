@@ -123,7 +123,7 @@ fn put_answer(
             put_sets(rt, bodies, tables.parents, tables.sizes)
         }
         Err(refusal) => {
-            print!(rt; " refused {}", refusal.number())?;
+            print!(rt; " refused {refusal}")?;
             put_values(rt, "parents", bodies, tables.parents)?;
             put_values(rt, "sizes", bodies, tables.sizes)
         }
