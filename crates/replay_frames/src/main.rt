@@ -67,8 +67,7 @@ fn answer(question: &[u8], counts: &mut Counts) -> Answer {
     counts.add(ran.is_err());
     let mut out = Writer::new();
     out.byte(refusal_number(&ran));
-    let report = ran.unwrap_or_default();
-    for number in [report.islands, report.turns, report.takes, report.degree] {
+    for number in <[usize; 4]>::from(ran.unwrap_or_default()) {
         out.half((number % 65536) as u16);
     }
     out.halves(turns);

@@ -2,6 +2,8 @@
 // of the frame run.
 #![tactic(auto)]
 
+mod numbers;
+
 ghost use Rattle.std.specs.Prelude.{◌≤◌, ◌≡◌};
 ghost use Rattle.run_answer.specs.Answers.{Asks, AnswerOf};
 ghost use Rattle.run_answer.specs.Lent.{lent_in, entries_for, counts_room, roomy_for};
