@@ -17,7 +17,7 @@ fn put_refusal(out: &mut [u8; MAX_BYTES], refusal: Refusal) -> usize
     ensures { Printed (refusal_line (number_of refusal)) out.old out.new result }
 {
     let mut text = Writer { out, at: 0 };
-    printing::put_refusal(&mut text, refusal.number() as usize);
+    printing::put_refusal(&mut text, usize::from(refusal.number()));
     text.at
 }
 

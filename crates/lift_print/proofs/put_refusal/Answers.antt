@@ -10,5 +10,5 @@ pub returns : goal.returns
 returns c =
     let p = c.put_refusal in
     let kept = p.ensures.kept in
-    let line = line_printed _ _ p.new.out refl c.told-out (rw c.number.ensures at p.ensures) in
+    let line = line_printed _ _ p.new.out refl c.told-out (rw (c.from.ensures, c.number.ensures) at p.ensures) in
     subst (λ (o : List ℕ). Printed (refusal_line (number_of c.args.refusal)) c.args.out.now o p.new.out.at) (grind (arith, kept)) line
