@@ -102,12 +102,6 @@ pub extern "C" fn engkarupi_run(
         &mut plan,
         plan_counts,
     );
-    let carried = answer.unwrap_or_default();
-    *report = [
-        carried.islands,
-        carried.turns,
-        carried.takes,
-        carried.degree,
-    ];
+    *report = answer.unwrap_or_default().into();
     refusal_number(&answer)
 }
