@@ -1,6 +1,6 @@
 -- The joints of a version 2 file, entry after entry. An entry that passes lies inside the file and has a count of two to four; a walk that
 -- passes gives this of each entry in turn, and what a loop has found so far and the places still to come make up the whole.
-use Rattle.std.proofs.Common.{ℕ, zero, suc, ◌+◌, ◌-◌, ◌*◌, ◌≤◌, ◌<◌, ◌≡◌, refl, sym, ap, ◌∙◌, Bool, true, false, cond, List, [], ◌∷◌, ◌++◌, map, append_assoc, arith, leb, eqb, length, get_or, take, drop, set, length-append, length-drop, length-take-le, take_at, drop_at, leb-true, leb-false, le-leb, eq-eqb, ne_eqb, eqb-true}
+use Rattle.std.proofs.Common.{ℕ, zero, suc, ◌+◌, ◌-◌, ◌*◌, ◌≤◌, ◌<◌, ◌≡◌, refl, sym, ap, ◌∙◌, Bool, true, false, cond, List, [], ◌∷◌, ◌++◌, map, append_assoc, arith, leb, eqb, length, get_or, take, drop, set, length-append, length-drop, length-take-le, take_at, drop_at, leb-true, le-leb, eq-eqb, ne_eqb, eqb-true}
 use Rattle.std.proofs.Math.ListN.{length-map}
 use borrow.Rule.Slice.PartMut.{post_of, put_mid, same_len_mid}
 use Rattle.std.proofs.lemmas.Bool.{lt-leb}
@@ -111,7 +111,7 @@ module _ (bs : List ℕ) where
 
   -- one whose first entry does not lie inside the file gets a "no"
   pub walk_outside : (s n : ℕ) → 0 < n → length bs < entry_end bs s → 1 ≤ entries_refusal bs s n
-  walk_outside s n h l = by_cases (leb 1 (entries_refusal bs s n)) (λ t. leb-true 1 (entries_refusal bs s n) t) (λ t. let w = walk_whole s n h (omega (arith, leb-false 1 (entries_refusal bs s n) t)) in absurd (omega (arith, w.ended)))
+  walk_outside s n h l = walk_cases (λ k. (k ≡ 0 → ⊥) → 1 ≤ k) (λ z. absurd (z refl)) (λ z. omega arith) (λ z. omega arith) s n (λ e. let w = walk_whole s n h e in omega (arith, w.ended))
 
   pub walk_begun : (s n : ℕ) → entries_refusal bs s n ≡ 0 → s ≤ length bs
   unfolding entries_refusal

@@ -88,7 +88,7 @@ pub fn sound_one(bodies: usize, constraint: Lent<'_>) -> bool
         return true;
     }
     match constraint.ends {
-        [a, b] => ((*a as usize) < bodies) & ((*b as usize) < bodies) & (*a != *b),
+        [a, b] => (usize::from(*a) < bodies) & (usize::from(*b) < bodies) & (*a != *b),
         ends => ends_fit(bodies, ends),
     }
 }

@@ -51,7 +51,6 @@ pub fn walk(bytes: &[u8], from: usize, joints: usize) -> Result<usize, Refusal>
 }
 
 // Question 5 of the enabled bytes of the `joints` entries that start at `from`.
-#[tactic(auto, using(crate::proofs::Walks::walk_outside))]
 pub fn enabled_known(bytes: &[u8], from: usize, joints: usize) -> bool
     requires { entries_refusal bytes.now from joints ≡ 0 }
     ensures { result ≡ bits (live_from bytes.now from joints) }
