@@ -53,6 +53,7 @@ fn first_dynamic<'a>(body_types: &[u8], ends: &'a [u16]) -> Option<(u16, &'a [u1
 }
 
 // The first dynamic body of a list is joined with each later dynamic one.
+#[inline(always)]
 fn join_dynamics(body_types: &[u8], sets: &mut BodySets<'_>, ends: &[u16])
     requires { (length sets.old.parents.now ≡ length body_types.now)
         × (all (λ b. ltb b (length body_types.now)) ends.now ≡ true) }
@@ -127,7 +128,9 @@ fn join_one(
     true
 }
 
-// Every constraint, up to the first that does not pass question 7.
+// Every constraint, up to the first that does not pass question 7. Its code stands where the sets are made, as that of all that it calls does, so
+// that the addresses of their tables stay in registers.
+#[inline(always)]
 fn join_each<'a, C: Constraints<'a>>(
     body_types: &[u8],
     mut constraints: C,
