@@ -84,12 +84,7 @@ fn constrain(body_islands: &mut [u16], ends: &[u16])
 // The dynamic bodies of a live constraint are joined, and all its bodies constrained. Most constraints are pairs: their two bodies need no
 // search, and are read before anything is written, so that they are not read again.
 #[inline(always)]
-fn join_live(
-    body_types: &[u8],
-    ends: &[u16],
-    sets: &mut BodySets<'_>,
-    body_islands: &mut [u16],
-)
+fn join_live(body_types: &[u8], ends: &[u16], sets: &mut BodySets<'_>, body_islands: &mut [u16])
     requires { Fit body_types.now sets.old body_islands.old × (all (λ b. ltb b (length body_types.now)) ends.now ≡ true) }
     ensures { Kept sets.old sets.new
         × Joined body_types.now (record { ends = ends.now; live = true } ∷ []) sets.old.parents.now body_islands.old sets.new.parents.now body_islands.new }
@@ -163,18 +158,12 @@ fn join_joints(
 {
     match joints {
         Joints::Paired(pairs) => join_each(body_types, pairs, sets, body_islands),
-        Joints::WithCounts(counted) => {
-            join_each(body_types, counted, sets, body_islands)
-        }
+        Joints::WithCounts(counted) => join_each(body_types, counted, sets, body_islands),
     }
 }
 
 // Every constraint of a frame.
-pub fn join_frame(
-    lists: AskedLists<'_>,
-    sets: &mut BodySets<'_>,
-    body_islands: &mut [u16],
-) -> bool
+pub fn join_frame(lists: AskedLists<'_>, sets: &mut BodySets<'_>, body_islands: &mut [u16]) -> bool
     requires { Fit lists.types.now sets.old body_islands.old }
     ensures joined { JoinedOrRefused lists.entry.types.now (constraints (frame_asked lists.entry))
         sets.old body_islands.old sets.new body_islands.new result }
