@@ -85,13 +85,7 @@ fn build_sized(
         joint_islands.fill(NONE);
         return Err(Refusal::Endpoints);
     }
-    Ok(label_frame(
-        lists,
-        &sets,
-        body_islands,
-        manifold_islands,
-        joint_islands,
-    ))
+    Ok(label_frame(lists, &sets, body_islands, manifold_islands, joint_islands))
 }
 
 // A frame of so many joints that passed questions 3 to 6, on the first places of its tables.

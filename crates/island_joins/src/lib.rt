@@ -53,6 +53,7 @@ fn first_dynamic<'a>(body_types: &[u8], ends: &'a [u16]) -> Option<(u16, &'a [u1
 }
 
 // The first dynamic body of a list is joined with each later dynamic one.
+#[inline(always)]
 fn join_dynamics(body_types: &[u8], sets: &mut BodySets<'_>, ends: &[u16])
     requires { (length sets.old.parents.now ≡ length body_types.now)
         × (all (λ b. ltb b (length body_types.now)) ends.now ≡ true) }
@@ -83,12 +84,7 @@ fn constrain(body_islands: &mut [u16], ends: &[u16])
 // The dynamic bodies of a live constraint are joined, and all its bodies constrained. Most constraints are pairs: their two bodies need no
 // search, and are read before anything is written, so that they are not read again.
 #[inline(always)]
-fn join_live(
-    body_types: &[u8],
-    ends: &[u16],
-    sets: &mut BodySets<'_>,
-    body_islands: &mut [u16],
-)
+fn join_live(body_types: &[u8], ends: &[u16], sets: &mut BodySets<'_>, body_islands: &mut [u16])
     requires { Fit body_types.now sets.old body_islands.old × (all (λ b. ltb b (length body_types.now)) ends.now ≡ true) }
     ensures { Kept sets.old sets.new
         × Joined body_types.now (record { ends = ends.now; live = true } ∷ []) sets.old.parents.now body_islands.old sets.new.parents.now body_islands.new }
@@ -127,7 +123,9 @@ fn join_one(
     true
 }
 
-// Every constraint, up to the first that does not pass question 7.
+// Every constraint, up to the first that does not pass question 7. Its code stands where the sets are made, as that of all that it calls does, so
+// that the addresses of their tables stay in registers.
+#[inline(always)]
 #[tactic(auto, using(crate::proofs::Joining::joining_starts, crate::proofs::Joining::joining_turns))]
 fn join_each<'a, C: Constraints<'a>>(
     body_types: &[u8],
@@ -161,18 +159,12 @@ fn join_joints(
 {
     match joints {
         Joints::Paired(pairs) => join_each(body_types, pairs, sets, body_islands),
-        Joints::WithCounts(counted) => {
-            join_each(body_types, counted, sets, body_islands)
-        }
+        Joints::WithCounts(counted) => join_each(body_types, counted, sets, body_islands),
     }
 }
 
 // Every constraint of a frame.
-pub fn join_frame(
-    lists: AskedLists<'_>,
-    sets: &mut BodySets<'_>,
-    body_islands: &mut [u16],
-) -> bool
+pub fn join_frame(lists: AskedLists<'_>, sets: &mut BodySets<'_>, body_islands: &mut [u16]) -> bool
     requires { Fit lists.types.now sets.old body_islands.old }
     ensures joined { JoinedOrRefused lists.entry.types.now (constraints (frame_asked lists.entry))
         sets.old body_islands.old sets.new body_islands.new result }

@@ -151,6 +151,7 @@ impl BodySets<'_> {
     }
 
     // Every body alone again.
+    #[inline(always)]
     pub fn reset(&mut self)
         ensures alone { Alone (length self.old.parents.now) self.new }
         ensures same { Kept self.old self.new }
