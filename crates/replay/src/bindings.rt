@@ -3,7 +3,7 @@ use crate::Answer;
 use colored_bodies::{BodyBinding, Taken};
 use frame::refusal::refusal_number;
 use frame::{Frame, Refusal};
-use records::{Reader, Writer};
+use records::{Reader, Writer, first};
 
 fn put_take(taken: Result<Taken, Refusal>, out: &mut Answer) {
     match taken {
@@ -47,7 +47,7 @@ pub fn answer(question: &[u8]) -> Answer {
     let takes = question.byte();
     let types = question.bytes(usize::from(types));
     let mut list = [0; 40];
-    let list = &mut list[..usize::from(listed).min(40)];
+    let list = first(&mut list, usize::from(listed));
     question.numbers(list);
     let bound = BodyBinding::bind(types, list);
     let mut out = Writer::new();

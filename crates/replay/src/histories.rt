@@ -3,7 +3,7 @@ use crate::Answer;
 use constraint_coloring::{ConstraintColoring, Update};
 use frame::Refusal;
 use plan_arrays::PlanArrays;
-use records::{Reader, Writer};
+use records::{Reader, Writer, first};
 
 // The plan and its tables, which have room for 7 bodies and 7 constraints.
 #[derive(Clone, Copy)]
@@ -81,7 +81,7 @@ impl Stage {
         let entries = question.byte();
         let flags = question.bytes(usize::from(flags));
         let mut pairs = [0; 24];
-        let pairs = &mut pairs[..usize::from(entries).min(24)];
+        let pairs = first(&mut pairs, usize::from(entries));
         question.numbers(pairs);
         self.update(flags, pairs, out);
     }

@@ -7,7 +7,7 @@
 #![tactic(auto)]
 
 use frame::refusal::refusal_number;
-use records::{Reader, Writer};
+use records::{Reader, Writer, first};
 use std::io;
 use std::io::ErrorKind;
 
@@ -62,7 +62,7 @@ fn answer(question: &[u8], counts: &mut Counts) -> Answer {
     let mut question = Reader::new(question);
     let lent = usize::from(question.half());
     let mut turns = [PATTERN; TURNS];
-    let turns = &mut turns[..lent.min(TURNS)];
+    let turns = first(&mut turns, lent);
     let ran = standalone_run::run_file(question.rest(), turns);
     counts.add(ran.is_err());
     let mut out = Writer::new();
