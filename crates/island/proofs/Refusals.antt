@@ -1,8 +1,5 @@
 -- The questions of a call in order: the first "no" of questions 3 to 6 refuses; where there is none, question 7 decides.
 use Rattle.std.proofs.Common.{ℕ, ◌≤◌, arith, ◌≡◌, refl, sym, ap, ◌∙◌, Bool, true, false, cond, List, [], ◌∷◌, ◌++◌, eqb, eq-eqb, ne_eqb}
-use Rattle.frame.specs.declared.refusal.Refusal.{Refusal}
-use Rattle.frame.proofs.Answered.{numbered}
-use Rattle.frame.specs.Refusals.{number_of}
 use Rattle.frame.specs.Questions.{Question, question, asked}
 use Rattle.frame.proofs.Questions.{passed, asked-append}
 

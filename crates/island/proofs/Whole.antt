@@ -34,6 +34,7 @@ module _ (f : Frame) (p₁ b₁ p s b m j : List ℕ) (k : ℕ) (alone : root_of
   ready ok = record {
     sized = z;
     passed = ok;
+    balanced = (s, sets);
     roots = roots_are;
     constrained = λ x. w.constrained x ∙ ap (λ (v : ℕ). cond (any (on x) (constraints f)) 0 v) (ap (λ (l : List ℕ). get_or l x none) eb ∙ replicate-at k x none);
   }
@@ -70,6 +71,7 @@ module _ (f : Frame) (p b m j : List ℕ) (r : Ready f p b m j) where
   pub numberable : Numberable f.types p b
   unfolding Together
   numberable = record {
+    balanced = r.balanced;
     long_parents = r.sized.long_parents;
     long_bodies = r.sized.long_bodies;
     together = λ x y e.

@@ -3,6 +3,7 @@ use Rattle.std.specs.Prelude.{ℕ, ◌≤◌, ◌≡◌, true, false, cond, List
 use Rattle.lists.specs.Basics.{any}
 use Rattle.frame.specs.Frames.{Frame, constraints, bodies, on, all_sound, none}
 use Rattle.island_sets.specs.Sets.{root_of}
+use Rattle.island_sets.specs.Steps.{Balanced}
 use Rattle.connected_sets.specs.Islands.{heaviest, island_count, body_label, label}
 use Rattle.frame.specs.declared.refusal.Refusal.{Refusal}
 use Rattle.frame.specs.Refusals.{refused_by}
@@ -22,6 +23,7 @@ pub record Sized (f : Frame) (p b m j : List ℕ) : Type 0 where
 pub record Ready (f : Frame) (p b m j : List ℕ) : Type 0 where
   pub sized : Sized f p b m j
   pub passed : all_sound f ≡ true
+  pub balanced : Balanced p
   pub roots : root_of p ≡ heaviest f
   pub constrained : (x : ℕ) → get_or b x none ≡ cond (any (on x) (constraints f)) 0 none
 

@@ -48,15 +48,15 @@ impl IslandTables<'_> {
 // The labels of a frame whose constraints are joined. Answers how many islands there are.
 fn label_frame(
     lists: AskedLists<'_>,
-    sets: &BodySets<'_>,
+    parents: &[u16],
     body_islands: &mut [u16],
     manifold_islands: &mut [u16],
     joint_islands: &mut [u16],
 ) -> u16
-    requires { Ready (frame_asked lists) sets.now.parents.now body_islands.old manifold_islands.old joint_islands.old }
+    requires { Ready (frame_asked lists) parents.now body_islands.old manifold_islands.old joint_islands.old }
     ensures { Labelled (frame_asked lists.entry) body_islands.new manifold_islands.new joint_islands.new result }
 {
-    let islands = island_labels::number(lists.types, sets, body_islands);
+    let islands = island_labels::number(lists.types, parents, body_islands);
     island_labels::label_each(lists.manifolds, body_islands, manifold_islands);
     island_labels::label_joints(lists.joints, body_islands, joint_islands);
     islands
@@ -85,7 +85,8 @@ fn build_sized(
         joint_islands.fill(NONE);
         return Err(Refusal::Endpoints);
     }
-    Ok(label_frame(lists, &sets, body_islands, manifold_islands, joint_islands))
+    let parents = sets.parents();
+    Ok(label_frame(lists, parents, body_islands, manifold_islands, joint_islands))
 }
 
 // A frame of so many joints that passed questions 3 to 6, on the first places of its tables.

@@ -3,7 +3,7 @@ use Rattle.std.specs.Prelude.{ℕ, ◌+◌, min, ◌≡◌, Bool, not, ◌&&◌,
 use Rattle.lists.specs.Basics.{one, count, range}
 use Rattle.frame.specs.Frames.{Constraint, Frame, frame_of, dynamic, none}
 use Rattle.island_sets.specs.Sets.{root_of}
-use Rattle.island_sets.specs.Steps.{LowestOf}
+use Rattle.island_sets.specs.Steps.{Balanced, LowestOf}
 
 -- a frame's bodies alone
 abbrev pub bare : List ℕ → Frame
@@ -29,6 +29,7 @@ Together m root = (x y : ℕ) → root x ≡ root y → m x ≡ m y
 
 -- parents and labels, as many of each as bodies, for sets that have a lowest body each
 pub record Numberable (ts p l : List ℕ) : Type 0 where
+  pub balanced : Balanced p
   pub long_parents : length p ≡ length ts
   pub long_bodies : length l ≡ length ts
   pub together : Together (in_island_by ts l) (root_of p)

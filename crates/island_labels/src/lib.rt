@@ -6,12 +6,12 @@ ghost use Rattle.lists.specs.Basics.{all};
 ghost use Rattle.frame.specs.Constraints.{lent};
 ghost use Rattle.frame.specs.Asked.{joints_in};
 ghost use Rattle.frame.specs.Frames.{sound};
+ghost use Rattle.island_sets.specs.Steps.{Balanced};
 ghost use Rattle.island_labels.specs.Labels.{in_island_by, Numberable, Flagged, Stepped, NumberedByLowest, label_by};
 
 use frame::Frame;
 use frame::asked::Joints;
 use frame::constraints::{Constraints, Lent};
-use island_sets::BodySets;
 
 // The label of what has no island.
 pub const NONE: u16 = Frame::NONE;
@@ -34,11 +34,12 @@ fn flag_bodies(body_types: &[u8], body_islands: &mut [u16])
 // A body gets the label of its root; where that has no number yet, the body is the lowest of its set, and both get the next number.
 // Answers how many islands there are so far. There is no branch to guess wrong, and the root's label is written once, so that no body
 // waits for the one before.
-fn number_one(sets: &BodySets<'_>, body_islands: &mut [u16], body: usize, count: u16) -> u16
-    requires { (length sets.now.parents.now ≡ length body_islands.old) × (body < length sets.now.parents.now) × (count ≤ 4096) }
-    ensures { Stepped sets.now.parents.now body_islands.old body count body_islands.new result }
+fn number_one(parents: &[u16], body_islands: &mut [u16], body: usize, count: u16) -> u16
+    requires balanced { Balanced parents.now }
+    requires inside { (length parents.now ≡ length body_islands.old) × (body < length parents.now) × (count ≤ 4096) }
+    ensures { Stepped parents.now body_islands.old body count body_islands.new result }
 {
-    let found = sets.root_of(body);
+    let found = island_sets::root_of(parents, body);
     let root = usize::from(found.root);
     let label = body_islands[root];
     let first = label == UNNUMBERED;
@@ -50,15 +51,15 @@ fn number_one(sets: &BodySets<'_>, body_islands: &mut [u16], body: usize, count:
 }
 
 // The bodies in islands get their island's number, in rising order of the islands' lowest bodies. Answers how many islands there are.
-pub fn number(body_types: &[u8], sets: &BodySets<'_>, body_islands: &mut [u16]) -> u16
-    requires { Numberable body_types.now sets.now.parents.now body_islands.old }
-    ensures { NumberedByLowest body_types.now sets.now.parents.now body_islands.old result body_islands.new }
+pub fn number(body_types: &[u8], parents: &[u16], body_islands: &mut [u16]) -> u16
+    requires { Numberable body_types.now parents.now body_islands.old }
+    ensures { NumberedByLowest body_types.now parents.now body_islands.old result body_islands.new }
 {
     flag_bodies(body_types, body_islands);
     let mut islands: u16 = 0;
     // The bodies below `next` have their labels, and so have the roots of the sets whose lowest body is below `next`: `islands` sets.
     for next in 0..body_islands.len() {
-        islands = number_one(sets, body_islands, next, islands);
+        islands = number_one(parents, body_islands, next, islands);
     }
     islands
 }

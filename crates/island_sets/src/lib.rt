@@ -27,7 +27,7 @@ pub struct BodySets<'a> {
 }
 
 // Where the links of `body` end, and how many there are. The first link is followed without a branch: most ways have none or one.
-fn root_of(parents: &[u16], body: usize) -> Found
+pub fn root_of(parents: &[u16], body: usize) -> Found
     requires { Balanced parents.now × (body < length parents.now) }
     ensures { LookedUp parents.now body result }
 {
@@ -141,13 +141,12 @@ pub fn reset(parents: &mut [u16], sizes: &mut [u16])
 impl BodySets<'_> {
     ghost use Rattle.island_sets.specs.Kept.{Kept, Alone};
 
-    // The root of `body`, and how many links lead to it.
+    // The parents, in which roots are looked up.
     #[inline(always)]
-    pub fn root_of(&self, body: usize) -> Found
-        requires { body < length self.now.parents.now }
-        ensures { LookedUp self.now.parents.now body result }
+    pub fn parents(&self) -> &[u16]
+        ensures { (result.now ≡ self.now.parents.now) × Balanced result.now }
     {
-        root_of(self.parents, body)
+        self.parents
     }
 
     // Every body alone again.

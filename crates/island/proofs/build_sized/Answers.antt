@@ -80,7 +80,7 @@ label_frame-requires c =
     let s = j.new.sets in
     let ok = c.if-not-join_frame.false in
     let filled : c.fill.new.self ≡ replicate (length c.args.body_islands.now) none = search rules in
-    joined_ready (frame_asked c.args.lists) _ _ _ _ _ c.fill.new.self s.parents.now s.sizes.now _ h.sized r.ensures.0 filled (j.ensures.same.long ∙ r.auto.parents) (j.auto.body_islands ∙ c.fill.ensures.len) s.sets (j.ensures.joined.joined ok) (sym j.ensures.joined.answer ∙ ok)
+    rw c.parents-parents.ensures.0 (joined_ready (frame_asked c.args.lists) _ _ _ _ _ c.fill.new.self s.parents.now s.sizes.now _ h.sized r.ensures.0 filled (j.ensures.same.long ∙ r.auto.parents) (j.auto.body_islands ∙ c.fill.ensures.len) s.sets (j.ensures.joined.joined ok) (sym j.ensures.joined.answer ∙ ok))
 
 pub returns : goal.returns
 unfolding all_sound

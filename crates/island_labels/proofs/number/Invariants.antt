@@ -3,4 +3,4 @@ use Rattle.island_labels.proofs.Numbering.{Numbering}
 use Rattle.island_labels.proofs.number.Given as goal
 
 abbrev pub invariant-loop-next : goal.invariant-loop-next
-invariant-loop-next l = Numbering l.sets.parents.now l.initial.body_islands l.body_islands l.islands l.next
+invariant-loop-next l = Numbering l.parents l.initial.body_islands l.body_islands l.islands l.next
