@@ -3,7 +3,7 @@
 #![tactic(auto)]
 
 ghost use Rattle.std.specs.Prelude.{◌≡◌, [], ◌∷◌, ◌++◌, ◌-◌, ◌≤◌, ◌<◌, length, take, drop};
-ghost use Rattle.lists.specs.Basics.{sorted};
+ghost use Rattle.lists.specs.Basics.{one, sorted};
 ghost use Rattle.parts.specs.Parts.{parts_at};
 ghost use Rattle.parts.specs.MemberEnds.{ends_of};
 ghost use Rattle.gathering.specs.Gathers.{stamped, Stampable, Counted, Gatherable, Gathered};
@@ -14,18 +14,18 @@ use parts::{Ends, Grouped, Members};
 // they come, and sorted.
 const BODIES_PER_CONSTRAINT: usize = 64;
 
-// A body gets the stamp; answers 1 if it had another, else 0. There is no branch to guess wrong.
-fn stamp_body(body: u16, stamp: u16, body_stamps: &mut [u16]) -> usize
+// A body gets the stamp; answers whether it had another.
+fn stamp_body(body: u16, stamp: u16, body_stamps: &mut [u16]) -> bool
     requires { body < length body_stamps.old }
-    ensures { Counted stamp (body ∷ []) 0 body_stamps.old body_stamps.new result }
+    ensures { Counted stamp (body ∷ []) 0 body_stamps.old body_stamps.new (one result) }
 {
     let place = usize::from(body);
-    let fresh = usize::from(body_stamps[place] != stamp);
+    let fresh = body_stamps[place] != stamp;
     body_stamps[place] = stamp;
     fresh
 }
 
-// The same for the bodies of a constraint; answers how many had another stamp.
+// The same for the bodies of a constraint; answers how many had another stamp. There is no branch to guess wrong.
 fn stamp_part(bodies: &[u16], stamp: u16, body_stamps: &mut [u16]) -> usize
     requires { Stampable bodies.now body_stamps.old }
     ensures { Counted stamp bodies.now 0 body_stamps.old body_stamps.new result }
@@ -33,7 +33,7 @@ fn stamp_part(bodies: &[u16], stamp: u16, body_stamps: &mut [u16]) -> usize
     let mut count = 0;
     // The bodies passed have the stamp; `count` of them had another.
     for &body in bodies {
-        count += stamp_body(body, stamp, body_stamps);
+        count += usize::from(stamp_body(body, stamp, body_stamps));
     }
     count
 }
@@ -113,7 +113,7 @@ impl<'a> Gatherer<'a> {
         ensures noted { NotedIn stamp (body ∷ []) self.old self.new }
         ensures same { SameGatherer self.old self.new }
     {
-        if stamp_body(body, stamp, self.body_stamps) == 0 {
+        if !stamp_body(body, stamp, self.body_stamps) {
             return;
         }
         self.color_bodies[self.end] = body;
