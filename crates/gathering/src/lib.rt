@@ -189,7 +189,6 @@ impl<'a> Gatherer<'a> {
 // The bodies of all groups, group after group, and the start of each, with the end. Stamps and scratch are free afterwards.
 #[inline(always)]
 pub fn gather(
-    body_count: usize,
     ends: Ends<'_>,
     constraint_colors: &[u16],
     color_count: usize,
@@ -200,8 +199,8 @@ pub fn gather(
     color_bodies: &mut [u16],
 )
     requires counted { length constraint_colors.now ≡ ends.count }
-    requires gatherable { Gatherable body_count (parts_at (length constraint_colors.now) ends.bounds.now ends.endpoints.now) constraint_colors.now color_count colored_constraints.offsets.now colored_constraints.table.now body_stamps.old scratch_offsets.old color_body_offsets.old color_bodies.old }
-    ensures { Gathered body_count (parts_at (length constraint_colors.now) ends.entry.bounds.now ends.entry.endpoints.now) constraint_colors.now color_count color_body_offsets.new color_bodies.old color_bodies.new }
+    requires gatherable { Gatherable (length body_stamps.old) (parts_at (length constraint_colors.now) ends.bounds.now ends.endpoints.now) constraint_colors.now color_count colored_constraints.offsets.now colored_constraints.table.now body_stamps.old scratch_offsets.old color_body_offsets.old color_bodies.old }
+    ensures { Gathered (length body_stamps.old) (parts_at (length constraint_colors.now) ends.entry.bounds.now ends.entry.endpoints.now) constraint_colors.now color_count color_body_offsets.new color_bodies.old color_bodies.new }
 {
     color_body_offsets[0] = 0;
     let mut listing = Gatherer {
