@@ -178,7 +178,6 @@ pub fn build_plan(
         offsets: &color_offsets[..color_count + 1],
     };
     list_groups(
-        body_count,
         ends,
         &constraint_colors[..constraint_count],
         color_count,
