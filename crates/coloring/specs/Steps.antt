@@ -1,4 +1,4 @@
--- What the private steps of the color stage need and leave: bodies made busy and idle, a color closed.
+-- What the private steps of the color stage need and leave: bodies made busy, a color closed.
 use Rattle.std.specs.Prelude.{ℕ, ◌≤◌, ◌<◌, ◌≡◌, true, ◌&&◌, cond, List, ltb, eqb, length, get_or}
 use Rattle.lists.specs.Basics.{all, mem}
 use Rattle.groups.specs.Groups.{flagged}
@@ -7,10 +7,6 @@ use Rattle.coloring.specs.Coloring.{touched}
 -- of the bodies bs the dynamic ones become busy, if the color fits; the others stay as they were
 abbrev pub MadeBusy : List ℕ → ℕ → List ℕ → List ℕ → List ℕ → Type 0
 MadeBusy flags fits bs busy busy' = (b : ℕ) → b < length busy → get_or busy' b 0 ≡ cond (eqb fits 1 && (flagged flags b && mem b bs)) 1 (get_or busy b 0)
-
--- the bodies bs are not busy; the others stay as they were
-abbrev pub MadeIdle : List ℕ → List ℕ → List ℕ → Type 0
-MadeIdle bs busy busy' = (b : ℕ) → b < length busy → get_or busy' b 0 ≡ cond (mem b bs) 0 (get_or busy b 0)
 
 -- the members ms of color k are constraints, on bodies that exist
 pub record Closable (cs : List (List ℕ)) (k : ℕ) (ms colors busy : List ℕ) : Type 0 where

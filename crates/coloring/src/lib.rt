@@ -9,7 +9,7 @@ ghost use Rattle.std.specs.Prelude.{◌≡◌, true, ℕ, ◌<◌, ◌≤◌, lt
 ghost use Rattle.lists.specs.Basics.{all};
 ghost use Rattle.parts.specs.Parts.{parts_at};
 ghost use Rattle.coloring.specs.Coloring.{Ready, Colored, Opened, Walked};
-ghost use Rattle.coloring.specs.Steps.{MadeBusy, MadeIdle, Closable, Closed};
+ghost use Rattle.coloring.specs.Steps.{MadeBusy, Closable, Closed};
 
 use parts::Ends;
 
@@ -76,17 +76,6 @@ fn walk(
     left
 }
 
-// Makes the bodies of a constraint idle.
-fn make_idle(bodies: &[u16], busy_bodies: &mut [u16])
-    requires { all (λ b. ltb b (length busy_bodies.old)) bodies.now ≡ true }
-    ensures { MadeIdle bodies.now busy_bodies.old busy_bodies.new }
-{
-    // The bodies passed are idle.
-    for &body in bodies {
-        busy_bodies[usize::from(body)] = 0;
-    }
-}
-
 // Gives the color to its members, and makes their bodies idle.
 #[inline(always)]
 fn close_color(
@@ -104,7 +93,7 @@ fn close_color(
     for &member in members {
         let constraint = usize::from(member);
         constraint_colors[constraint] = color as u16;
-        make_idle(ends.part(constraint), busy_bodies);
+        tables::clear_each(ends.part(constraint), busy_bodies);
     }
 }
 

@@ -86,7 +86,6 @@ fn pair_of(table: &[u16], pair: usize) -> &[u16]
 // The bodies of all groups and the positions of all constraints, whatever the number of their bodies.
 #[inline(always)]
 fn list_groups(
-    body_count: usize,
     ends: Ends<'_>,
     constraint_colors: &[u16],
     color_count: usize,
@@ -99,11 +98,10 @@ fn list_groups(
 )
     requires counted { length constraint_colors.now ≡ ends.count }
     requires arranged { Arranged (length constraint_colors.now) ends.bounds.now ends.endpoints.now constraint_body_positions.old }
-    requires gatherable { Gatherable body_count (parts_at (length constraint_colors.now) ends.bounds.now ends.endpoints.now) constraint_colors.now color_count constraints.offsets.now constraints.table.now body_stamps.old scratch_offsets.old color_body_offsets.old color_bodies.old × (color_count ≡ group_count constraint_colors.now) }
-    ensures { Scheduled body_count (parts_at (length constraint_colors.now) ends.entry.bounds.now ends.entry.endpoints.now) constraint_colors.now color_count color_bodies.old color_body_offsets.new color_bodies.new constraint_body_positions.new }
+    requires gatherable { Gatherable (length body_stamps.old) (parts_at (length constraint_colors.now) ends.bounds.now ends.endpoints.now) constraint_colors.now color_count constraints.offsets.now constraints.table.now body_stamps.old scratch_offsets.old color_body_offsets.old color_bodies.old × (color_count ≡ group_count constraint_colors.now) }
+    ensures { Scheduled (length body_stamps.old) (parts_at (length constraint_colors.now) ends.entry.bounds.now ends.entry.endpoints.now) constraint_colors.now color_count color_bodies.old color_body_offsets.new color_bodies.new constraint_body_positions.new }
 {
     gathering::gather(
-        body_count,
         ends,
         constraint_colors,
         color_count,
@@ -118,7 +116,7 @@ fn list_groups(
         offsets: color_body_offsets,
     };
     locating::locate(
-        body_count,
+        body_stamps.len(),
         ends,
         constraint_colors,
         color_count,
@@ -180,7 +178,6 @@ pub fn build_plan(
         offsets: &color_offsets[..color_count + 1],
     };
     list_groups(
-        body_count,
         ends,
         &constraint_colors[..constraint_count],
         color_count,

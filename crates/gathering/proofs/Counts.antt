@@ -1,7 +1,8 @@
 -- Counting by stamps: stamping one list of bodies and then another is stamping both, and the count goes on from where it stands. It is
 -- at most the number of bodies passed, so it fits.
-use Rattle.std.proofs.Common.{ℕ, ◌+◌, ◌≤◌, ◌<◌, ◌≡◌, refl, sym, ap, ◌∙◌, true, not, List, [], ◌∷◌, ◌++◌, arith, eqb, ltb, length, get_or, set, length-append, ltb-true}
+use Rattle.std.proofs.Common.{ℕ, ◌+◌, ◌≤◌, ◌<◌, ◌≡◌, refl, sym, ap, ◌∙◌, Bool, true, not, List, [], ◌∷◌, ◌++◌, arith, eqb, ltb, length, get_or, set, length-append, ltb-true}
 use mir.Val.{bool_byte}
+use Rattle.lists.specs.Basics.{one}
 use Rattle.lists.proofs.Laws.{by_cases, and_left, all_in, all_intro}
 use Rattle.gathering.specs.Gathers.{lacking, stamp_all, Stampable, Counted}
 use Rattle.gathering.proofs.Stamps.{length-stamp_all, stamp_all-append, lacking-append, length-lacking}
@@ -12,9 +13,13 @@ module _ (stamp : ℕ) (st : List ℕ) where
   unfolding lacking stamp_all
   counted_none start = record { stamps = refl; counted = omega arith }
 
-  pub counted-one : (b : ℕ) → Counted stamp (b ∷ []) 0 st (set st b stamp) (bool_byte (not (eqb (get_or st b 0) stamp)))
+  pub counted-one : (b : ℕ) → Counted stamp (b ∷ []) 0 st (set st b stamp) (one (not (eqb (get_or st b 0) stamp)))
   unfolding lacking stamp_all
   counted-one b = record { stamps = refl; counted = by_cases (eqb (get_or st b 0) stamp) (λ e. rw e) (λ e. rw e) }
+
+-- the byte of a test is 1 or 0
+pub counted-byte : {stamp n : ℕ} {bs st st' : List ℕ} (fresh : Bool) → Counted stamp bs 0 st st' (one fresh) → n ≡ bool_byte fresh → Counted stamp bs 0 st st' n
+counted-byte fresh v e = let same : one fresh ≡ bool_byte fresh = by_cases fresh (λ q. rw q) (λ q. rw q) in rw (e, ← same) v
 
 -- counted from 0, it can be added
 pub counted-add : {stamp count : ℕ} {bs st st' : List ℕ} (start : ℕ) → Counted stamp bs 0 st st' count → Counted stamp bs start st st' (start + count)

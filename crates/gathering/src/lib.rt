@@ -3,7 +3,7 @@
 #![tactic(auto)]
 
 ghost use Rattle.std.specs.Prelude.{◌≡◌, [], ◌∷◌, ◌++◌, ◌-◌, ◌≤◌, ◌<◌, length, take, drop};
-ghost use Rattle.lists.specs.Basics.{sorted};
+ghost use Rattle.lists.specs.Basics.{one, sorted};
 ghost use Rattle.parts.specs.Parts.{parts_at};
 ghost use Rattle.parts.specs.MemberEnds.{ends_of};
 ghost use Rattle.gathering.specs.Gathers.{stamped, Stampable, Counted, Gatherable, Gathered};
@@ -14,18 +14,18 @@ use parts::{Ends, Grouped, Members};
 // they come, and sorted.
 const BODIES_PER_CONSTRAINT: usize = 64;
 
-// A body gets the stamp; answers 1 if it had another, else 0. There is no branch to guess wrong.
-fn stamp_body(body: u16, stamp: u16, body_stamps: &mut [u16]) -> usize
+// A body gets the stamp; answers whether it had another.
+fn stamp_body(body: u16, stamp: u16, body_stamps: &mut [u16]) -> bool
     requires { body < length body_stamps.old }
-    ensures { Counted stamp (body ∷ []) 0 body_stamps.old body_stamps.new result }
+    ensures { Counted stamp (body ∷ []) 0 body_stamps.old body_stamps.new (one result) }
 {
     let place = usize::from(body);
-    let fresh = usize::from(body_stamps[place] != stamp);
+    let fresh = body_stamps[place] != stamp;
     body_stamps[place] = stamp;
     fresh
 }
 
-// The same for the bodies of a constraint; answers how many had another stamp.
+// The same for the bodies of a constraint; answers how many had another stamp. There is no branch to guess wrong.
 fn stamp_part(bodies: &[u16], stamp: u16, body_stamps: &mut [u16]) -> usize
     requires { Stampable bodies.now body_stamps.old }
     ensures { Counted stamp bodies.now 0 body_stamps.old body_stamps.new result }
@@ -33,7 +33,7 @@ fn stamp_part(bodies: &[u16], stamp: u16, body_stamps: &mut [u16]) -> usize
     let mut count = 0;
     // The bodies passed have the stamp; `count` of them had another.
     for &body in bodies {
-        count += stamp_body(body, stamp, body_stamps);
+        count += usize::from(stamp_body(body, stamp, body_stamps));
     }
     count
 }
@@ -113,7 +113,7 @@ impl<'a> Gatherer<'a> {
         ensures noted { NotedIn stamp (body ∷ []) self.old self.new }
         ensures same { SameGatherer self.old self.new }
     {
-        if stamp_body(body, stamp, self.body_stamps) == 0 {
+        if !stamp_body(body, stamp, self.body_stamps) {
             return;
         }
         self.color_bodies[self.end] = body;
@@ -189,7 +189,6 @@ impl<'a> Gatherer<'a> {
 // The bodies of all groups, group after group, and the start of each, with the end. Stamps and scratch are free afterwards.
 #[inline(always)]
 pub fn gather(
-    body_count: usize,
     ends: Ends<'_>,
     constraint_colors: &[u16],
     color_count: usize,
@@ -200,8 +199,8 @@ pub fn gather(
     color_bodies: &mut [u16],
 )
     requires counted { length constraint_colors.now ≡ ends.count }
-    requires gatherable { Gatherable body_count (parts_at (length constraint_colors.now) ends.bounds.now ends.endpoints.now) constraint_colors.now color_count colored_constraints.offsets.now colored_constraints.table.now body_stamps.old scratch_offsets.old color_body_offsets.old color_bodies.old }
-    ensures { Gathered body_count (parts_at (length constraint_colors.now) ends.entry.bounds.now ends.entry.endpoints.now) constraint_colors.now color_count color_body_offsets.new color_bodies.old color_bodies.new }
+    requires gatherable { Gatherable (length body_stamps.old) (parts_at (length constraint_colors.now) ends.bounds.now ends.endpoints.now) constraint_colors.now color_count colored_constraints.offsets.now colored_constraints.table.now body_stamps.old scratch_offsets.old color_body_offsets.old color_bodies.old }
+    ensures { Gathered (length body_stamps.old) (parts_at (length constraint_colors.now) ends.entry.bounds.now ends.entry.endpoints.now) constraint_colors.now color_count color_body_offsets.new color_bodies.old color_bodies.new }
 {
     color_body_offsets[0] = 0;
     let mut listing = Gatherer {

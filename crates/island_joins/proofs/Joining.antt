@@ -1,7 +1,7 @@
 -- What constraints join, and which bodies they constrain. A live pair of dynamic bodies has one edge, any other pair none; a live constraint on more bodies has an edge from its
 -- first dynamic body to each later one. A live constraint constrains its bodies. What is joined by one list and then by another is joined by both together: so a loop over the
 -- constraints joins them all.
-use Rattle.std.proofs.Common.{ℕ, ◌+◌, ◌*◌, ◌≤◌, ◌<◌, arith, add-one, ◌≡◌, refl, sym, ap, ◌∙◌, Bool, true, false, ◌&&◌, cond, List, [], ◌∷◌, ◌++◌, map, append_assoc, append-nil, eqb, ltb, length, get_or, take, drop, drop_of_length-le, drop-cons, eqb-true, eq-eqb, ne_eqb, ltb-true}
+use Rattle.std.proofs.Common.{ℕ, ◌+◌, ◌*◌, ◌≤◌, ◌<◌, arith, add-one, ◌≡◌, refl, sym, ap, ◌∙◌, Bool, true, false, ◌&&◌, cond, List, [], ◌∷◌, ◌++◌, map, append_assoc, append-nil, eqb, ltb, length, get_or, drop, drop_of_length-le, drop-cons, eqb-true, eq-eqb, ne_eqb, ltb-true}
 use Rattle.std.proofs.Math.Bool.{or-false}
 use Rattle.lists.specs.Basics.{any, all, mem}
 use Rattle.lists.proofs.Laws.{and_left, and_right, and_both, not-true-false, any_append, all_append, cond-or}
@@ -124,12 +124,6 @@ module _ (ts bs : List ℕ) (first : ℕ) (others : List ℕ) (f : FirstDynamic 
 
     pub starring_ends : length others ≤ i → root_of s.parents.now ≡ hang_all (length ts) (root_of s₀.parents.now) (edges_of (bare ts) (tied true bs))
     starring_ends h = sym (ap (λ (ds : List ℕ). hang_all (length ts) (root_of s.parents.now) (map (edge first) ds)) (dynamics_end ts others i h)) ∙ w.roots
-
--- ---- which bodies are constrained
--- the loop over bodies bs, at place i
-pub record Constraining (bs l₀ l : List ℕ) (i : ℕ) : Type 0 where
-  pub long : length l ≡ length l₀
-  pub labels : (x : ℕ) → get_or l x none ≡ cond (mem x (take i bs)) 0 (get_or l₀ x none)
 
 -- ---- one constraint
 module _ (ts p l : List ℕ) (t : Bool) (bs : List ℕ) where

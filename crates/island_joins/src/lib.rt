@@ -69,20 +69,9 @@ fn join_dynamics(body_types: &[u8], sets: &mut BodySets<'_>, ends: &[u16])
     }
 }
 
-// The bodies of a list are constrained: label 0 where the numbering will put their island's.
-#[inline(always)]
-fn constrain(body_islands: &mut [u16], ends: &[u16])
-    requires { all (λ b. ltb b (length body_islands.old)) ends.now ≡ true }
-    ensures { (x : ℕ) → get_or body_islands.new x none ≡ cond (mem x ends.now) 0 (get_or body_islands.old x none) }
-{
-    // The bodies passed are constrained.
-    for body in ends {
-        body_islands[usize::from(*body)] = 0;
-    }
-}
-
 // The dynamic bodies of a live constraint are joined, and all its bodies constrained. Most constraints are pairs: their two bodies need no
-// search, and are read before anything is written, so that they are not read again.
+// search, and are read before anything is written, so that they are not read again. A constrained body has label 0 where the numbering will put
+// its island's.
 #[inline(always)]
 fn join_live(body_types: &[u8], ends: &[u16], sets: &mut BodySets<'_>, body_islands: &mut [u16])
     requires { Fit body_types.now sets.old body_islands.old × (all (λ b. ltb b (length body_types.now)) ends.now ≡ true) }
@@ -93,11 +82,11 @@ fn join_live(body_types: &[u8], ends: &[u16], sets: &mut BodySets<'_>, body_isla
         [a, b] => {
             let pair = [*a, *b];
             join_dynamic(body_types, sets, pair[0], pair[1]);
-            constrain(body_islands, &pair);
+            tables::clear_each(&pair, body_islands);
         }
         ends => {
             join_dynamics(body_types, sets, ends);
-            constrain(body_islands, ends);
+            tables::clear_each(ends, body_islands);
         }
     }
 }

@@ -54,6 +54,7 @@ fn locate_members(
     places: &mut [u16],
     constraint_body_positions: &mut [u16],
 )
+    requires few { members.ends.count ≤ 8192 }
     requires arranged { Arranged members.ends.count members.ends.bounds.now members.ends.endpoints.now constraint_body_positions.old }
     requires findable { Findable (ends_of members) bodies.now × (all (λ b. ltb b (length places.old)) bodies.now ≡ true) }
     ensures { MembersLocated members.entry.ends.count members.entry.ends.bounds.now members.entry.ends.endpoints.now members.entry.numbers.now bodies.now constraint_body_positions.old constraint_body_positions.new }

@@ -39,7 +39,7 @@ impl<'a> Ends<'a> {
     // Where the endpoints of a constraint start; its positions start there too.
     #[inline(always)]
     pub fn start(self, constraint: usize) -> usize
-        requires { constraint < self.count }
+        requires { (constraint ≤ 32767) × ((length self.bounds.now ≡ 0 → ⊥) → 2 * constraint < length self.bounds.now) }
         ensures { result ≡ start_at self.entry.bounds.now constraint }
     {
         if self.bounds.len() == 0 {
@@ -91,7 +91,7 @@ pub fn largest_part(bounds: &[u16]) -> usize
     requires { Ordered bounds.now }
     ensures { result ≡ widest bounds.now }
 {
-    let mut largest = 0;
+    let mut largest: u16 = 0;
     // `largest` is the size of the largest part passed.
     for pair in bounds.windows(2) {
         largest = largest.max(pair[1] - pair[0]);

@@ -116,8 +116,8 @@ pub list_groups-requires-clause-gatherable : goal.list_groups-requires-clause-ga
 list_groups-requires-clause-gatherable c =
     let p = (goal.at.list_groups-requires-clause-gatherable c).After-color_constraints-color_count in
     let q = colored p in
-    gatherable (o p) (count p) (colors_are p) q.count_is (starts_are p) (members_are p) (length-take-le _ _ (stamps_room p)) (λ b h. rw (stamps_are p) (q.idle b h))
-    (omega (arith, p.color_constraints-color_count.auto.remaining, (o p).scratch_bodies)) (length-take-le _ _ (omega (arith, few p, (o p).color_body_offsets))) (length-take-le _ _ (o p).color_bodies)
+    rw (length-take-le _ _ (stamps_room p)) (gatherable (o p) (count p) (colors_are p) q.count_is (starts_are p) (members_are p) (length-take-le _ _ (stamps_room p)) (λ b h. rw (stamps_are p) (q.idle b h))
+    (omega (arith, p.color_constraints-color_count.auto.remaining, (o p).scratch_bodies)) (length-take-le _ _ (omega (arith, few p, (o p).color_body_offsets))) (length-take-le _ _ (o p).color_bodies))
 
 -- ---- the largest group
 pub largest_part-largest-requires : goal.largest_part-largest-requires
@@ -132,6 +132,7 @@ returns c =
     let q = colored p in
     let k = count p in
     let s = colors_are p in
+    let listed = rw (length-take-le _ _ (stamps_room p)) at c.list_groups.ensures in
     record {
       plan = plan_is (o p) k c.largest_part-largest.result q.count_is (c.largest_part-largest.ensures ∙ ap widest (starts_are p) ∙ largest_is (promised (o p)) k q.count_is);
       tables = record {
@@ -145,8 +146,8 @@ returns c =
         body_stamps = free_new (length_front (stamps_table p) c.list_groups.new.body_stamps (length c.args.flags.now) c.list_groups.auto.body_stamps ∙ stamps_kept p);
         color_offsets = written_new _ _ _ (rw (starts_planned (o p) k q.count_is) (part-over _ (offsets (members (promised (o p))) k) c.args.color_offsets.now (n p + 1) q.starts_are c.color_constraints-color_count.auto.color_offsets));
         colored_constraints = written_new _ _ _ (front_over _ _ _ _ (q.members_are ∙ sym (constraints_planned (o p) k q.count_is)) c.color_constraints-color_count.auto.colored_constraints (o p).colored_constraints);
-        color_body_offsets = written_new _ _ _ (front_over _ _ c.args.color_body_offsets.now (k + 1) (body-starts_planned (o p) s q.count_is c.list_groups.ensures) c.list_groups.auto.color_body_offsets (omega (arith, few p, (o p).color_body_offsets)));
-        color_bodies = written_new _ _ _ (part-over _ (plan_from c.args.flags.now (parts_at (n p) c.args.ends.bounds.now c.args.ends.endpoints.now)).color_bodies c.args.color_bodies.now (length c.args.ends.endpoints.now) (bodies_planned (o p) s q.count_is c.list_groups.ensures) c.list_groups.auto.color_bodies);
-        constraint_body_positions = written_new _ _ _ (front_over _ _ _ _ (positions_planned (o p) s q.count_is c.list_groups.ensures) c.list_groups.auto.constraint_body_positions (o p).constraint_body_positions);
+        color_body_offsets = written_new _ _ _ (front_over _ _ c.args.color_body_offsets.now (k + 1) (body-starts_planned (o p) s q.count_is listed) c.list_groups.auto.color_body_offsets (omega (arith, few p, (o p).color_body_offsets)));
+        color_bodies = written_new _ _ _ (part-over _ (plan_from c.args.flags.now (parts_at (n p) c.args.ends.bounds.now c.args.ends.endpoints.now)).color_bodies c.args.color_bodies.now (length c.args.ends.endpoints.now) (bodies_planned (o p) s q.count_is listed) c.list_groups.auto.color_bodies);
+        constraint_body_positions = written_new _ _ _ (front_over _ _ _ _ (positions_planned (o p) s q.count_is listed) c.list_groups.auto.constraint_body_positions (o p).constraint_body_positions);
       };
     }

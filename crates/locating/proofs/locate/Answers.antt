@@ -21,6 +21,9 @@ fills e colors positions h a = (rw h e.bounded, a.gapless, a.room)
 pub invariant_of-members : goal.invariant_of-members
 invariant_of-members c = record { inside = group_below (fills c.args.ends c.args.constraint_colors.now c.args.constraint_body_positions.now c.requires.counted c.requires.arranged) c.requires.locatable c.loop-color.invariant c.requires.counted (omega arith) c.group-numbers.ensures c.group-bodies.ensures }
 
+pub locate_members-requires-clause-few : goal.locate_members-requires-clause-few
+locate_members-requires-clause-few c = omega (arith, c.requires.locatable.few, c.requires.counted)
+
 pub locate_members-requires-clause-arranged : goal.locate_members-requires-clause-arranged
 locate_members-requires-clause-arranged c = group_arranged (fills c.args.ends c.args.constraint_colors.now c.args.constraint_body_positions.now c.requires.counted c.requires.arranged) c.requires.locatable c.loop-color.invariant c.requires.counted (omega arith) c.group-numbers.ensures c.group-bodies.ensures
 

@@ -1,11 +1,18 @@
 -- The places of a member's endpoints lie inside the table, and what is written there touches no other member's.
 use Rattle.std.proofs.Common.{◌<◌, arith, length}
 use Rattle.lists.specs.Basics.{mem}
+use Rattle.parts.proofs.Parts.{member_low}
 use Rattle.locating.specs.Locates.{PlacesKnown}
 use Rattle.locating.proofs.Locates.{locating_done, member_all, end_inside, places-many, locating_more}
 use Rattle.locating.proofs.Places.{known_listed, known-few}
 use Rattle.locating.proofs.locate_members.Goals as goal
 use Rattle.locating.proofs.locate_members.Goals.{then-bodies-gt-FEW, else-bodies-gt-FEW}
+
+pub start-start-requires : goal.start-start-requires
+start-start-requires c =
+    let low = member_low c.args.members.ends.count c.args.members.numbers.now c.loop-member.member-index (omega arith) c.args.members.inside in
+    let there = c.args.members.ends.bounded _ low in
+    rw c.from-constraint.ensures ((omega (arith, low, c.requires.few), λ h. (there.part h).low))
 
 pub slice_bounds-locate_part-end : goal.slice_bounds-locate_part-end
 slice_bounds-locate_part-end c = end_inside c.args.members.ends.bounded c.requires.arranged c.args.members.numbers.now c.args.members.inside c.loop-member.member-index (omega arith) c.loop-member.invariant (rw c.from-constraint.ensures at c.part-part.ensures) (rw c.from-constraint.ensures at c.start-start.ensures)

@@ -1,6 +1,5 @@
 -- One part more: of what is left one bound goes, and the part up to the next bound is passed. At the end less than two bounds are left.
 use Rattle.std.proofs.Common.{ℕ, suc, ◌+◌, ◌-◌, ◌≤◌, ◌<◌, max, ◌≡◌, refl, ap, ◌∙◌, List, arith, length, get_or, drop}
-use Rattle.std.proofs.lemmas.Grind.{common_steps}
 use Rattle.std.proofs.lemmas.Iterator.{window_more}
 use Rattle.std.specs.Slice.Iter.{windows_rest}
 use Rattle.lists.specs.Basics.{max_of, range}
@@ -40,7 +39,7 @@ loop-pair-preserved c =
     let v = c.loop-pair.invariant in
     let s = c.loop-pair.pair-iterator in
     let w = window_more c.args.bounds.now s c.next.new.self c.next.result c.in-Some.pair c.in-Some.is c.next.ensures.steps (omega (arith, v.two)) v.short v.left in
-    let m : c.max-largest.result ≡ max c.loop-pair.largest (get_or c.in-Some.pair.now 1 0 - get_or c.in-Some.pair.now 0 0) = grind (arith, common_steps) in
+    let m : c.max-largest.result ≡ max c.loop-pair.largest (get_or c.in-Some.pair.now 1 0 - get_or c.in-Some.pair.now 0 0) = c.max-largest.ensures in
     rw m (passed_more c.args.bounds.now (windows_rest s) (windows_rest c.next.new.self) _ c.loop-pair.largest _ _ (rw v.two at v) w.0 (rw v.two at w.2) w.1 (c.in-Some.ensures.steps.0 ∙ v.two)
     (w.3 0 0 (omega (arith, v.two))) (w.3 1 0 (omega (arith, v.two))))
 

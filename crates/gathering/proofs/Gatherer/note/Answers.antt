@@ -2,8 +2,8 @@
 use Rattle.gathering.proofs.Notes.{noted_new, noted_old}
 use Rattle.gathering.proofs.Gatherer.note.Goals as goal
 
-pub returns-then-stamp_body-eq0-clause-noted : goal.returns-then-stamp_body-eq0-clause-noted
-returns-then-stamp_body-eq0-clause-noted c = noted_old c.stamp_body.ensures c.args.self.now.end c.args.self.now.color_bodies.now c.if-stamp_body-eq0.true
+pub returns-then-not-stamp_body-clause-noted : goal.returns-then-not-stamp_body-clause-noted
+returns-then-not-stamp_body-clause-noted c = noted_old c.stamp_body.ensures c.args.self.now.end c.args.self.now.color_bodies.now c.if-not-stamp_body.true
 
 pub returns-clause-noted : goal.returns-clause-noted
-returns-clause-noted c = noted_new c.stamp_body.ensures c.args.self.now.end c.args.self.now.color_bodies.now c.if-stamp_body-eq0.false
+returns-clause-noted c = noted_new c.stamp_body.ensures c.args.self.now.end c.args.self.now.color_bodies.now c.if-not-stamp_body.false
