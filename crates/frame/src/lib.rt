@@ -1,5 +1,5 @@
 // Frames in the file form: the limits, questions 1 to 5 over a file's bytes, the decoding of an accepted file into lent
-// tables, and the questions that several calls put to their lists (5 and 7). `refusal` has the refusals and how a question is
+// tables, and the question that several calls put to their lists (5). `refusal` has the refusals and how a question is
 // put, `constraints` a list's constraints one after another and question 7 of them, `multi` the questions of constraints with
 // a count each, and `entries` the joints of a version 2 file. `Frame::read` answers every byte string.
 // `decode` is internal: a stage of the frame run, which calls it on a file that `Frame::read` accepted.
@@ -11,9 +11,9 @@ pub mod entries;
 pub mod multi;
 pub mod refusal;
 
-ghost use Rattle.std.specs.Prelude.{◌≡◌, ◌&&◌, ◌||◌, map, ◌+◌, ◌-◌, ◌*◌, ◌/◌, ◌%◌, ◌≤◌, ◌<◌, leb, ltb, eqb, length, get_or, take, drop, replicate, IfOk, ◌∷◌, []};
+ghost use Rattle.std.specs.Prelude.{◌≡◌, ◌&&◌, ◌||◌, map, ◌+◌, ◌-◌, ◌*◌, ◌/◌, ◌%◌, ◌≤◌, ◌<◌, leb, ltb, eqb, length, take, drop, replicate, IfOk, ◌∷◌, []};
 ghost use Rattle.lists.specs.Basics.{all};
-ghost use Rattle.frame.specs.Frames.{constraints_of, sound, conflicts, flag_of};
+ghost use Rattle.frame.specs.Frames.{conflicts, flag_of};
 ghost use Rattle.frame.specs.Questions.{asked, few_each, bits};
 ghost use Rattle.frame.specs.Files.{byte, half, word, second, pairs_from, enabled_from, count_m, count_j, joints_at, live_in, ends_at, version_question, head_questions};
 ghost use Rattle.frame.specs.Joints.{Placed, JointsRead, Passed};
@@ -22,7 +22,6 @@ ghost use Rattle.frame.specs.Lent.{SameFrame};
 ghost use Rattle.frame.specs.Answers.{version_of, Versioned, Read};
 ghost use Rattle.frame.specs.Refusals.{refused_by};
 
-use crate::constraints::Pairs;
 pub use crate::refusal::{Refusal, ask};
 use tables::entry_or;
 
@@ -419,18 +418,4 @@ pub fn ends_at(bytes: &[u8], constraint: usize) -> usize
         return pairs + PAIR * constraint;
     }
     pairs + PAIR * manifolds + JOINT * (constraint - manifolds)
-}
-
-// Whether constraint `i` is live: it has no enabled byte, or a byte 1.
-pub fn live_at(enabled: &[u8], i: usize) -> bool
-    ensures { result ≡ eqb (get_or enabled.now i 1) 1 }
-{
-    entry_or(enabled, i, 1) == 1
-}
-
-// Question 7 of a list of endpoint pairs; those with an enabled byte 0 are not looked at.
-pub fn all_sound(bodies: usize, pairs: &[u16], enabled: &[u8]) -> bool
-    ensures { result ≡ all (sound bodies) (constraints_of pairs.now enabled.now) }
-{
-    constraints::all_sound(bodies, Pairs { pairs, enabled })
 }
