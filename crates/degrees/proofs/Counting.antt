@@ -1,5 +1,5 @@
 -- What is counted and what is still to come make up the whole.
-use Rattle.std.proofs.Common.{ℕ, ◌+◌, ◌≤◌, ◌<◌, max, ◌≡◌, refl, sym, ap, ◌∙◌, Bool, true, false, ◌&&◌, List, [], ◌∷◌, arith, add-one, eqb, length, get_or, replicate}
+use Rattle.std.proofs.Common.{ℕ, suc, drop, drop-drop, get_or-drop, length-drop, ◌+◌, ◌≤◌, ◌<◌, max, ◌≡◌, refl, sym, ap, ◌∙◌, Bool, true, false, ◌&&◌, List, [], ◌∷◌, arith, add-one, eqb, length, get_or, replicate}
 use Rattle.std.proofs.Math.ListN.{length-replicate, get_or-replicate}
 use Rattle.lists.specs.Basics.{one, all, count, max_of, range, mem}
 use Rattle.lists.proofs.Laws.{and_left, and_right, or_right, mem_self, range_high, all_append, count-few}
@@ -29,6 +29,19 @@ max_ext_in g h (x ∷ xs) e = rw (e x (mem_self x xs), max_ext_in g h xs (λ y m
 
 pub largest_turn : (g : ℕ → ℕ) (i most more : ℕ) → most ≡ max_of g (range i) → more ≡ max most (g i) → more ≡ max_of g (range (i + 1))
 largest_turn g i most more e f = f ∙ rw (e, add-one) (sym (max-range-suc g i))
+
+-- x is the first entry behind the first n of a list: it stands at place n, and r are those behind it
+module _ (xs r : List ℕ) (n x : ℕ) (e : drop n xs ≡ x ∷ r) where
+  pub entry_next : get_or xs n 0 ≡ x
+  entry_next =
+      let z : n + 0 ≡ n = omega arith in
+      rw z at (sym (get_or-drop n xs 0 0)) ∙ ap (λ (l : List ℕ). get_or l 0 0) e
+
+  pub left_next : r ≡ drop (n + 1) xs
+  left_next = ap (drop 1) (sym e) ∙ drop-drop 1 n xs
+
+  pub place_next : n < length xs
+  place_next = let l : length (drop n xs) ≡ suc (length r) = ap length e in omega (arith, l, length-drop n xs)
 
 -- ---- a frame's constraints, counted from 0 on: manifolds, then joints
 

@@ -83,14 +83,15 @@ fn degree_of(body_type: u8, count: u16) -> u16
     }
 }
 
+// The most that a body counts for.
 fn largest(types: &[u8], counts: &[u16]) -> usize
     requires { length counts.now ≡ length types.now }
     ensures { result ≡ max_of (λ b. counted (get_or types.now b 0) (get_or counts.now b 0)) (range (length types.now)) }
 {
     let mut most: u16 = 0;
     // `most` is the largest of the bodies passed.
-    for body in 0..types.len() {
-        most = most.max(degree_of(types[body], counts[body]));
+    for (&body_type, &count) in types.iter().zip(counts) {
+        most = most.max(degree_of(body_type, count));
     }
     usize::from(most)
 }

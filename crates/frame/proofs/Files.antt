@@ -2,15 +2,16 @@
 use Rattle.std.proofs.Common.{ℕ, zero, suc, ◌+◌, ◌-◌, ◌*◌, ◌/◌, ◌≤◌, ◌<◌, ◌≡◌, refl, sym, ap, ◌∙◌, Bool, true, false, not, ◌&&◌, ◌||◌, cond, List, [], ◌∷◌, ◌++◌, map, arith, mul-suc, leb, ltb, eqb, length, get_or, drop, replicate, length-append, length-drop, length-take-le, get_or-append-add, leb-true, eqb-true, eq-eqb, ne_eqb, ltb-true, ltb-false}
 use Rattle.std.proofs.Math.ListN.{length-map, length-replicate, get_or-append}
 use Rattle.std.proofs.lemmas.Bool.{eqb-false}
-use Rattle.lists.specs.Basics.{all}
-use Rattle.lists.proofs.Laws.{and_left, and_right, and_both, by_cases, all_append, get_or-map-lt}
+use Rattle.lists.proofs.Laws.{and_left, and_right, by_cases, get_or-map-lt}
 use Rattle.frame.specs.Frames.{Constraint, Frame, nothing, constraints, constraint_at, constraints_of, counted_of, frame_of, counts_known, end_count}
 use Rattle.frame.specs.Questions.{asked, few_each, types_known, bits}
 use Rattle.frame.specs.Files.{byte, half, word, count_b, count_m, count_j, pairs_at, joints_at, ends_at, pairs_from, enabled_from, types_in, manifolds_in, joints_in, enabled_in, second, places_from, live_from, counts_in, joint_ends_in, live_in, walk_refusal, decode, head_questions, joint_questions, file_questions}
 use Rattle.frame.specs.Decodes.{all_counts}
+use Rattle.frame.specs.declared.Version.{Version}
+use Rattle.frame.specs.declared.Version.TheVariants.{First, Second}
+use Rattle.frame.specs.Answers.{version_of, with_counts}
 use Rattle.frame.specs.Joints.{joints_refusal}
 use Rattle.frame.proofs.Questions.{passed, asked-append, zero-cond, few-each}
-use Rattle.frame.proofs.Pairs.{pairs_two}
 use Rattle.frame.proofs.Decoding.{enabled-part}
 use Rattle.frame.proofs.Counted.{joints-counted, known-many}
 use Rattle.frame.proofs.Walks.{Whole, walk_cases, walk_begun, walk_short, walk_counts, place_whole, places_long, counts_long, live_long, ends_long, ends_in, entry_in, entries-joints}
@@ -293,3 +294,13 @@ module _ (bs : List ℕ) (n : ℕ) where
 -- a constraint of version 1 has two endpoints
 pub two-ends : (bs : List ℕ) (n : ℕ) → second bs ≡ false → n < count_m bs + count_j bs → length (constraint_at (decode bs) n).ends ≡ 2
 two-ends bs n v h = ap length (ends-first bs n v h)
+
+-- ---- the version
+
+pub counts_by_version : (b : Bool) → with_counts (cond b Second First) ≡ b
+counts_by_version true = refl
+counts_by_version false = refl
+
+-- the version of a file that is read says whether its version byte is 2
+pub second_by_version : (bs : List ℕ) (v : Version) → v ≡ version_of bs → second bs ≡ with_counts v
+second_by_version bs v e = sym (counts_by_version (second bs)) ∙ ap with_counts (sym e)

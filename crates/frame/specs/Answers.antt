@@ -1,5 +1,5 @@
 -- The answer of reading a file: its values.
-use Rattle.std.specs.Prelude.{ℕ, ◌≡◌, not, ◌||◌, cond, List, eqb, length, Result, Ok, Err, is_err, IfOk}
+use Rattle.std.specs.Prelude.{ℕ, ◌+◌, ◌*◌, ◌≡◌, Bool, true, false, not, ◌||◌, cond, List, eqb, length, Result, Ok, Err, is_err, IfOk}
 use Rattle.frame.specs.declared.Frame.{Frame}
 use Rattle.frame.specs.declared.Version.{Version}
 use Rattle.frame.specs.declared.Version.TheVariants.{First, Second}
@@ -33,3 +33,18 @@ pub record Read (bs : List ℕ) (r : Result Frame Refusal) : Type 0 where
   pub refusal : refused_by r ≡ asked (file_questions bs)
   pub refused : is_err r ≡ not (eqb (asked (file_questions bs)) 0)
   pub sizes : read_sizes r ≡ cond (eqb (asked (file_questions bs)) 0) (sizes_of bs) no_sizes
+
+-- ---- what question 6 of a run asks of the frame's sizes
+
+-- the constraints of a frame of version 2 have counts
+abbrev pub with_counts : Version → Bool
+with_counts First = false
+with_counts Second = true
+
+-- question 6 asks for so many endpoint entries: 2 * M + 4 * J where the constraints have counts
+abbrev pub entries_for : Bool → ℕ → ℕ → ℕ
+entries_for counted m j = cond counted (2 * m + 4 * j) (2 * (m + j))
+
+-- and for so many counts: none where they are pairs
+abbrev pub counts_room : Bool → ℕ → ℕ → ℕ
+counts_room counted m j = cond counted (m + j) 0

@@ -62,7 +62,7 @@ fn decode_halves(bytes: &[u8], from: usize, halves: &mut [u16])
     ensures { halves.new ≡ halves_from bytes.now from (length halves.old) }
 {
     for (k, half) in halves.iter_mut().enumerate() {
-        *half = half_at(bytes, from + 2 * k) as u16;
+        *half = half_at(bytes, from + 2 * k);
     }
 }
 
@@ -91,7 +91,8 @@ pub fn entry_places(bytes: &[u8], places: &mut [u16])
     requires { Placeable bytes.now places.old }
     ensures { places.new ≡ places_from bytes.now (joints_at bytes.now) (count_j bytes.now) }
 {
-    let mut at = HEADER + half_at(bytes, 5) + PAIR * half_at(bytes, 7);
+    let mut at =
+        HEADER + usize::from(half_at(bytes, 5)) + PAIR * usize::from(half_at(bytes, 7));
     // The places filled are those of the entries before place `at`.
     for place in places.iter_mut() {
         *place = at as u16;

@@ -1,5 +1,5 @@
 // Frames in the file form: the limits, questions 1 to 5 over a file's bytes, the decoding of an accepted file into lent
-// tables, and the questions that several calls put to their lists (5 and 7). `refusal` has the refusals and how a question is
+// tables, and the question that several calls put to their lists (5). `refusal` has the refusals and how a question is
 // put, `constraints` a list's constraints one after another and question 7 of them, `multi` the questions of constraints with
 // a count each, and `entries` the joints of a version 2 file. `Frame::read` answers every byte string.
 // `decode` is internal: a stage of the frame run, which calls it on a file that `Frame::read` accepted.
@@ -11,18 +11,17 @@ pub mod entries;
 pub mod multi;
 pub mod refusal;
 
-ghost use Rattle.std.specs.Prelude.{◌≡◌, ◌&&◌, ◌||◌, map, ◌+◌, ◌-◌, ◌*◌, ◌/◌, ◌%◌, ◌≤◌, ◌<◌, leb, ltb, eqb, length, get_or, take, drop, replicate, IfOk, ◌∷◌, []};
+ghost use Rattle.std.specs.Prelude.{◌≡◌, ◌&&◌, ◌||◌, map, ◌+◌, ◌-◌, ◌*◌, ◌/◌, ◌%◌, ◌≤◌, ◌<◌, leb, ltb, eqb, length, take, drop, replicate, IfOk, ◌∷◌, []};
 ghost use Rattle.lists.specs.Basics.{all};
-ghost use Rattle.frame.specs.Frames.{constraints_of, sound, conflicts, flag_of};
+ghost use Rattle.frame.specs.Frames.{conflicts, flag_of};
 ghost use Rattle.frame.specs.Questions.{asked, few_each, bits};
 ghost use Rattle.frame.specs.Files.{byte, half, word, second, pairs_from, enabled_from, count_m, count_j, joints_at, live_in, ends_at, version_question, head_questions};
 ghost use Rattle.frame.specs.Joints.{Placed, JointsRead, Passed};
 ghost use Rattle.frame.specs.Decodes.{ConstraintsDecodable, ConstraintsDecoded, Decodable, Decoded};
 ghost use Rattle.frame.specs.Lent.{SameFrame};
-ghost use Rattle.frame.specs.Answers.{version_of, Versioned, Read};
+ghost use Rattle.frame.specs.Answers.{version_of, Versioned, Read, with_counts, entries_for, counts_room};
 ghost use Rattle.frame.specs.Refusals.{refused_by};
 
-use crate::constraints::Pairs;
 pub use crate::refusal::{Refusal, ask};
 use tables::entry_or;
 
@@ -96,11 +95,11 @@ pub struct FrameTables<'a> {
 
 // The 16-bit number at a place, big-endian.
 #[tactic(auto, unfolding(crate::specs::Files::half))]
-fn half_at(bytes: &[u8], i: usize) -> usize
+fn half_at(bytes: &[u8], i: usize) -> u16
     requires { i + 2 ≤ length bytes.now }
-    ensures { (result ≡ half bytes.now i) × (result < 65536) }
+    ensures { result ≡ half bytes.now i }
 {
-    usize::from(u16::from_be_bytes([bytes[i], bytes[i + 1]]))
+    u16::from_be_bytes([bytes[i], bytes[i + 1]])
 }
 
 // The 32-bit number at a place, big-endian.
@@ -109,7 +108,7 @@ fn word_at(bytes: &[u8], i: usize) -> usize
     requires { i + 4 ≤ length bytes.now }
     ensures { (result ≡ word bytes.now i) × (result < 65536 * 65536) }
 {
-    half_at(bytes, i) * 65536 + half_at(bytes, i + 2)
+    usize::from(half_at(bytes, i)) * 65536 + usize::from(half_at(bytes, i + 2))
 }
 
 // Question 1, and the version of a file that passes it.
@@ -154,22 +153,29 @@ fn ask_head(bytes: &[u8]) -> Result<Version, Refusal>
 {
     let version = read_version(bytes)?;
     ask(length_right(bytes), Refusal::FileLength)?;
-    let few = few_each(half_at(bytes, 5), half_at(bytes, 7), half_at(bytes, 9));
+    let few = few_each(
+        usize::from(half_at(bytes, 5)),
+        usize::from(half_at(bytes, 7)),
+        usize::from(half_at(bytes, 9)),
+    );
     ask(few, Refusal::TooMany)?;
     Ok(version)
 }
 
 // Questions 5 (of counts) and 4 of a file's joints: the walk of version 2, the length of version 1. How many endpoints they have together.
-fn walk_joints(part: JointBytes<'_>) -> Result<usize, Refusal>
-    requires { Placed part }
+fn walk_joints(version: Version, part: JointBytes<'_>) -> Result<usize, Refusal>
+    requires placed { Placed part }
+    requires version { version ≡ version_of part.bytes.now }
     ensures { JointsRead part.entry.bytes.now result }
 {
-    if is_second(part.bytes) {
-        return entries::walk(part);
+    match version {
+        Version::Second => entries::walk(part),
+        Version::First => {
+            let end = part.from + JOINT * part.joints;
+            ask(part.bytes.len() == end, Refusal::Lengths)?;
+            Ok(2 * part.joints)
+        }
     }
-    let end = part.from + JOINT * part.joints;
-    ask(part.bytes.len() == end, Refusal::Lengths)?;
-    Ok(2 * part.joints)
 }
 
 // Question 5: is every byte at most `limit`? (`Frame::MAX_TYPE` for types, 1 for enabled bytes and flags)
@@ -197,14 +203,15 @@ fn enabled_known(joints: &[u8]) -> bool
 }
 
 // Question 5 of the enabled bytes, by version.
-fn live_known(part: JointBytes<'_>) -> bool
-    requires { Passed part }
+fn live_known(version: Version, part: JointBytes<'_>) -> bool
+    requires passed { Passed part }
+    requires version { version ≡ version_of part.bytes.now }
     ensures { result ≡ bits (live_in part.entry.bytes.now) }
 {
-    if is_second(part.bytes) {
-        return entries::enabled_known(part);
+    match version {
+        Version::Second => entries::enabled_known(part),
+        Version::First => enabled_known(&part.bytes[part.from..]),
     }
-    enabled_known(&part.bytes[part.from..])
 }
 
 impl Frame {
@@ -238,18 +245,18 @@ impl Frame {
         ensures { Read bytes.now result }
     {
         let version = ask_head(bytes)?;
-        let bodies = half_at(bytes, 5);
-        let manifolds = half_at(bytes, 7);
-        let joints = half_at(bytes, 9);
+        let bodies = usize::from(half_at(bytes, 5));
+        let manifolds = usize::from(half_at(bytes, 7));
+        let joints = usize::from(half_at(bytes, 9));
         let part = JointBytes {
             bytes,
             from: HEADER + bodies + PAIR * manifolds,
             joints,
         };
-        let joint_ends = walk_joints(part)?;
+        let joint_ends = walk_joints(version, part)?;
         let types = &bytes[HEADER..HEADER + bodies];
         ask(at_most(types, Frame::MAX_TYPE), Refusal::Values)?;
-        ask(live_known(part), Refusal::Values)?;
+        ask(live_known(version, part), Refusal::Values)?;
         Ok(Frame {
             version,
             bodies,
@@ -257,6 +264,28 @@ impl Frame {
             joints,
             joint_ends,
         })
+    }
+
+    // How many endpoint entries question 6 of a run asks for: four a joint where the constraints have counts, else two.
+    pub fn entries_for(self) -> usize
+        requires { (self.manifolds ≤ 4096) × (self.joints ≤ 4096) }
+        ensures { result ≡ entries_for (with_counts self.version) self.manifolds self.joints }
+    {
+        match self.version {
+            Version::First => 2 * (self.manifolds + self.joints),
+            Version::Second => 2 * self.manifolds + 4 * self.joints,
+        }
+    }
+
+    // And how many counts, to which a run cuts its tables of counts too: none where the constraints are pairs.
+    pub fn counts_room(self) -> usize
+        requires { (self.manifolds ≤ 4096) × (self.joints ≤ 4096) }
+        ensures { result ≡ counts_room (with_counts self.version) self.manifolds self.joints }
+    {
+        match self.version {
+            Version::First => 0,
+            Version::Second => self.manifolds + self.joints,
+        }
     }
 }
 
@@ -301,8 +330,8 @@ fn decode_pairs(bytes: &[u8], from: usize, step: usize, pairs: &mut [u16])
     let mut at = from;
     // The pairs before place `at` are in the first 2 * k entries.
     for k in 0..pairs.len() / 2 {
-        pairs[2 * k] = half_at(bytes, at) as u16;
-        pairs[2 * k + 1] = half_at(bytes, at + 2) as u16;
+        pairs[2 * k] = half_at(bytes, at);
+        pairs[2 * k + 1] = half_at(bytes, at + 2);
         at += step;
     }
 }
@@ -348,7 +377,7 @@ fn decode_constraints(
     ensures { ConstraintsDecoded bytes.now pairs.new counts.new enabled.new }
 {
     let n = 2 * manifolds;
-    let first = HEADER + half_at(bytes, 5);
+    let first = HEADER + usize::from(half_at(bytes, 5));
     decode_pairs(bytes, first, PAIR, &mut pairs[..n]);
     let from = first + PAIR * manifolds;
     if is_second(bytes) {
@@ -419,18 +448,4 @@ pub fn ends_at(bytes: &[u8], constraint: usize) -> usize
         return pairs + PAIR * constraint;
     }
     pairs + PAIR * manifolds + JOINT * (constraint - manifolds)
-}
-
-// Whether constraint `i` is live: it has no enabled byte, or a byte 1.
-pub fn live_at(enabled: &[u8], i: usize) -> bool
-    ensures { result ≡ eqb (get_or enabled.now i 1) 1 }
-{
-    entry_or(enabled, i, 1) == 1
-}
-
-// Question 7 of a list of endpoint pairs; those with an enabled byte 0 are not looked at.
-pub fn all_sound(bodies: usize, pairs: &[u16], enabled: &[u8]) -> bool
-    ensures { result ≡ all (sound bodies) (constraints_of pairs.now enabled.now) }
-{
-    constraints::all_sound(bodies, Pairs { pairs, enabled })
 }

@@ -2,10 +2,9 @@
 // several calls ask of such lists (questions 4, 5 and 7).
 ghost use Rattle.std.specs.Prelude.{◌≡◌, ◌&&◌, ◌≤◌, ltb, length};
 ghost use Rattle.lists.specs.Basics.{all, distinct};
-ghost use Rattle.frame.specs.Frames.{counted, counts_known, end_count, counted_of, fits, sound};
+ghost use Rattle.frame.specs.Frames.{counted, counts_known, end_count, fits};
 
-use crate::constraints::Counted;
-use crate::{Frame, constraints};
+use crate::Frame;
 
 // Is this the number of endpoints of a constraint, two to four?
 pub fn counted(count: usize) -> bool
@@ -56,19 +55,4 @@ pub fn ends_fit(bodies: usize, ends: &[u16]) -> bool
         return false;
     }
     distinct_below(ends, bodies)
-}
-
-// Question 7 of constraints by their counts; those with an enabled byte 0 are not looked at.
-pub fn all_fit(bodies: usize, ends: &[u16], counts: &[u8], enabled: &[u8]) -> bool
-    requires { end_count counts.now ≤ length ends.now }
-    ensures { result ≡ all (sound bodies) (counted_of counts.now ends.now enabled.now) }
-{
-    constraints::all_sound(
-        bodies,
-        Counted {
-            ends,
-            counts,
-            enabled,
-        },
-    )
 }

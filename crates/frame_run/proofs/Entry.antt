@@ -21,7 +21,7 @@ use Rattle.frame_tables.specs.Filled.{sound_refusal}
 use Rattle.run_answer.specs.declared.Report.{Report}
 use Rattle.run_answer.specs.Answers.{Asks}
 use Rattle.run_answer.specs.Lent.{Lent, with_counts, roomy_for, entries_for, counts_room}
-use Rattle.run_answer.proofs.Sizes.{counts_by_version}
+use Rattle.frame.proofs.Files.{counts_by_version}
 use Rattle.frame_run.specs.Calls.{roomy_in, refusal_in, Worked, WorkedCounts, Ran}
 use Rattle.frame_run.specs.Sized.{Cuttable, WornCounts, RoomySized, RanSized}
 use Rattle.frame_run.proofs.Runs.{all_asked, entries-few}

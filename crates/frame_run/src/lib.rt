@@ -84,7 +84,7 @@ fn run_sized(
 {
     let constraints = asked.manifolds + asked.joints;
     let entries = 2 * asked.manifolds + asked.joint_ends;
-    let counted = run_answer::counts_room(asked);
+    let counted = asked.counts_room();
     let filling = frame_tables::fill(
         frame,
         asked.manifolds,
@@ -134,7 +134,7 @@ fn run_cut(
     ensures same_by_island { SameByIsland by_island.old by_island.new }
     ensures same_plan { plan_lent.SameTables plan.old plan.new }
 {
-    let counted = run_answer::counts_room(asked);
+    let counted = asked.counts_room();
     let (types, _) = types.split_at_mut(asked.bodies);
     let (flags, _) = flags.split_at_mut(asked.bodies);
     let (pairs, _) = pairs.split_at_mut(2 * asked.manifolds + asked.joint_ends);

@@ -15,7 +15,8 @@ ghost use Rattle.multi_coloring.specs.Counts.{count_read, counts_read, positions
 ghost use Rattle.multi_coloring.specs.Calls.{fresh_multi, multi_holds, MultiUpdated, MultiLocated};
 
 use constraint_coloring::{ConstraintColoring, Update};
-use frame::{Frame, Refusal, ask};
+use frame::constraints::Counted;
+use frame::{Frame, Refusal, ask, constraints};
 use parts::Ends;
 use plan_questions::PlanTables;
 
@@ -110,8 +111,13 @@ fn ask_update(flags: &[u8], ends: &[u16], counts: &[u8], room: bool) -> Result<(
     let known = frame::at_most(flags, 1) & frame::multi::counts_known(counts);
     ask(known, Refusal::Values)?;
     ask(room, Refusal::Room)?;
+    let listed = Counted {
+        ends,
+        counts,
+        enabled: &[],
+    };
     ask(
-        frame::multi::all_fit(flags.len(), ends, counts, &[]),
+        constraints::all_sound(flags.len(), listed),
         Refusal::Endpoints,
     )
 }

@@ -8,7 +8,8 @@ ghost use Rattle.frame.specs.Refusals.{refused_by};
 ghost use Rattle.plan_questions.specs.Plans.{roomy, roomy_with, update_refusal, part, group_part};
 ghost use Rattle.plan_questions.specs.Lent.{tables_in};
 
-use frame::{Frame, Refusal, ask};
+use frame::constraints::Pairs;
+use frame::{Frame, Refusal, ask, constraints};
 
 // The thirteen tables of a plan, as its caller lends them.
 #[derive(Drop)]
@@ -90,7 +91,7 @@ pub fn ask_update(flags: &[u8], pairs: &[u16], room: bool) -> Result<(), Refusal
     ask(frame::at_most(flags, 1), Refusal::Values)?;
     ask(room, Refusal::Room)?;
     ask(
-        frame::all_sound(flags.len(), pairs, &[]),
+        constraints::all_sound(flags.len(), Pairs { pairs, enabled: &[] }),
         Refusal::Endpoints,
     )
 }

@@ -1,15 +1,10 @@
 -- The sizes of a file that was read, and the answer of one that was not.
-use Rattle.std.proofs.Common.{ℕ, ◌≤◌, ◌≡◌, List, Ok, refl, Bool, true, false, cond, sym}
-use Rattle.frame.specs.declared.Version.TheVariants.{First, Second}
+use Rattle.std.proofs.Common.{ℕ, ◌≤◌, ◌≡◌, List, Ok, sym}
 use Rattle.frame.specs.Files.{second}
 use Rattle.frame.specs.declared.Frame.{Frame}
 use Rattle.frame.specs.Answers.{sizes_of, Read}
-use Rattle.frame.proofs.Files.{file_sized}
+use Rattle.frame.proofs.Files.{file_sized, counts_by_version}
 use Rattle.run_answer.specs.Lent.{with_counts}
-
-pub counts_by_version : (b : Bool) → with_counts (cond b Second First) ≡ b
-counts_by_version true = refl
-counts_by_version false = refl
 
 module _ (bs : List ℕ) (f : Frame) (h : Read bs (Ok f)) where
   pub sizes_known : f ≡ sizes_of bs

@@ -1,7 +1,6 @@
 -- What a run is lent, and room in it.
-use Rattle.std.specs.Prelude.{ℕ, ◌+◌, ◌*◌, Bool, true, false, ◌&&◌, cond, List, leb, length}
-use Rattle.frame.specs.declared.Version.{Version}
-use Rattle.frame.specs.declared.Version.TheVariants.{First, Second}
+use Rattle.std.specs.Prelude.{ℕ, ◌+◌, ◌*◌, Bool, ◌&&◌, List, leb, length}
+pub use Rattle.frame.specs.Answers.{with_counts, entries_for, counts_room}
 use Rattle.island.specs.Calls.{IslandTables}
 use Rattle.island.specs.declared.IslandTables as island_code
 use Rattle.island.specs.Lent as island_lent
@@ -64,19 +63,6 @@ lent_in islands turns tables by_island plan plan_counts = record {
 }
 
 -- ---- question 6
-
--- the constraints of a frame of version 2 have counts
-abbrev pub with_counts : Version → Bool
-with_counts First = false
-with_counts Second = true
-
--- question 6 asks for so many endpoint entries: 2 * M + 4 * J where the constraints have counts
-abbrev pub entries_for : Bool → ℕ → ℕ → ℕ
-entries_for counted m j = cond counted (2 * m + 4 * j) (2 * (m + j))
-
--- and for so many counts: none where they are pairs
-abbrev pub counts_room : Bool → ℕ → ℕ → ℕ
-counts_room counted m j = cond counted (m + j) 0
 
 -- question 6, for a frame of b bodies, m manifolds and j joints, whose constraints have counts or are pairs
 unfoldable pub roomy_for : Bool → ℕ → ℕ → ℕ → Lent → Bool

@@ -6,9 +6,9 @@ mod numbers;
 
 ghost use Rattle.std.specs.Prelude.{◌≤◌, ◌≡◌};
 ghost use Rattle.run_answer.specs.Answers.{Asks, AnswerOf};
-ghost use Rattle.run_answer.specs.Lent.{lent_in, with_counts, entries_for, counts_room, roomy_for};
+ghost use Rattle.run_answer.specs.Lent.{lent_in, with_counts, roomy_for};
 
-use frame::{Frame, Refusal, Version};
+use frame::{Frame, Refusal};
 use frame_tables::{ByIsland, Filling, FrameTables};
 use island::IslandTables;
 use plan_questions::PlanTables;
@@ -21,28 +21,6 @@ pub struct Report {
     pub turns: usize,
     pub takes: usize,
     pub degree: usize,
-}
-
-// How many endpoint entries question 6 asks for: four a joint where the constraints have counts, else two.
-fn entries_for(sizes: Frame) -> usize
-    requires { (sizes.manifolds ≤ 4096) × (sizes.joints ≤ 4096) }
-    ensures { result ≡ entries_for (with_counts sizes.version) sizes.manifolds sizes.joints }
-{
-    match sizes.version {
-        Version::First => 2 * (sizes.manifolds + sizes.joints),
-        Version::Second => 2 * sizes.manifolds + 4 * sizes.joints,
-    }
-}
-
-// And how many counts, to which a run cuts its tables of counts too: none where the constraints are pairs.
-pub fn counts_room(sizes: Frame) -> usize
-    requires { (sizes.manifolds ≤ 4096) × (sizes.joints ≤ 4096) }
-    ensures { result ≡ counts_room (with_counts sizes.version) sizes.manifolds sizes.joints }
-{
-    match sizes.version {
-        Version::First => 0,
-        Version::Second => sizes.manifolds + sizes.joints,
-    }
 }
 
 // Question 6 of a frame of these sizes.
@@ -62,8 +40,8 @@ fn has_room_for(
 {
     let bodies = asked.bodies;
     let constraints = asked.manifolds + asked.joints;
-    let entries = entries_for(asked);
-    let counts = counts_room(asked);
+    let entries = asked.entries_for();
+    let counts = asked.counts_room();
     islands.has_room_for(bodies, asked.manifolds, asked.joints)
         & (3 * constraints <= turns.len())
         & (bodies <= tables.types.len())

@@ -12,7 +12,7 @@ loop-k-preserved c =
     let e : n - l.k ≡ suc (n - (l.k + 1)) = omega arith in
     let two : 2 * l.k + 2 ≡ 2 * (l.k + 1) = omega arith in (
       room_next l.at a.step (n - l.k) (n - (l.k + 1)) (length a.bytes.now) e l.invariant.0,
-      rw (← two) (pair_turn a.bytes.now l.pairs _ l.at a.step (n - l.k) (n - (l.k + 1)) (2 * l.k) _ _ (omega arith) e c.half_at.ensures.0 c.half_at-in-loop-k.ensures.0 l.invariant.1),
+      rw (← two) (pair_turn a.bytes.now l.pairs _ l.at a.step (n - l.k) (n - (l.k + 1)) (2 * l.k) _ _ (omega arith) e c.half_at.ensures c.half_at-in-loop-k.ensures l.invariant.1),
     )
 
 pub returns : goal.returns

@@ -14,7 +14,7 @@ loop-k-preserved c =
     let next : at + 2 ≡ c.args.from + 2 * (l.k + 1) = omega arith in
     let less : left - 1 ≡ length c.args.halves.now - (l.k + 1) = omega arith in
     rw (← next, ← less) (fill_turn l.halves (halves_from bs (at + 2) (left - 1)) _ l.k c.half_at.result (omega arith)
-    (rw (c.half_at.ensures.0) (ap (λ (xs : List ℕ). take l.k l.halves ++ xs) (sym (halves_next bs at left (omega arith))) ∙ l.invariant)))
+    (rw (c.half_at.ensures) (ap (λ (xs : List ℕ). take l.k l.halves ++ xs) (sym (halves_next bs at left (omega arith))) ∙ l.invariant)))
 
 pub returns : goal.returns
 returns c =

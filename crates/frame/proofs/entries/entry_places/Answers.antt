@@ -16,7 +16,7 @@ loop-place-preserved c =
     let n = length c.args.places.now in
     let h : l.place-index < n = omega arith in
     let some : 0 < n - l.place-index = omega arith in
-    let next : l.at + (2 + 2 * c.from.result) ≡ entry_end bs l.at = omega (arith, c.from.ensures) in
+    let next : l.at + (2 + 2 * c.from-in-loop-place.result) ≡ entry_end bs l.at = omega (arith, c.from-in-loop-place.ensures) in
     let less : n - l.place-index - 1 ≡ n - (l.place-index + 1) = omega arith in
     record {
       walked = rw less at (walk_next bs l.at (n - l.place-index) _ some l.invariant.walked next);
