@@ -73,16 +73,8 @@ pub struct Step<T> {
 fn rises_below(indices: &[u16], n: usize) -> bool
     ensures { result ≡ (rises indices.now && last_below n indices.now) }
 {
-    let mut low: usize = 0;
-    // `low` is the least that the next entry may be: one more than the entry before.
-    for &x in indices {
-        let entry = usize::from(x);
-        if entry < low {
-            return false;
-        }
-        low = entry + 1;
-    }
-    low <= n
+    indices.windows(2).all(|pair| pair[0] < pair[1])
+        && indices.last().is_none_or(|&x| usize::from(x) < n)
 }
 
 // Question 8, the only one left of known types.
@@ -183,22 +175,6 @@ fn take_body(marks: &mut [u8; Frame::MAX_BODIES], p: usize)
     }
 }
 
-// Questions 10 and 11: the lower place is taken before the higher one is asked, and stays taken if that one is gone.
-fn take_both(marks: &mut [u8; Frame::MAX_BODIES], low: usize, high: usize) -> Result<(), Refusal>
-    requires { (low < 4096) × (high < 4096) }
-    ensures { (refused_by result ≡ refusal_from 10 marks.old (low ∷ high ∷ [])) × (marks.new ≡ marks_from marks.old (low ∷ high ∷ [])) }
-{
-    if HELD < marks[low] {
-        return Err(Refusal::LowerTaken);
-    }
-    take_body(marks, low);
-    if HELD < marks[high] {
-        return Err(Refusal::HigherTaken);
-    }
-    take_body(marks, high);
-    Ok(())
-}
-
 impl BoundMarks<'_> {
     // All that a take does to the marks, with no copy: what a loop over a local binding calls. Its promise holds whatever bodies stand
     // beside the marks.
@@ -211,7 +187,7 @@ impl BoundMarks<'_> {
         }
         let first_dynamic = self.marks[a] == HELD;
         let second_dynamic = self.marks[b] == HELD;
-        take_both(self.marks, a.min(b), a.max(b))?;
+        multi::take_each(self.marks, &[a.min(b) as u16, a.max(b) as u16])?;
         Ok(Marked {
             first_dynamic,
             second_dynamic,

@@ -79,7 +79,7 @@ fn gone_at(i: usize) -> Refusal
 }
 
 // Questions 10 and 11, place after place: each is taken before the next is asked, and stays taken if that one is gone.
-fn take_each(marks: &mut [u8; Frame::MAX_BODIES], places: &[u16]) -> Result<(), Refusal>
+pub(crate) fn take_each(marks: &mut [u8; Frame::MAX_BODIES], places: &[u16]) -> Result<(), Refusal>
     requires { all (λ p. ltb p 4096) places.now ≡ true }
     ensures { (refused_by result ≡ refusal_from 10 marks.old places.now) × (marks.new ≡ marks_from marks.old places.now) }
 {

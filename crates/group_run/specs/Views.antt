@@ -8,7 +8,7 @@ use Rattle.group_run.specs.Appends.{seen, plan_calls}
 
 -- its plan as the lookups see it
 abbrev pub plan_in : PlannedIsland → Plan
-plan_in p = seen p.plan p.counts.now p.color_offsets.now p.colored_constraints.now p.color_body_offsets.now p.color_bodies.now p.positions.now
+plan_in p = seen p.plan p.counts.now p.members.offsets.now p.members.table.now p.bodies.offsets.now p.bodies.table.now p.positions.now
 
 -- the takes of the ranks rs in group k from a binding, and the takes of all its groups
 abbrev pub taken_from : PlannedIsland → ℕ → BodyBinding → List ℕ → List Call

@@ -4,9 +4,10 @@ ghost use Rattle.colored_bodies.specs.Bindings.{Known};
 ghost use Rattle.group_run.specs.Appends.{Countable};
 
 use constraint_coloring::ConstraintColoring;
+use parts::Grouped;
 
 // An island whose groups are run: the numbers of its constraints by rank, the types of the frame's bodies, and its plan with the counts
-// that it carries, the bounds that these make, and the tables that its lookups read. Without counts its constraints are pairs.
+// that it carries, the bounds that these make, and the tables that its lookups read: the members and the bodies of its groups, and positions. Without counts its constraints are pairs.
 #[derive(Clone, Copy)]
 pub struct PlannedIsland<'a> {
     pub island: u16,
@@ -15,10 +16,8 @@ pub struct PlannedIsland<'a> {
     pub plan: ConstraintColoring,
     pub counts: &'a [u8],
     pub bounds: &'a [u16],
-    pub color_offsets: &'a [u16],
-    pub colored_constraints: &'a [u16],
-    pub color_body_offsets: &'a [u16],
-    pub color_bodies: &'a [u16],
+    pub members: Grouped<'a>,
+    pub bodies: Grouped<'a>,
     pub positions: &'a [u16],
     ghost countable: { Countable plan counts.now bounds.now positions.now },
     ghost known: { Known types.now },
@@ -33,13 +32,13 @@ impl<'a> PlannedIsland<'a> {
         ensures { result.now ≡ bodies_in (plan_in self.entry) group }
     {
         self.plan
-            .bodies_in_schedule_group(self.color_body_offsets, self.color_bodies, group)
+            .bodies_in_schedule_group(self.bodies.offsets, self.bodies.table, group)
     }
 
     pub(crate) fn members_of(self, group: usize) -> &'a [u16]
         ensures { result.now ≡ members_in (plan_in self.entry) group }
     {
         self.plan
-            .constraints_in_schedule_group(self.color_offsets, self.colored_constraints, group)
+            .constraints_in_schedule_group(self.members.offsets, self.members.table, group)
     }
 }

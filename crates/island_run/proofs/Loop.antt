@@ -15,6 +15,8 @@ use Rattle.island_numbers.proofs.Sorting.{leading_taken, island_part, island_end
 use Rattle.island_numbers.proofs.Among.{ends-part, ends-next, ends_inside, counts-part, counts-next, counts_inside, ends_of_pairs, counts_of_pairs, ends_of-counted, counts_of_counted}
 use Rattle.group_run.proofs.Appends.{parts_next}
 use Rattle.one_island.specs.Island.{island_calls, Ready}
+use Rattle.turn_table.specs.declared.Tally.{Tally}
+use Rattle.turn_table.specs.Turns.{none}
 use Rattle.island_run.specs.Islands.{calls_at, calls_of, Prepared}
 use Rattle.island_run.proofs.Rooms.{SameLengths, room_kept}
 
@@ -145,3 +147,14 @@ module _ {islands : ℕ} {flags counts ends labels numbers island_ends island_co
         ≡ island_calls types flags pc (take (from + m - from) (drop from es)) i part ++ join_map (calls_at types flags counts ends labels) (range_from (i + 1) (islands - (i + 1)))
     unfolding calls_at
     island_next types = rw (ends_taken, part_counts, part_is) (parts_next (calls_at types flags counts ends labels) i islands inside)
+
+-- ---- the tally that the run begins with
+
+abbrev tally_of : ℕ → ℕ → Tally
+tally_of place takes = record { place = place; takes = takes }
+
+zeros : (a b : ℕ) → a ≡ 0 → b ≡ 0 → tally_of a b ≡ tally_of 0 0
+zeros a b p q = rw (p, q)
+
+pub tally_none : (t : Tally) → (t.place ≡ 0) × (t.takes ≡ 0) → t ≡ none
+tally_none t h = zeros t.place t.takes h.0 h.1

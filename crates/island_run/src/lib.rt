@@ -64,7 +64,7 @@ pub fn run_islands(
     );
     let mut table = TurnTable {
         turns,
-        tally: turn_table::no_turns(),
+        tally: Tally::default(),
     };
     let mut start: usize = 0;
     let mut ends_start: usize = 0;

@@ -31,8 +31,8 @@ pub record Planned (i : Island) (q : ConstraintColoring) (t : Tables) (p : Plann
   pub plan : p.plan ≡ q
   pub counts : p.counts.now ≡ i.counts.now
   pub bounds : p.bounds.now ≡ take (2 * length i.counts.now) t.body_constraints
-  pub color_offsets : p.color_offsets.now ≡ t.color_offsets
-  pub colored_constraints : p.colored_constraints.now ≡ t.colored_constraints
-  pub color_body_offsets : p.color_body_offsets.now ≡ t.color_body_offsets
-  pub color_bodies : p.color_bodies.now ≡ t.color_bodies
+  pub color_offsets : p.members.offsets.now ≡ t.color_offsets
+  pub colored_constraints : p.members.table.now ≡ t.colored_constraints
+  pub color_body_offsets : p.bodies.offsets.now ≡ t.color_body_offsets
+  pub color_bodies : p.bodies.table.now ≡ t.color_bodies
   pub positions : p.positions.now ≡ t.constraint_body_positions

@@ -13,6 +13,7 @@ use constraint_coloring::ConstraintColoring;
 use group_run::PlannedIsland;
 pub use lent::Island;
 use multi_coloring::MultiColoring;
+use parts::Grouped;
 use plan_questions::PlanTables;
 use turn_table::TurnTable;
 
@@ -91,6 +92,14 @@ fn planned_in<'a>(
     requires countable { Countable plan island.counts.now (take (2 * length island.counts.now) tables.now.body_constraints.now) tables.now.constraint_body_positions.now }
     ensures { Planned island.entry plan (tables_in tables.now) result }
 {
+    let members = Grouped {
+        table: tables.colored_constraints,
+        offsets: tables.color_offsets,
+    };
+    let bodies = Grouped {
+        table: tables.color_bodies,
+        offsets: tables.color_body_offsets,
+    };
     PlannedIsland {
         island: island.island,
         numbers: island.numbers,
@@ -98,10 +107,8 @@ fn planned_in<'a>(
         plan,
         counts: island.counts,
         bounds: &tables.body_constraints[..2 * island.counts.len()],
-        color_offsets: tables.color_offsets,
-        colored_constraints: tables.colored_constraints,
-        color_body_offsets: tables.color_body_offsets,
-        color_bodies: tables.color_bodies,
+        members,
+        bodies,
         positions: tables.constraint_body_positions,
     }
 }

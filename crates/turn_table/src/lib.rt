@@ -3,7 +3,7 @@
 
 ghost use Rattle.std.specs.Prelude.{◌≡◌, ◌+◌, ◌≤◌, length};
 ghost use Rattle.lists.specs.Basics.{put};
-ghost use Rattle.turn_table.specs.Turns.{turn_numbers, added_by_take, RoomIn, AppendedTo, none};
+ghost use Rattle.turn_table.specs.Turns.{turn_numbers, added_by_take, RoomIn, AppendedTo};
 
 use frame::Refusal;
 
@@ -16,17 +16,10 @@ pub struct Turn {
 }
 
 // The next place of the turn table, and how many dynamic bodies were taken.
-#[derive(Clone, Copy, Debug, PartialEq, Eq)]
+#[derive(Clone, Copy, Debug, Default, PartialEq, Eq)]
 pub struct Tally {
     pub place: usize,
     pub takes: usize,
-}
-
-// No turn yet.
-pub fn no_turns() -> Tally
-    ensures { result ≡ none }
-{
-    Tally { place: 0, takes: 0 }
 }
 
 // The turn table as it is lent, and its tally so far.
@@ -41,9 +34,7 @@ fn put_turn(turns: &mut [u16], place: usize, turn: Turn)
     requires { place + 3 ≤ length turns.old }
     ensures { turns.new ≡ put place (turn_numbers turn) turns.old }
 {
-    turns[place] = turn.island;
-    turns[place + 1] = turn.group;
-    turns[place + 2] = turn.number;
+    turns[place..place + 3].copy_from_slice(&[turn.island, turn.group, turn.number]);
 }
 
 impl TurnTable<'_> {

@@ -1,22 +1,16 @@
-use Rattle.std.proofs.Common.{ℕ, ◌+◌, ◌≤◌, ◌<◌, ◌≡◌, sym, ◌∙◌, false, List, le-leb, length, drop, get_or}
-use Rattle.std.proofs.lemmas.Bool.{lt-leb}
-use Rattle.colored_bodies.proofs.Rises.{rises_from, rises_is, rises-at, rises-end}
+-- `all` over the windows asks whether each entry is below the next, and the last entry bounds them all.
+use Rattle.std.proofs.Common.{rules, tests, ◌∙◌, sym, ◌≡◌}
+use Rattle.std.proofs.lemmas.Iterator.Search.{all_from_yields_List}
+use Rattle.lists.specs.Basics.{rises}
+use Rattle.colored_bodies.proofs.Rises.{goes_up, pairs_rise, yields_pairs, last_told}
 use Rattle.colored_bodies.proofs.rises_below.Goals as goal
+use Rattle.colored_bodies.proofs.rises_below.Goals.{After-all}
 
-next : (low n : ℕ) (l : List ℕ) (i : ℕ) → i < length l → low ≤ get_or l i 0 → rises_from (get_or l i 0 + 1) n (drop (i + 1) l) ≡ rises_from low n (drop i l)
-next low n l i h a = sym (rises-at low n l i h ∙ simp (le-leb _ _ a))
+up : (c : After-all) → c.all.result ≡ rises c.args.indices.now
+up c = all_from_yields_List goes_up _ _ c.all.result c.all.ensures.ran (yields_pairs c.args.indices.now c.windows.ensures.size c.windows.ensures.rest) (λ x b q k. search (rules, tests)) ∙ pairs_rise c.args.indices.now
 
-stop : (low n : ℕ) (l : List ℕ) (i : ℕ) → i < length l → get_or l i 0 < low → false ≡ rises_from low n (drop i l)
-stop low n l i h a = sym (rises-at low n l i h ∙ simp (lt-leb _ _ a))
+pub returns-then-all : goal.returns-then-all
+returns-then-all c = rw (sym (up (goal.at.returns-then-all c).After-all) ∙ c.if-all.true) (last_told c.args.n c.args.indices.now c.last.result c.is_none_or.result c.last.ensures.value (search (rules, tests)))
 
-pub loop-x-init : goal.loop-x-init
-loop-x-init c = rises_is _ _
-
-pub returns-then-entry-low : goal.returns-then-entry-low
-returns-then-entry-low c = stop _ _ _ _ c.loop-x-test.true (rw c.from-entry.ensures at c.if-entry-low.true) ∙ c.loop-x.invariant
-
-pub loop-x-preserved : goal.loop-x-preserved
-loop-x-preserved c = rw c.from-entry.ensures (next _ _ _ _ c.loop-x-test.true (rw c.from-entry.ensures at c.if-entry-low.false) ∙ c.loop-x.invariant)
-
-pub returns : goal.returns
-returns c = sym (rises-end _ _ _ _ c.loop-x-test.false) ∙ c.loop-x.invariant
+pub returns-else-all : goal.returns-else-all
+returns-else-all c = rw (sym (up (goal.at.returns-else-all c).After-all) ∙ c.if-all.false) c.if-all.false

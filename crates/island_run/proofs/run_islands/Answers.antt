@@ -2,7 +2,7 @@ use Rattle.std.proofs.Common.{rules, ◌+◌, ◌-◌, ◌≤◌, ◌≡◌, sym
 use Rattle.groups.proofs.Tables.{flatten-zero}
 use Rattle.group_run.proofs.Appends.{going_first, going_room, going_more}
 use Rattle.island_numbers.specs.Numbers.{counts_among}
-use Rattle.island_run.proofs.Loop.{islands-first, first-ends, part_count, next_start, part_inside, part-few, counts_there, counts_taken, counts-few, ends_next, ends_there, ready, island_next}
+use Rattle.island_run.proofs.Loop.{islands-first, first-ends, part_count, next_start, part_inside, part-few, counts_there, counts_taken, counts-few, ends_next, ends_there, ready, island_next, tally_none}
 use Rattle.island_run.proofs.Rooms.{lengths_same, same_twice}
 use Rattle.island_run.proofs.run_islands.Goals as goal
 use Rattle.island_run.proofs.run_islands.Goals.{After-part_end-end, After-count_ends}
@@ -59,7 +59,7 @@ run_island-requires-clause-ready c =
 
 pub run_island-requires-clause-room : goal.run_island-requires-clause-room
 run_island-requires-clause-room c =
-    going_room (rw c.no_turns.ensures c.requires.room) c.loop-island.invariant.2 _ _
+    going_room (rw (tally_none _ c.default.ensures) c.requires.room) c.loop-island.invariant.2 _ _
     (island_next c.requires.prepared (omega arith) c.loop-island.invariant.0 c.part_end-end.ensures
     (counts (goal.at.run_island-requires-clause-room c).After-count_ends) c.collect.ensures.0 c.loop-island.invariant.1 c.count_ends.ensures _)
 
@@ -68,7 +68,7 @@ loop-island-preserved c =
     let pc = counts (goal.at.loop-island-preserved c).After-count_ends in (
       next_start c.requires.prepared (omega arith) c.loop-island.invariant.0 c.part_end-end.ensures,
       ends_next c.requires.prepared (omega arith) c.loop-island.invariant.0 c.part_end-end.ensures pc c.collect.ensures.0 c.loop-island.invariant.1 c.count_ends.ensures,
-      going_more (rw c.no_turns.ensures c.requires.room) c.loop-island.invariant.2 _ _ _
+      going_more (rw (tally_none _ c.default.ensures) c.requires.room) c.loop-island.invariant.2 _ _ _
           (island_next c.requires.prepared (omega arith) c.loop-island.invariant.0 c.part_end-end.ensures pc c.collect.ensures.0 c.loop-island.invariant.1 c.count_ends.ensures _)
           c.run_island.ensures.appended,
       same_twice c.loop-island.invariant.3 c.run_island.ensures.same_tables,
