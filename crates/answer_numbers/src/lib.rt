@@ -1,7 +1,7 @@
 // Answers as numbers, for the calls of C. Internal to the boundary.
 #![tactic(auto)]
 
-ghost use Rattle.std.specs.Prelude.{◌≡◌, cond, eqb, get_or};
+ghost use Rattle.std.specs.Prelude.{◌≡◌, Ok, cond, eqb, get_or};
 ghost use Rattle.frame.specs.Refusals.{refused_by};
 ghost use Rattle.constraint_coloring.specs.Calls.{positions_values};
 ghost use Rattle.answer_numbers.specs.Numbers.{placed, handed_numbers, taken_numbers};
@@ -32,50 +32,48 @@ pub fn locate<const N: usize>(answer: Result<&[u16], Refusal>, places: &mut [u16
     refusal_number(&answer)
 }
 
-// The answer of a take as numbers.
+// The bodies that a take hands as numbers: each with 1 for "dynamic" or 0 for "read-only".
+fn numbers_of(taken: Taken) -> [u16; 4]
+    ensures { result ≡ handed_numbers (Ok taken) }
+{
+    [
+        taken.first,
+        u16::from(taken.first_dynamic),
+        taken.second,
+        u16::from(taken.second_dynamic),
+    ]
+}
+
+// The same of a take of two to four positions.
+fn numbers_at(taken: TakenAt) -> [u16; 8]
+    ensures { result ≡ taken_numbers (Ok taken) }
+{
+    let bodies = taken.bodies;
+    let dynamic = taken.dynamic;
+    [
+        bodies[0],
+        u16::from(dynamic[0]),
+        bodies[1],
+        u16::from(dynamic[1]),
+        bodies[2],
+        u16::from(dynamic[2]),
+        bodies[3],
+        u16::from(dynamic[3]),
+    ]
+}
+
+// The answer of a take as numbers: zeros where it is refused.
 pub fn hand(taken: Result<Taken, Refusal>, handed: &mut [u16; 4]) -> u8
     ensures { (result ≡ refused_by taken) × (handed.new ≡ handed_numbers taken) }
 {
-    match taken {
-        Ok(taken) => {
-            *handed = [
-                taken.first,
-                u16::from(taken.first_dynamic),
-                taken.second,
-                u16::from(taken.second_dynamic),
-            ];
-            0
-        }
-        Err(refusal) => {
-            *handed = [0, 0, 0, 0];
-            refusal.number()
-        }
-    }
+    *handed = taken.map_or([0; 4], numbers_of);
+    refusal_number(&taken)
 }
 
 // The answer of a take of two to four positions as numbers.
 pub fn hand_taken(taken: Result<TakenAt, Refusal>, handed: &mut [u16; 8]) -> u8
     ensures { (result ≡ refused_by taken) × (handed.new ≡ taken_numbers taken) }
 {
-    match taken {
-        Ok(taken) => {
-            let bodies = taken.bodies;
-            let dynamic = taken.dynamic;
-            *handed = [
-                bodies[0],
-                u16::from(dynamic[0]),
-                bodies[1],
-                u16::from(dynamic[1]),
-                bodies[2],
-                u16::from(dynamic[2]),
-                bodies[3],
-                u16::from(dynamic[3]),
-            ];
-            0
-        }
-        Err(refusal) => {
-            *handed = [0, 0, 0, 0, 0, 0, 0, 0];
-            refusal.number()
-        }
-    }
+    *handed = taken.map_or([0; 8], numbers_at);
+    refusal_number(&taken)
 }

@@ -1,5 +1,5 @@
 -- The frame that stands in a run's tables, the refusal of its islands call, and what counting D needs.
-use Rattle.std.specs.Prelude.{ℕ, ◌*◌, ◌≤◌, ◌≡◌, Bool, true, cond, Result, List, length, take, drop}
+use Rattle.std.specs.Prelude.{ℕ, ◌*◌, ◌≤◌, ◌≡◌, true, cond, Result, List, eqb, length, take, drop}
 use Rattle.frame.specs.declared.Lists.{Lists}
 use Rattle.frame.specs.declared.refusal.Refusal.{Refusal}
 use Rattle.frame.specs.Lists.{frame_in}
@@ -15,11 +15,11 @@ pub record Standing (ts ps : List ℕ) (m : ℕ) (cs es : List ℕ) (l : Lists) 
   pub joint_counts : l.joint_counts.now ≡ drop m cs
   pub enabled : l.enabled.now ≡ es
 
--- the refusal of their islands call, where constraints have counts or not
-abbrev pub standing_refusal : Bool → Lists → Rooms → ℕ
-standing_refusal counted l r = cond counted
-    (multi_island_refusal l.types.now l.manifolds.now l.joint_ends.now l.joint_counts.now l.enabled.now r)
+-- the refusal of their islands call: of pairs where there are no counts
+abbrev pub standing_refusal : Lists → Rooms → ℕ
+standing_refusal l r = cond (eqb (length l.joint_counts.now) 0)
     (island_refusal l.types.now l.manifolds.now l.joint_ends.now l.enabled.now r)
+    (multi_island_refusal l.types.now l.manifolds.now l.joint_ends.now l.joint_counts.now l.enabled.now r)
 
 -- unless the islands' call refused them, they passed question 7; the joints' counts make no more endpoints than there are
 pub record Countable (built : Result ℕ Refusal) (l : Lists) (on_bodies : List ℕ) : Type 0 where

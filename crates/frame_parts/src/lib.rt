@@ -2,7 +2,7 @@
 // island, on tables that hold the manifolds' part before the joints'.
 #![tactic(auto)]
 
-ghost use Rattle.std.specs.Prelude.{◌+◌, ◌*◌, ◌≤◌, ◌≡◌, false, cond, ◌++◌, eqb, length, take, drop};
+ghost use Rattle.std.specs.Prelude.{◌+◌, ◌*◌, ◌≤◌, ◌≡◌, cond, ◌++◌, eqb, length, take, drop};
 ghost use Rattle.frame.specs.Frames.{degree_max};
 ghost use Rattle.frame.specs.Lists.{frame_in};
 ghost use Rattle.frame.specs.Refusals.{refused_by};
@@ -45,17 +45,16 @@ pub fn lists_of<'a>(
     }
 }
 
-// Its islands; where the constraints have no counts the joints are pairs.
-pub fn build(lists: Lists<'_>, counted: bool, tables: &mut IslandTables<'_>) -> Result<u16, Refusal>
-    requires { counted ≡ false → length lists.joint_counts.now ≡ 0 }
-    ensures built { Built (frame_in lists.entry) (standing_refusal counted lists.entry (rooms_of (tables_in tables.old)))
+// Its islands; without counts the joints are pairs.
+pub fn build(lists: Lists<'_>, tables: &mut IslandTables<'_>) -> Result<u16, Refusal>
+    ensures built { Built (frame_in lists.entry) (standing_refusal lists.entry (rooms_of (tables_in tables.old)))
         (tables_in tables.old) (tables_in tables.new) (refused_by result) (answer_islands result) }
     ensures same { SameTables tables.old tables.new }
 {
-    if counted {
-        return island::build_with_multi_joints(lists, tables);
+    if lists.joint_counts.is_empty() {
+        return island::build_with_joints(lists, tables);
     }
-    island::build_with_joints(lists, tables)
+    island::build_with_multi_joints(lists, tables)
 }
 
 // D, or 0 of a frame whose islands were refused. The table is free.

@@ -1,6 +1,6 @@
 -- Once questions 1 to 6 are passed, an islands call asks only 7, with counts or without. Its labels, read from the front of the lent tables,
 -- are the frame's, or none after 7, and either way they can be sorted.
-use Rattle.std.proofs.Common.{ℕ, ◌+◌, ◌*◌, ◌/◌, ◌%◌, ◌≤◌, ◌≡◌, refl, sym, ap, ◌∙◌, subst, true, false, not, cond, List, Result, Ok, Err, [], ◌∷◌, ◌++◌, map, arith, eqb, length, take, drop, replicate, take_at, drop_at, length-take-le, le-leb, eq-eqb, eqb-true}
+use Rattle.std.proofs.Common.{ℕ, ◌+◌, ◌*◌, ◌/◌, ◌%◌, ◌≤◌, ◌≡◌, refl, sym, ap, ◌∙◌, subst, true, false, cond, List, Result, Ok, Err, [], ◌∷◌, ◌++◌, map, arith, eqb, length, take, drop, replicate, take_at, drop_at, length-take-le, le-leb, eq-eqb, eqb-true}
 use Rattle.std.proofs.Math.ListN.{length-map, length-replicate, replicate-append-replicate}
 use Rattle.std.proofs.Math.Seq.{drop-nil}
 use Rattle.std.proofs.lemmas.Bool.{eqb-false}
@@ -92,10 +92,6 @@ module _ (bs : List ℕ) (e : asked (file_questions bs) ≡ 0) where
   -- ---- the frame that stands in the decoded tables
 
   module _ (m : ℕ) (ts fs ps cs es : List ℕ) (em : m ≡ count_m bs) (d : Decoded bs ts fs ps cs es) where
-    -- with counts the file is of version 2
-    counted-second : (length cs ≡ 0 → ⊥) → second bs ≡ true
-    counted-second n = some_counts bs (λ z. n (ap length d.counts ∙ z))
-
     module _ (l : Lists) (stands : Standing ts ps m cs es l) where
       types-are : l.types.now ≡ types_in bs
       types-are = stands.types ∙ d.types
@@ -116,18 +112,27 @@ module _ (bs : List ℕ) (e : asked (file_questions bs) ≡ 0) where
       unfolding decode
       frame_is = rw (types-are, front, rest, joints-counted, live-are)
 
-      pub no_joint_counts : length cs ≡ 0 → length l.joint_counts.now ≡ 0
-      no_joint_counts z = ap length (joints-counted ∙ (no_counts bs (sym (ap length d.counts) ∙ z)).0)
+      -- without counts of joints all joints are pairs
+      none_counted : length l.joint_counts.now ≡ 0 → (counts_in bs ≡ []) × (length (joint_ends_in bs) ≡ 2 * count_j bs)
+      none_counted z = by_cases (second bs)
+          (λ v.
+          let c : counts_in bs ≡ [] = no_length (counts_in bs) (ap length (sym joints-counted) ∙ z) in
+          (c, omega (arith, ends-second_long bs v, ap end_count c, counts-second_long bs v, ap length c)))
+          (λ v. (rw v, ends-first_long bs v))
+
+      -- with them the file is of version 2
+      some_counted : (length l.joint_counts.now ≡ 0 → ⊥) → second bs ≡ true
+      some_counted n = by_cases (second bs) (λ v. v) (λ v. absurd (n (ap length joints-counted ∙ rw v refl)))
 
       module _ (t : IslandTables) (ns ks ss os ds : List ℕ) (room : Roomy bs t ns ks ss os ds) where
         abbrev rooms : Rooms
         rooms = rooms_of t
 
-        pairs_refusal : length cs ≡ 0 → island_refusal l.types.now l.manifolds.now l.joint_ends.now l.enabled.now rooms ≡ sound_refusal bs
+        pairs_refusal : length l.joint_counts.now ≡ 0 → island_refusal l.types.now l.manifolds.now l.joint_ends.now l.enabled.now rooms ≡ sound_refusal bs
         unfolding island_refusal sound_refusal few_each decode
         pairs_refusal z =
             let lm = manifold_ends_long bs in
-            let no = no_counts bs (sym (ap length d.counts) ∙ z) in
+            let no = none_counted z in
             let lj = no.1 in
             rw (
               front,
@@ -149,11 +154,11 @@ module _ (bs : List ℕ) (e : asked (file_questions bs) ≡ 0) where
               le-leb (length (joint_ends_in bs) / 2) (length t.joint_islands) (omega (arith, lj, room.islands.joint_islands)),
             )
 
-        counts-refusal : (length cs ≡ 0 → ⊥) → multi_island_refusal l.types.now l.manifolds.now l.joint_ends.now l.joint_counts.now l.enabled.now rooms ≡ sound_refusal bs
+        counts-refusal : (length l.joint_counts.now ≡ 0 → ⊥) → multi_island_refusal l.types.now l.manifolds.now l.joint_ends.now l.joint_counts.now l.enabled.now rooms ≡ sound_refusal bs
         unfolding multi_island_refusal sound_refusal few_each decode
         counts-refusal n =
             let lm = manifold_ends_long bs in
-            let v = counted-second n in
+            let v = some_counted n in
             let lc = counts-second_long bs v in
             rw (
               front,
@@ -176,14 +181,14 @@ module _ (bs : List ℕ) (e : asked (file_questions bs) ≡ 0) where
               le-leb (length (counts_in bs)) (length t.joint_islands) (omega (arith, lc, room.islands.joint_islands)),
             )
 
-        refusal_is : standing_refusal (not (eqb (length cs) 0)) l rooms ≡ sound_refusal bs
-        refusal_is = by_cases (eqb (length cs) 0)
-            (λ z. rw z (pairs_refusal (eqb-true (length cs) 0 z)))
-            (λ z. rw z (counts-refusal (eqb-false (length cs) 0 z)))
+        refusal_is : standing_refusal l rooms ≡ sound_refusal bs
+        refusal_is = by_cases (eqb (length l.joint_counts.now) 0)
+            (λ z. rw z (pairs_refusal (eqb-true (length l.joint_counts.now) 0 z)))
+            (λ z. rw z (counts-refusal (eqb-false (length l.joint_counts.now) 0 z)))
 
         -- ---- after the islands' call, whose answer is r
 
-        module _ (u : IslandTables) (r : Result ℕ Refusal) (h : Built (frame_in l) (standing_refusal (not (eqb (length cs) 0)) l rooms) t u (refused_by r) (answer_islands r)) where
+        module _ (u : IslandTables) (r : Result ℕ Refusal) (h : Built (frame_in l) (standing_refusal l rooms) t u (refused_by r) (answer_islands r)) where
           pub built : Built f (sound_refusal bs) t u (refused_by r) (answer_islands r)
           built = rw (frame_is, refusal_is) at h
 

@@ -66,10 +66,9 @@ pub fn fill(
     ensures plan_lengths { plan_lent.lengths_of (plan_lent.tables_in plan.new) ≡ plan_lent.lengths_of (plan_lent.tables_in plan.old) }
 {
     frame::decode(frame, manifolds, tables);
-    let counted = tables.counts.len() != 0;
     let joints = tables.enabled.len();
     let lists = lists_in(tables, manifolds);
-    let built = frame_parts::build(lists, counted, islands);
+    let built = frame_parts::build(lists, islands);
     let degree = frame_parts::degree_of(built, lists, plan.body_stamps);
     frame_parts::sort(
         islands,

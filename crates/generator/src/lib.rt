@@ -30,7 +30,7 @@ pub fn wrapping_mul(a: u32, b: u32) -> u32
 fn next_state(s: u32) -> u32
     ensures { result ≡ next_state s }
 {
-    std::num::wrapping_add_u32(wrapping_mul(1664525, s), 1013904223)
+    wrapping_mul(1664525, s).wrapping_add(1013904223)
 }
 
 // How many bodies pairs are drawn of, at most 4,096.

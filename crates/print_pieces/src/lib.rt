@@ -48,8 +48,7 @@ pub struct Piece {
 }
 
 // The answer to an input, with its turns in the turn table.
-fn answer_to(frame: &[u8], turns: &mut [u16]) -> Result<Report, Refusal>
-    requires { 24576 ≤ length turns.old }
+fn answer_to(frame: &[u8], turns: &mut [u16; TURNS]) -> Result<Report, Refusal>
     ensures { InputAnswered frame.now turns.old turns.new result }
 {
     if Frame::MAX_BYTES < frame.len() {
@@ -59,8 +58,8 @@ fn answer_to(frame: &[u8], turns: &mut [u16]) -> Result<Report, Refusal>
 }
 
 // The places of an accepted file's joints, from the table's first entry on; version 1 needs none.
-fn place_joints(frame: &[u8], places: &mut [u16])
-    requires { (asked (file_questions frame.now) ≡ 0) × (4096 ≤ length places.old) }
+fn place_joints(frame: &[u8], places: &mut [u16; PLACES])
+    requires { asked (file_questions frame.now) ≡ 0 }
     ensures { second frame.now ≡ true → Standing frame.now places.new }
 {
     if frame::is_second(frame) {

@@ -9,7 +9,6 @@ use Rattle.frame.proofs.Walks.{Whole, halves_long}
 use Rattle.frame.proofs.Files.{file-entry, ends_manifold, ends-first, ends-second}
 use Rattle.schedules.specs.Print.{decimal, spaced, turn_line, turn_lines}
 use Rattle.print_fields.specs.Puts.{if_left}
-use Rattle.printing.specs.declared.Ends.{Ends}
 use Rattle.printing.specs.Turns.{Standing, EndsStand, longest_turn, longest_of, line_of, ready, if_ready, gathered, turns_from, lines_of, Lines}
 use Rattle.turn_table.specs.declared.Turn.{Turn}
 use Rattle.turn_table.specs.Turns.{turn_numbers}
@@ -22,14 +21,14 @@ use Rattle.printing.proofs.Lines.{turn_short}
 
 -- where the endpoints of constraint n stand: a pair's, by arithmetic; a joint's of version 2, in its entry
 module _ (bs : List ℕ) (n : ℕ) where
-  pair_stands : (s : ℕ) → (constraint_at (decode bs) n).ends ≡ half bs s ∷ half bs (s + 2) ∷ [] → EndsStand bs n (record { at = s; count = 2 })
+  pair_stands : (s : ℕ) → (constraint_at (decode bs) n).ends ≡ half bs s ∷ half bs (s + 2) ∷ [] → EndsStand bs n s 2
   unfolding halves_from
   pair_stands s e = record { ends = sym e; least = omega arith; most = omega arith }
 
-  pub first_stands : n < count_m bs + count_j bs → second bs ≡ false → EndsStand bs n (record { at = ends_at bs n; count = 2 })
+  pub first_stands : n < count_m bs + count_j bs → second bs ≡ false → EndsStand bs n (ends_at bs n) 2
   first_stands h v = pair_stands (ends_at bs n) (ends-first bs n v h)
 
-  pub manifold_stands : n < count_m bs → EndsStand bs n (record { at = ends_at bs n; count = 2 })
+  pub manifold_stands : n < count_m bs → EndsStand bs n (ends_at bs n) 2
   manifold_stands h = rw (lt-ltb n (count_m bs) h) (pair_stands (pairs_at bs + 4 * n) (ends_manifold bs n h))
 
   -- the place of the entry of a joint
@@ -40,7 +39,7 @@ module _ (bs : List ℕ) (n : ℕ) where
     entry_whole : Whole bs entry_of
     entry_whole = file-entry bs f v (n - count_m bs) (omega arith)
 
-    pub joint_stands : EndsStand bs n (record { at = entry_of + 2; count = count_at bs entry_of })
+    pub joint_stands : EndsStand bs n (entry_of + 2) (count_at bs entry_of)
     joint_stands =
         let w = entry_whole in
         record { ends = sym (ends-second bs n v m h); least = w.least; most = w.most }
@@ -51,31 +50,31 @@ module _ (bs : List ℕ) (n : ℕ) where
       place_is : get_or ps (n - count_m bs) 0 ≡ entry_of
       place_is = sym (get_or-take (count_j bs) ps (n - count_m bs) 0 (omega arith)) ∙ ap (λ (l : List ℕ). get_or l (n - count_m bs) 0) w.places
 
-      pub place_stands : EndsStand bs n (record { at = get_or ps (n - count_m bs) 0 + 2; count = count_at bs (get_or ps (n - count_m bs) 0) })
+      pub place_stands : EndsStand bs n (get_or ps (n - count_m bs) 0 + 2) (count_at bs (get_or ps (n - count_m bs) 0))
       place_stands = rw place_is (joint_stands h v w.file m)
 
 -- the line, from where they stand
-module _ (bs : List ℕ) (i k n : ℕ) (e : Ends) (w : EndsStand bs n e) where
-  line_at : turn_line i k n (halves_from bs e.at e.count) ≡ line_of bs i k n
+module _ (bs : List ℕ) (i k n s c : ℕ) (w : EndsStand bs n s c) where
+  line_at : turn_line i k n (halves_from bs s c) ≡ line_of bs i k n
   unfolding line_of
   line_at = ap (turn_line i k n) w.ends
 
-  count_is : e.count ≡ length (constraint_at (decode bs) n).ends
-  count_is = sym (halves_long bs e.at e.count) ∙ ap length w.ends
+  count_is : c ≡ length (constraint_at (decode bs) n).ends
+  count_is = sym (halves_long bs s c) ∙ ap length w.ends
 
   short_line : length (line_of bs i k n) ≤ longest_of bs n
   short_line =
       subst (λ (c : ℕ). length (line_of bs i k n) ≤ longest_turn c) count_is
-      (subst (λ (l : List ℕ). length l ≤ longest_turn e.count) line_at (turn_short bs e.at e.count (omega (arith, w.least)) i k n w.most))
+      (subst (λ (l : List ℕ). length l ≤ longest_turn c) line_at (turn_short bs s c (omega (arith, w.least)) i k n w.most))
 
 -- no line of an accepted file is too long
 line_short : (bs : List ℕ) (i k n : ℕ) → (second bs ≡ true → asked (file_questions bs) ≡ 0) → n < count_m bs + count_j bs → length (line_of bs i k n) ≤ longest_of bs n
 line_short bs i k n f h =
     by_cases (second bs)
     (λ v. by_cases (ltb n (count_m bs))
-    (λ t. short_line bs i k n _ (manifold_stands bs n (ltb-true n (count_m bs) t)))
-    (λ t. short_line bs i k n _ (joint_stands bs n h v (f v) (ltb-false n (count_m bs) t))))
-    (λ v. short_line bs i k n _ (first_stands bs n h v))
+    (λ t. short_line bs i k n _ _ (manifold_stands bs n (ltb-true n (count_m bs) t)))
+    (λ t. short_line bs i k n _ _ (joint_stands bs n h v (f v) (ltb-false n (count_m bs) t))))
+    (λ v. short_line bs i k n _ _ (first_stands bs n h v))
 
 -- a line has its newline
 pub line_some : (bs : List ℕ) (i k n : ℕ) → 1 ≤ length (line_of bs i k n)
@@ -91,14 +90,14 @@ pub never_ready : (bs : List ℕ) (old : Writer) (n : ℕ) → count_m bs + coun
 unfolding ready
 never_ready bs old n h = rw (le-ltb n (count_m bs + count_j bs) h) refl
 
-pub ready_with_ends : (bs : List ℕ) (old : Writer) (i k n : ℕ) (e : Ends) {b : Bool} → n < count_m bs + count_j bs → EndsStand bs n e → b ≡ leb (old.at + longest_turn e.count) (length old.out.now) → b ≡ ready bs (length old.out.now) old.at n
+pub ready_with_ends : (bs : List ℕ) (old : Writer) (i k n : ℕ) (s c : ℕ) {b : Bool} → n < count_m bs + count_j bs → EndsStand bs n s c → b ≡ leb (old.at + longest_turn c) (length old.out.now) → b ≡ ready bs (length old.out.now) old.at n
 unfolding ready
-ready_with_ends bs old i k n e h w b_is = b_is ∙ rw (lt-ltb n (count_m bs + count_j bs) h, count_is bs i k n e w) refl
+ready_with_ends bs old i k n s c h w b_is = b_is ∙ rw (lt-ltb n (count_m bs + count_j bs) h, count_is bs i k n s c w) refl
 
-pub with_ends : (bs : List ℕ) (old : Writer) (i k n : ℕ) (e : Ends) (new : Writer) → n < count_m bs + count_j bs → EndsStand bs n e
-    → Wrote (if_left (longest_turn e.count) (length old.out.now) old.at (turn_line i k n (halves_from bs e.at e.count))) old new → Wrote (if_ready bs (length old.out.now) old.at i k n) old new
+pub with_ends : (bs : List ℕ) (old : Writer) (i k n : ℕ) (s c : ℕ) (new : Writer) → n < count_m bs + count_j bs → EndsStand bs n s c
+    → Wrote (if_left (longest_turn c) (length old.out.now) old.at (turn_line i k n (halves_from bs s c))) old new → Wrote (if_ready bs (length old.out.now) old.at i k n) old new
 unfolding if_ready ready if_left
-with_ends bs old i k n e new h w p = rw (lt-ltb n (count_m bs + count_j bs) h) (rw (line_at bs i k n e w, count_is bs i k n e w) at p)
+with_ends bs old i k n s c new h w p = rw (lt-ltb n (count_m bs + count_j bs) h) (rw (line_at bs i k n s c w, count_is bs i k n s c w) at p)
 
 -- a turn that is ready, and one that is not
 module _ (bs : List ℕ) (size at i k n : ℕ) where

@@ -5,7 +5,6 @@ use Rattle.frame.specs.Questions.{asked}
 use Rattle.frame.specs.Files.{count_m, count_j, joints_at, second, places_from, halves_from, decode, file_questions}
 use Rattle.schedules.specs.Print.{turn_line, turn_lines}
 use Rattle.print_fields.specs.Puts.{longest}
-use Rattle.printing.specs.declared.Ends.{Ends}
 use Rattle.writer.specs.declared.Writer.{Writer}
 use Rattle.writer.specs.Wrote.{Wrote}
 
@@ -20,11 +19,11 @@ pub record Standing (bs ps : List ℕ) : Type 0 where
 abbrev pub Placed : List ℕ → List ℕ → List ℕ → Type 0
 Placed bs turns ps = 0 < length turns → second bs ≡ true → Standing bs ps
 
--- the endpoints of constraint n stand there, two to four of them
-pub record EndsStand (bs : List ℕ) (n : ℕ) (e : Ends) : Type 0 where
-  pub ends : halves_from bs e.at e.count ≡ (constraint_at (decode bs) n).ends
-  pub least : 2 ≤ e.count
-  pub most : e.count ≤ 4
+-- the endpoints of constraint n stand from place s on, c of them, two to four
+pub record EndsStand (bs : List ℕ) (n s c : ℕ) : Type 0 where
+  pub ends : halves_from bs s c ≡ (constraint_at (decode bs) n).ends
+  pub least : 2 ≤ c
+  pub most : c ≤ 4
 
 -- ---- the lines
 

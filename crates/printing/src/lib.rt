@@ -30,11 +30,13 @@ pub struct PrintedFrame<'a> {
     pub places: &'a [u16],
 }
 
-// Where the endpoints of a constraint stand in a file, one behind another, and how many there are.
+// Where two to four endpoints of a constraint stand in a file, one behind another, near enough to count their places.
 #[derive(Clone, Copy)]
 pub struct Ends {
     pub at: usize,
     pub count: usize,
+    ghost few: { (2 ≤ count) × (count ≤ 4) },
+    ghost near: { at + 2 * (count - 1) < 1048576 },
 }
 
 // The most bytes that the line of a turn of two to four bodies has.
@@ -59,9 +61,7 @@ pub fn put_head(out: &mut Writer<'_>, islands: usize, turns: usize, takes: usize
 
 // The endpoints that stand in a file, each with a space behind it, the last one with the newline.
 fn put_ends(out: &mut Writer<'_>, frame: &[u8], ends: Ends)
-    requires room { out.old.at + 21 * ends.count ≤ length out.old.out.now }
-    requires some { 1 ≤ ends.count }
-    requires near { ends.at + 2 * (ends.count - 1) < 1048576 }
+    requires { out.old.at + 21 * ends.count ≤ length out.old.out.now }
     ensures { Wrote (line (map decimal (halves_from frame.now ends.at ends.count))) out.old out.new }
 {
     let last = ends.count - 1;
@@ -74,8 +74,6 @@ fn put_ends(out: &mut Writer<'_>, frame: &[u8], ends: Ends)
 
 // The line of a turn: island, group, constraint and its two to four endpoints, which stand in a file; answers whether there was room.
 fn put_turn_line(out: &mut Writer<'_>, turn: Turn, frame: &[u8], ends: Ends) -> bool
-    requires some { (1 ≤ ends.count) × (ends.count ≤ 4) }
-    requires near { ends.at + 2 * (ends.count - 1) < 1048576 }
     ensures wrote { Wrote (if_left (longest_turn ends.count) (length out.old.out.now) out.old.at (turn_line turn.island turn.group turn.number (halves_from frame.now ends.at ends.count))) out.old out.new }
     ensures room { result ≡ leb (out.old.at + longest_turn ends.count) (length out.old.out.now) }
 {
@@ -112,8 +110,7 @@ fn two_to_four(count: usize) -> usize
 // numbers anywhere.
 fn ends_of(frame: PrintedFrame<'_>, constraint: usize) -> Ends
     requires { constraint < 131072 }
-    ensures few { (2 ≤ result.count) × (result.count ≤ 4) × (result.at + 2 * (result.count - 1) < 1048576) }
-    ensures there { constraint < count_m frame.entry.bytes.now + count_j frame.entry.bytes.now → (second frame.entry.bytes.now ≡ true → Standing frame.entry.bytes.now frame.entry.places.now) → EndsStand frame.entry.bytes.now constraint result }
+    ensures { constraint < count_m frame.entry.bytes.now + count_j frame.entry.bytes.now → (second frame.entry.bytes.now ≡ true → Standing frame.entry.bytes.now frame.entry.places.now) → EndsStand frame.entry.bytes.now constraint result.at result.count }
 {
     if frame::is_second(frame.bytes) {
         let manifolds = frame::half_or_zero(frame.bytes, 7);

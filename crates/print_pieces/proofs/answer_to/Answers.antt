@@ -7,4 +7,4 @@ pub returns-then-frame-gt-MAX_BYTES : goal.returns-then-frame-gt-MAX_BYTES
 returns-then-frame-gt-MAX_BYTES c = long_answered c.args.frame.now c.args.turns.now (omega arith)
 
 pub returns : goal.returns
-returns c = run_answered c.args.frame.now c.args.turns.now _ _ c.requires (omega arith) c.run_file.ensures
+returns c = run_answered c.args.frame.now c.args.turns.now _ _ (omega arith) (omega arith) c.run_file.ensures

@@ -12,7 +12,7 @@ use Rattle.print_pieces.proofs.first_piece.Goals as goal
 pub place_joints-requires : goal.place_joints-requires
 place_joints-requires c =
     let count = ap (λ (r : Report). r.turns) (report_unwrapped _ _ c.unwrap_or_default-count.ensures) ∙ c.answer_to-answer.ensures.turns in
-    (turns_asked c.args.frame.now (omega (arith, count, c.if-count-gt0.true)), omega arith)
+    turns_asked c.args.frame.now (omega (arith, count, c.if-count-gt0.true))
 
 pub returns-clause-placed : goal.returns-clause-placed
 returns-clause-placed c =

@@ -24,7 +24,7 @@ returns-clause-wrote c =
     let e = c.ends_of-ends in
     let n = c.from-constraint in
     let here : n.result < count_m a.frame.bytes.now + count_j a.frame.bytes.now = omega (arith, c.constraint_count.ensures, c.if-constraint_count-constraint.false) in
-    λ placed. with_ends a.frame.bytes.now a.out.now a.turn.island a.turn.group a.turn.number e.result _ (rw n.ensures at here) (rw n.ensures at (e.ensures.there here placed)) c.put_turn_line.ensures.wrote
+    λ placed. with_ends a.frame.bytes.now a.out.now a.turn.island a.turn.group a.turn.number e.result.at e.result.count _ (rw n.ensures at here) (rw n.ensures at (e.ensures here placed)) c.put_turn_line.ensures.wrote
 
 pub returns-clause-put : goal.returns-clause-put
 returns-clause-put c =
@@ -32,4 +32,4 @@ returns-clause-put c =
     let e = c.ends_of-ends in
     let n = c.from-constraint in
     let here : n.result < count_m a.frame.bytes.now + count_j a.frame.bytes.now = omega (arith, c.constraint_count.ensures, c.if-constraint_count-constraint.false) in
-    λ placed. ready_with_ends a.frame.bytes.now a.out.now a.turn.island a.turn.group a.turn.number e.result (rw n.ensures at here) (rw n.ensures at (e.ensures.there here placed)) c.put_turn_line.ensures.room
+    λ placed. ready_with_ends a.frame.bytes.now a.out.now a.turn.island a.turn.group a.turn.number e.result.at e.result.count (rw n.ensures at here) (rw n.ensures at (e.ensures here placed)) c.put_turn_line.ensures.room
