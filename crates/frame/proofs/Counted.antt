@@ -31,6 +31,10 @@ known-many (c ∷ cs) e =
     let r = known-many cs (and_right (counted c) (counts_known cs) e) in
     (omega arith, omega arith)
 
+-- and so at most 32,768 for 8,192 constraints
+pub known-few : (cs : List ℕ) → counts_known cs ≡ true → length cs ≤ 8192 → end_count cs ≤ 32768
+known-few cs e few = omega (arith, (known-many cs e).1, few)
+
 -- ---- endpoints that pass question 7
 pub record Fitting (n : ℕ) (bs : List ℕ) : Type 0 where
   pub least : 2 ≤ length bs

@@ -1,12 +1,10 @@
 -- One turn of the loop over parts; and that the parts between the bounds of counts are the parts by counts, so that what is collected are the
 -- endpoints and counts of the listed constraints.
-use Rattle.std.proofs.Common.{ℕ, ◌+◌, ◌*◌, ◌/◌, ◌≤◌, ◌<◌, ◌≡◌, refl, sym, ap, ◌∙◌, true, List, [], ◌∷◌, ◌++◌, map, append_assoc, arith, add-one, ltb, length, get_or, take, drop, length-append, drop-cons, eq-eqb, ne_eqb, lt-ltb, ltb-true}
+use Rattle.std.proofs.Common.{ℕ, ◌+◌, ◌*◌, ◌/◌, ◌<◌, ◌≡◌, refl, sym, ap, ◌∙◌, true, List, [], ◌∷◌, ◌++◌, map, append_assoc, arith, add-one, ltb, length, get_or, take, drop, length-append, drop-cons, eq-eqb, ne_eqb, lt-ltb, ltb-true}
 use Rattle.std.proofs.Math.ListN.{length-map}
 use Rattle.lists.specs.Basics.{all, mem, join_map}
 use Rattle.lists.proofs.Laws.{all_in, all_intro, no_length}
 use Rattle.lists.proofs.Ranges.{join_map_ext_in}
-use Rattle.frame.specs.Frames.{end_count}
-use Rattle.frame.proofs.Counted.{known-many}
 use Rattle.groups.specs.Groups.{pair_at, counted_parts}
 use Rattle.parts.specs.Parts.{part_at, Bounded}
 use Rattle.parts.specs.Steps.{BoundsOf}
@@ -70,9 +68,6 @@ module _ {counts ends ns bounds island_ends island_counts : List ℕ} (c : Colle
 
     pub as_many_counts : length island_counts ≡ length ns
     as_many_counts = c.counts_long ∙ ap length (sym counts-among) ∙ length-map ns (λ (n : ℕ). get_or counts n 0)
-
-    pub ends-few : end_count counts ≤ 32768
-    ends-few = omega (arith, (known-many counts c.known).1, c.few)
 
     -- the table of bounds, filled
     module _ (filled : List ℕ) (long : length filled ≡ 2 * length counts) (b : BoundsOf counts filled) where

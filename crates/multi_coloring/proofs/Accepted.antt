@@ -53,9 +53,6 @@ module _ {flags ends counts : List ℕ} {t : Tables} {c : List ℕ} (o : Accepte
   pub bounds_room : 2 * length counts ≤ length t.body_constraints
   bounds_room = omega (arith, two-each, o.tables.1.1.1.0)
 
-  pub few-ends : end_count counts ≤ 32768
-  few-ends = omega (arith, (known-many counts o.known).1, o.few)
-
   pub buildable : (bounds : List ℕ) → BoundsOf counts bounds → length bounds ≡ 2 * length counts → Buildable flags ends bounds (length counts) (lent t)
   buildable bounds b l =
       let w = o.tables in

@@ -14,7 +14,8 @@ use Rattle.constraint_coloring.specs.Calls.{fresh_plan, plan_after, refusal_with
 use Rattle.multi_coloring.specs.declared.MultiColoring.{MultiColoring}
 use Rattle.multi_coloring.specs.Counts.{multi_update_refusal}
 use Rattle.multi_coloring.specs.Calls.{fresh_multi, multi_refusal_with, numbers_of, MultiUpdated}
-use Rattle.multi_coloring.proofs.Accepted.{Accepted, accepted, few-ends, two-each}
+use Rattle.frame.proofs.Counted.{known-few}
+use Rattle.multi_coloring.proofs.Accepted.{Accepted, accepted, two-each}
 use Rattle.schedules.specs.Runs.{freshly, members_in, bodies_in, lookup_refusal, lookup_of, take_rank}
 use Rattle.schedules.proofs.Standing.{Lookups, asked_pairs, fresh_pairs, updated_pairs, few_pairs, fresh-counts, updated_lent, constraints-lent, few-counts}
 use Rattle.schedules.proofs.Condition3.{same_calls}
@@ -108,7 +109,7 @@ module _ {flags counts ends old : List ℕ} {n : ℕ} {t : Tables} (ready : Read
       record {
         few = a.few;
         known = a.known;
-        sum = few-ends a;
+        sum = known-few _ a.known a.few;
         bounds = omega (arith, two-each a, a.tables.1.1.1.0);
         positions_there = omega (arith, a.whole, a.tables.1.1.1.1.1.1.1.1.1.1.1.1.1.0);
       })

@@ -1,6 +1,6 @@
 -- `build_counted`: the bounds of the counts have room, and a plan can be built by them; the parts by these bounds are the constraints by counts.
 use Rattle.std.proofs.Common.{◌*◌, ◌≡◌, ◌∙◌, arith, length, length-take-le}
-use Rattle.frame.proofs.Counted.{known-many}
+use Rattle.frame.proofs.Counted.{known-few}
 use Rattle.parts.proofs.Bounds.{parts-counted, counted_bounded}
 use Rattle.multi_coloring.proofs.Updates.{built_counts}
 use Rattle.multi_coloring.proofs.build_counted.Goals as goal
@@ -10,7 +10,7 @@ bounds_long : (p : After-bound_counts) → length p.bound_counts.new.bounds ≡ 
 bounds_long p = p.bound_counts.auto.bounds ∙ length-take-le _ _ p.requires.room
 
 pub bound_counts-requires : goal.bound_counts-requires
-bound_counts-requires c = (length-take-le _ _ c.requires.room, c.args.listed.few, omega (arith, (known-many c.args.listed.counts.now c.args.listed.known).1, c.args.listed.few))
+bound_counts-requires c = (length-take-le _ _ c.requires.room, c.args.listed.few, known-few _ c.args.listed.known c.args.listed.few)
 
 pub invariant_of-ends : goal.invariant_of-ends
 invariant_of-ends c =
