@@ -1,6 +1,7 @@
 -- Questions one after another: a list that continues another asks the rest only where the first gets no "no". What question 3 says.
-use Rattle.std.proofs.Common.{ℕ, suc, ◌≤◌, ◌≡◌, refl, sym, ◌∙◌, Bool, true, false, ◌&&◌, cond, List, [], ◌∷◌, ◌++◌, arith, leb, ltb, eqb, eqb-true, leb-true, ltb-true, ne_eqb}
+use Rattle.std.proofs.Common.{ℕ, suc, ◌≤◌, ◌≡◌, refl, sym, ap, ◌∙◌, Bool, true, false, ◌&&◌, cond, List, [], ◌∷◌, ◌++◌, arith, leb, ltb, eqb, eqb-true, leb-true, ltb-true, ne_eqb}
 use Rattle.std.proofs.lemmas.Bool.{eqb-false}
+use Rattle.std.proofs.Math.Bool.{and_assoc, and-true}
 use Rattle.lists.specs.Basics.{all}
 use Rattle.lists.proofs.Laws.{and_left, and_right, by_cases}
 use Rattle.frame.specs.Questions.{Question, asked, few_each}
@@ -32,3 +33,8 @@ unfolding few_each
 few-each b m j e =
     let two = and_left (leb b 4096 && leb m 4096) (leb j 4096) e in
     (leb-true b 4096 (and_left (leb b 4096) (leb m 4096) two), leb-true m 4096 (and_right (leb b 4096) (leb m 4096) two), leb-true j 4096 (and_right (leb b 4096 && leb m 4096) (leb j 4096) e))
+
+-- a test of all, with one entry more
+pub all_more : (p : ℕ → Bool) (xs : List ℕ) (x : ℕ) → all p (xs ++ x ∷ []) ≡ (all p xs && p x)
+all_more p [] x = and-true (p x)
+all_more p (y ∷ ys) x = ap (λ (t : Bool). p y && t) (all_more p ys x) ∙ sym (and_assoc (p y) (all p ys) (p x))

@@ -182,12 +182,7 @@ fn walk_joints(version: Version, part: JointBytes<'_>) -> Result<usize, Refusal>
 pub fn at_most(s: &[u8], limit: u8) -> bool
     ensures { result ≡ all (λ x. leb x limit) s.now }
 {
-    let mut known = true;
-    // `known` tells whether every byte passed is at most the limit.
-    for &x in s {
-        known &= x <= limit;
-    }
-    known
+    s.iter().fold(true, |known, &x| known & (x <= limit))
 }
 
 // Question 5 of the enabled bytes of version 1, joint after joint.

@@ -17,12 +17,9 @@ pub fn counted(count: usize) -> bool
 pub fn counts_known(counts: &[u8]) -> bool
     ensures { result ≡ counts_known counts.now }
 {
-    let mut known = true;
-    // `known` tells whether every count passed is two to four.
-    for &count in counts {
-        known &= counted(usize::from(count));
-    }
-    known
+    counts
+        .iter()
+        .fold(true, |known, &count| known & counted(usize::from(count)))
 }
 
 // The sum of lent counts: how many endpoints question 4 wants.
