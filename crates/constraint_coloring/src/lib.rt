@@ -5,7 +5,7 @@ mod numbers;
 
 ghost use Rattle.std.specs.Prelude.{◌≡◌, ◌≤◌, ◌+◌, ◌*◌, [], length};
 ghost use Rattle.lists.specs.Basics.{over};
-ghost use Rattle.groups.specs.Groups.{group_count, plan_from, pair_at};
+ghost use Rattle.groups.specs.Groups.{group_count, plan_from};
 ghost use Rattle.parts.specs.Parts.{parts_at};
 ghost use Rattle.gathering.specs.Gathers.{Gatherable};
 ghost use Rattle.locating.specs.Locates.{Arranged};
@@ -73,14 +73,6 @@ pub fn copy_over<T: Copy>(from: &[T], to: &mut [T])
     ensures { to.new ≡ over from.now to.old }
 {
     to[..from.len()].copy_from_slice(from);
-}
-
-// The two places of a pair.
-fn pair_of(table: &[u16], pair: usize) -> &[u16]
-    requires { 2 * pair + 2 ≤ length table.now }
-    ensures { result.now ≡ pair_at table.now pair }
-{
-    &table[2 * pair..2 * pair + 2]
 }
 
 // The bodies of all groups and the positions of all constraints, whatever the number of their bodies.
@@ -285,6 +277,6 @@ impl ConstraintColoring {
             Refusal::Room,
         )?;
         ask(constraint < self.constraint_count, Refusal::NoConstraint)?;
-        Ok(pair_of(constraint_body_positions, constraint))
+        Ok(parts::part(constraint_body_positions, &[], constraint))
     }
 }

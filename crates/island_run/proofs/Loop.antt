@@ -1,7 +1,7 @@
 -- In the sorted numbers each island's stand where the last island's end, and so do its endpoints and counts in what is collected in that
 -- order. So the part that is read off for island i is the list of its constraints, with their endpoints and counts, and running it takes the
 -- next calls of the whole.
-use Rattle.std.proofs.Common.{ℕ, ◌+◌, ◌-◌, ◌*◌, ◌≤◌, ◌<◌, ◌≡◌, sym, ap, ◌∙◌, cond, List, [], ◌++◌, arith, eqb, length, take, drop, length-drop, drop_of_length-le, length-take-le, take_all, eqb-true, eq-eqb}
+use Rattle.std.proofs.Common.{ℕ, ◌+◌, ◌-◌, ◌*◌, ◌≤◌, ◌<◌, ◌≡◌, sym, ap, ◌∙◌, cond, List, [], ◌++◌, arith, eqb, length, take, drop, length-drop, drop_of_length-le, length-take-le, take_all, eqb-true, eq-eqb, leb, ◌&&◌, true, false, le-leb, length-take, refl}
 use Rattle.std.proofs.lemmas.Bool.{eqb-false}
 use Rattle.lists.specs.Basics.{join_map, range_from}
 use Rattle.lists.proofs.Laws.{by_cases, no_length}
@@ -147,6 +147,15 @@ module _ {islands : ℕ} {flags counts ends labels numbers island_ends island_co
         ≡ island_calls types flags pc (take (from + m - from) (drop from es)) i part ++ join_map (calls_at types flags counts ends labels) (range_from (i + 1) (islands - (i + 1)))
     unfolding calls_at
     island_next types = rw (ends_taken, part_counts, part_is) (parts_next (calls_at types flags counts ends labels) i islands inside)
+
+-- ---- a part of a table, if it lies in order inside it or the table is empty
+
+pub part_there : (cs : List ℕ) (s e : ℕ) {part : List ℕ} → ((length cs ≡ 0 → ⊥) → (s ≤ e) × (e ≤ length cs)) → part ≡ cond (leb s e && leb e (length cs)) (take (e - s) (drop s cs)) [] → part ≡ take (e - s) (drop s cs)
+part_there cs s e h p = by_cases (leb s e && leb e (length cs))
+    (λ b. p ∙ rw b refl)
+    (λ b. by_cases (eqb (length cs) 0)
+      (λ z. p ∙ rw b (sym (no_length (take (e - s) (drop s cs)) (omega (arith, length-take (e - s) (drop s cs), length-drop s cs, eqb-true (length cs) 0 z)))))
+      (λ z. let i = h (eqb-false (length cs) 0 z) in let t : true ≡ false = rw (le-leb s e i.0, le-leb e (length cs) i.1) at b in absurd (cc)))
 
 -- ---- the tally that the run begins with
 

@@ -1,7 +1,7 @@
 // The islands of the run, internal: one after another, each with its part of the sorted constraint numbers.
 #![tactic(auto)]
 
-ghost use Rattle.std.specs.Prelude.{◌≡◌, ◌≤◌, ◌-◌, ◌*◌, cond, eqb, length, take, drop};
+ghost use Rattle.std.specs.Prelude.{◌≡◌, ◌≤◌, ◌*◌, cond, eqb, length};
 ghost use Rattle.frame.specs.Frames.{end_count};
 ghost use Rattle.plan_questions.specs.Lent.{tables_in, lengths_of, SameTables};
 ghost use Rattle.turn_table.specs.Turns.{none, Room, Appended};
@@ -16,14 +16,6 @@ use plan_questions::PlanTables;
 use turn_table::{Tally, TurnTable};
 
 mod filled;
-
-// The counts of the constraints from place `start` to place `end`; without counts none.
-fn counts_between(counts: &[u8], start: usize, end: usize) -> &[u8]
-    requires { (length counts.now ≡ 0 → ⊥) → (start ≤ end) × (end ≤ length counts.now) }
-    ensures { result.now ≡ take (end - start) (drop start counts.now) }
-{
-    counts.get(start..end).unwrap_or(&[])
-}
 
 // How many endpoints so many constraints have: as their counts say, or two each without counts.
 fn count_ends(counts: &[u8], constraints: usize) -> usize
@@ -71,7 +63,7 @@ pub fn run_islands(
     // The islands before `island` are run; its numbers begin at `start` of the numbers, and its endpoints at `ends_start` of the endpoints.
     for island in 0..islands {
         let end = island_numbers::part_end(filled.labels, filled.numbers, island, start);
-        let counts = counts_between(island_counts, start, end);
+        let counts = tables::part_or_none(island_counts, start, end);
         let ends_end = ends_start + count_ends(counts, end - start);
         let part = Island {
             island,

@@ -5,7 +5,7 @@
 ghost use Rattle.std.specs.Prelude.{◌≡◌, ◌&&◌, eqb, length, take};
 ghost use Rattle.lists.specs.Basics.{same};
 ghost use Rattle.frame.specs.Refusals.{refused_by};
-ghost use Rattle.plan_questions.specs.Plans.{roomy, roomy_with, update_refusal, part, group_part};
+ghost use Rattle.plan_questions.specs.Plans.{roomy, roomy_with, update_refusal, group_part};
 ghost use Rattle.plan_questions.specs.Lent.{tables_in};
 
 use frame::constraints::Pairs;
@@ -96,13 +96,6 @@ pub fn ask_update(flags: &[u8], pairs: &[u16], room: bool) -> Result<(), Refusal
     )
 }
 
-// The part of a table from `start` to `end`; empty if these don't lie in order inside it.
-fn part_of<'a>(table: &'a [u16], start: usize, end: usize) -> &'a [u16]
-    ensures { result.now ≡ part start end table.now }
-{
-    table.get(start..end).unwrap_or(&[])
-}
-
 // The part of a group; empty if there is no such group or its offsets are missing.
 #[tactic(auto, unfolding(crate::specs::Plans::group_part))]
 pub fn group_part<'a>(
@@ -114,7 +107,7 @@ pub fn group_part<'a>(
     ensures { result.now ≡ group_part color_count offsets.now table.now group }
 {
     match offsets.get(group..) {
-        Some([start, end, ..]) if group < color_count => part_of(
+        Some([start, end, ..]) if group < color_count => tables::part_or_none(
             table,
             usize::from(*start),
             usize::from(*end),

@@ -1,8 +1,19 @@
--- A take that is refused adds nothing.
-use Rattle.std.proofs.Common.{ℕ, sym, List, [], arith}
-use Rattle.lists.proofs.Puts.{put-none}
+-- A turn is three stores, and a take adds it or nothing, by its refusal.
+use Rattle.std.proofs.Common.{ℕ, ◌+◌, ◌≤◌, ◌≡◌, sym, ap, ◌∙◌, List, [], ◌∷◌, arith, length, set}
+use Rattle.lists.specs.Basics.{put}
+use Rattle.lists.proofs.Puts.{put-none, length-put, put-put, set-put}
 use Rattle.turn_table.specs.declared.Tally.{Tally}
 use Rattle.turn_table.specs.Turns.{Appended}
+
+-- a turn: three stores
+pub set_turn : (n x y z : ℕ) (old : List ℕ) → n + 3 ≤ length old → set (set (set old n x) (n + 1) y) (n + 2) z ≡ put n (x ∷ y ∷ z ∷ []) old
+set_turn n x y z old h =
+    let a : set old n x ≡ put n (x ∷ []) old = set-put n x old (omega arith) in
+    let la : length (put n (x ∷ []) old) ≡ length old = length-put n (x ∷ []) old (omega arith) in
+    let b : set (put n (x ∷ []) old) (n + 1) y ≡ put n (x ∷ y ∷ []) old = set-put (n + 1) y (put n (x ∷ []) old) (omega arith) ∙ put-put n (x ∷ []) (y ∷ []) old (omega arith) in
+    let lb : length (put n (x ∷ y ∷ []) old) ≡ length old = length-put n (x ∷ y ∷ []) old (omega arith) in
+    let c : set (put n (x ∷ y ∷ []) old) (n + 2) z ≡ put n (x ∷ y ∷ z ∷ []) old = set-put (n + 2) z (put n (x ∷ y ∷ []) old) (omega arith) ∙ put-put n (x ∷ y ∷ []) (z ∷ []) old (omega arith) in
+    ap (λ (l : List ℕ). set (set l (n + 1) y) (n + 2) z) a ∙ ap (λ (l : List ℕ). set l (n + 2) z) b ∙ c
 
 -- nothing is added
 pub appended_none : (t : List ℕ) (s : Tally) → Appended (record { turns = []; takes = 0 }) t s t s

@@ -34,7 +34,9 @@ fn put_turn(turns: &mut [u16], place: usize, turn: Turn)
     requires { place + 3 ≤ length turns.old }
     ensures { turns.new ≡ put place (turn_numbers turn) turns.old }
 {
-    turns[place..place + 3].copy_from_slice(&[turn.island, turn.group, turn.number]);
+    turns[place] = turn.island;
+    turns[place + 1] = turn.group;
+    turns[place + 2] = turn.number;
 }
 
 impl TurnTable<'_> {

@@ -2,7 +2,7 @@ use Rattle.std.proofs.Common.{rules, ◌+◌, ◌-◌, ◌≤◌, ◌≡◌, sym
 use Rattle.groups.proofs.Tables.{flatten-zero}
 use Rattle.group_run.proofs.Appends.{going_first, going_room, going_more}
 use Rattle.island_numbers.specs.Numbers.{counts_among}
-use Rattle.island_run.proofs.Loop.{islands-first, first-ends, part_count, next_start, part_inside, part-few, counts_there, counts_taken, counts-few, ends_next, ends_there, ready, island_next, tally_none}
+use Rattle.island_run.proofs.Loop.{islands-first, first-ends, part_count, next_start, part_inside, part-few, counts_there, counts_taken, counts-few, ends_next, ends_there, ready, island_next, tally_none, part_there}
 use Rattle.island_run.proofs.Rooms.{lengths_same, same_twice}
 use Rattle.island_run.proofs.run_islands.Goals as goal
 use Rattle.island_run.proofs.run_islands.Goals.{After-part_end-end, After-count_ends}
@@ -14,8 +14,8 @@ below c = omega (arith, part_count c.requires.prepared (omega arith) c.loop-isla
 inside : (c : After-part_end-end) → c.part_end-end.result ≤ length c.args.filled.numbers.now
 inside c = part_inside c.requires.prepared (omega arith) c.loop-island.invariant.0 c.part_end-end.ensures
 
-counts : (c : After-count_ends) → c.counts_between-counts.result.now ≡ counts_among c.args.filled.counts.now (take (c.part_end-end.result - c.loop-island.start) (drop c.loop-island.start c.args.filled.numbers.now))
-counts c = c.counts_between-counts.ensures ∙ counts_taken c.requires.prepared (omega arith) c.loop-island.invariant.0 c.part_end-end.ensures c.collect.ensures.1
+counts : (c : After-count_ends) → c.part_or_none-counts.result.now ≡ counts_among c.args.filled.counts.now (take (c.part_end-end.result - c.loop-island.start) (drop c.loop-island.start c.args.filled.numbers.now))
+counts c = part_there _ c.loop-island.start c.part_end-end.result (counts_there c.requires.prepared (omega arith) c.loop-island.invariant.0 c.part_end-end.ensures c.collect.ensures.1) c.part_or_none-counts.ensures ∙ counts_taken c.requires.prepared (omega arith) c.loop-island.invariant.0 c.part_end-end.ensures c.collect.ensures.1
 
 there : (c : After-count_ends) → c.loop-island.ends_start + c.count_ends.result ≤ length c.collect.new.island_ends
 there c =
@@ -25,13 +25,10 @@ there c =
 pub loop-island-init : goal.loop-island-init
 loop-island-init c = (sym (ap length (flatten-zero _)), first-ends _ _, going_first (islands-first _ _ _ _ _ _), search rules, search rules)
 
-pub counts_between-counts-requires : goal.counts_between-counts-requires
-counts_between-counts-requires c = counts_there c.requires.prepared (omega arith) c.loop-island.invariant.0 c.part_end-end.ensures c.collect.ensures.1
-
 pub count_ends-requires : goal.count_ends-requires
 count_ends-requires c = (
   part-few c.requires.prepared (omega arith) c.loop-island.invariant.0 c.part_end-end.ensures,
-  omega (arith, ap length c.counts_between-counts.ensures, counts-few c.requires.prepared (omega arith) c.loop-island.invariant.0 c.part_end-end.ensures c.collect.ensures.1),
+  omega (arith, ap length (part_there _ c.loop-island.start c.part_end-end.result (counts_there c.requires.prepared (omega arith) c.loop-island.invariant.0 c.part_end-end.ensures c.collect.ensures.1) c.part_or_none-counts.ensures), counts-few c.requires.prepared (omega arith) c.loop-island.invariant.0 c.part_end-end.ensures c.collect.ensures.1),
 )
 
 pub overflow_add-ends_end : goal.overflow_add-ends_end
