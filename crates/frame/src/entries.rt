@@ -91,8 +91,7 @@ pub fn entry_places(bytes: &[u8], places: &mut [u16])
     requires { Placeable bytes.now places.old }
     ensures { places.new ≡ places_from bytes.now (joints_at bytes.now) (count_j bytes.now) }
 {
-    let mut at =
-        HEADER + usize::from(half_at(bytes, 5)) + PAIR * usize::from(half_at(bytes, 7));
+    let mut at = HEADER + usize::from(half_at(bytes, 5)) + PAIR * usize::from(half_at(bytes, 7));
     // The places filled are those of the entries before place `at`.
     for place in places.iter_mut() {
         *place = at as u16;

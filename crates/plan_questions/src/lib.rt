@@ -91,7 +91,13 @@ pub fn ask_update(flags: &[u8], pairs: &[u16], room: bool) -> Result<(), Refusal
     ask(frame::at_most(flags, 1), Refusal::Values)?;
     ask(room, Refusal::Room)?;
     ask(
-        constraints::all_sound(flags.len(), Pairs { pairs, enabled: &[] }),
+        constraints::all_sound(
+            flags.len(),
+            Pairs {
+                pairs,
+                enabled: &[],
+            },
+        ),
         Refusal::Endpoints,
     )
 }

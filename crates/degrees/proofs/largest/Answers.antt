@@ -26,7 +26,7 @@ returns c =
     let i = c.loop-body_type.invariant in
     let n = length c.loop-body_type.yielded in
     let all : n ≡ length c.args.types.now = ⊎_elim
-      (λ h. omega (arith, i.inside, h.1.0, ap length i.types, length-drop n c.args.types.now))
-      (λ h. omega (arith, i.inside, h.1.0, ap length i.counts, length-drop n c.args.counts.now, c.requires))
-      c.in-None.ensures.steps in
+    (λ h. omega (arith, i.inside, h.1.0, ap length i.types, length-drop n c.args.types.now))
+    (λ h. omega (arith, i.inside, h.1.0, ap length i.counts, length-drop n c.args.counts.now, c.requires))
+    c.in-None.ensures.steps in
     c.from.ensures ∙ i.most ∙ ap (λ (k : ℕ). max_of (λ b. counted (get_or c.args.types.now b 0) (get_or c.args.counts.now b 0)) (range k)) all
