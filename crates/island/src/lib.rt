@@ -85,8 +85,14 @@ fn build_sized(
         joint_islands.fill(NONE);
         return Err(Refusal::Endpoints);
     }
-    let parents = sets.parents();
-    Ok(label_frame(lists, parents, body_islands, manifold_islands, joint_islands))
+    let islands = label_frame(
+        lists,
+        sets.parents(),
+        body_islands,
+        manifold_islands,
+        joint_islands,
+    );
+    Ok(islands)
 }
 
 // A frame of so many joints that passed questions 3 to 6, on the first places of its tables.

@@ -154,8 +154,8 @@ pub part_there : (cs : List ℕ) (s e : ℕ) {part : List ℕ} → ((length cs �
 part_there cs s e h p = by_cases (leb s e && leb e (length cs))
     (λ b. p ∙ rw b refl)
     (λ b. by_cases (eqb (length cs) 0)
-      (λ z. p ∙ rw b (sym (no_length (take (e - s) (drop s cs)) (omega (arith, length-take (e - s) (drop s cs), length-drop s cs, eqb-true (length cs) 0 z)))))
-      (λ z. let i = h (eqb-false (length cs) 0 z) in let t : true ≡ false = rw (le-leb s e i.0, le-leb e (length cs) i.1) at b in absurd (cc)))
+    (λ z. p ∙ rw b (sym (no_length (take (e - s) (drop s cs)) (omega (arith, length-take (e - s) (drop s cs), length-drop s cs, eqb-true (length cs) 0 z)))))
+    (λ z. let i = h (eqb-false (length cs) 0 z) in let t : true ≡ false = rw (le-leb s e i.0, le-leb e (length cs) i.1) at b in absurd (cc)))
 
 -- ---- the tally that the run begins with
 

@@ -71,16 +71,16 @@ module _ (f : Frame) (p₀ b₀ m j p₁ b₁ p s b : List ℕ) (h : Sized f p�
   joined_sets : WeighedSets f p s
   joined_sets = weighed-sets f p₁ b₁ p s b m j (length b₀) roots eb fits sets w
 
-pub label_frame-requires : goal.label_frame-requires
+pub label_frame-islands-requires : goal.label_frame-islands-requires
 unfolding all_sound
-label_frame-requires c =
+label_frame-islands-requires c =
     let h = c.requires in
     let r = c.reset in
     let j = c.join_frame in
     let s = j.new.sets in
     let ok = c.if-not-join_frame.false in
     let filled : c.fill.new.self ≡ replicate (length c.args.body_islands.now) none = search rules in
-    rw c.parents-parents.ensures.0 (joined_ready (frame_asked c.args.lists) _ _ _ _ _ c.fill.new.self s.parents.now s.sizes.now _ h.sized r.ensures.0 filled (j.ensures.same.long ∙ r.auto.parents) (j.auto.body_islands ∙ c.fill.ensures.len) s.sets (j.ensures.joined.joined ok) (sym j.ensures.joined.answer ∙ ok))
+    rw c.parents.ensures.0 (joined_ready (frame_asked c.args.lists) _ _ _ _ _ c.fill.new.self s.parents.now s.sizes.now _ h.sized r.ensures.0 filled (j.ensures.same.long ∙ r.auto.parents) (j.auto.body_islands ∙ c.fill.ensures.len) s.sets (j.ensures.joined.joined ok) (sym j.ensures.joined.answer ∙ ok))
 
 pub returns : goal.returns
 unfolding all_sound
@@ -96,6 +96,6 @@ returns c =
     let sets = joined_sets f _ _ _ _ _ c.fill.new.self s.parents.now s.sizes.now _ h.sized r.ensures.0 filled (j.ensures.same.long ∙ r.auto.parents) (j.auto.body_islands ∙ c.fill.ensures.len) s.sets (j.ensures.joined.joined ok) in
     ended s.parents.now s.sizes.now (search rules) (search rules) (record {
       refusal = ap (λ (t : Bool). cond t 0 7) (sym passed);
-      accepted = λ e. (sets, c.label_frame.ensures);
+      accepted = λ e. (sets, c.label_frame-islands.ensures);
       blank = λ e. clashes (all_sound f) passed e;
     })
