@@ -1,10 +1,10 @@
 -- What constraints join, and which bodies they constrain. A live pair of dynamic bodies has one edge, any other pair none; a live constraint on more bodies has an edge from its
 -- first dynamic body to each later one. A live constraint constrains its bodies. What is joined by one list and then by another is joined by both together: so a loop over the
 -- constraints joins them all.
-use Rattle.std.proofs.Common.{ℕ, ◌+◌, ◌≤◌, ◌<◌, arith, add-one, ◌≡◌, refl, sym, ap, ◌∙◌, Bool, true, false, ◌&&◌, cond, List, [], ◌∷◌, ◌++◌, map, append_assoc, append-nil, eqb, ltb, length, get_or, drop, drop_of_length-le, drop-cons, eq-eqb, ne_eqb, ltb-true}
+use Rattle.std.proofs.Common.{ℕ, ◌+◌, ◌*◌, ◌≤◌, ◌<◌, arith, add-one, ◌≡◌, refl, sym, ap, ◌∙◌, Bool, true, false, ◌&&◌, cond, List, [], ◌∷◌, ◌++◌, map, append_assoc, append-nil, eqb, ltb, length, get_or, drop, drop_of_length-le, drop-cons, eqb-true, eq-eqb, ne_eqb, ltb-true}
 use Rattle.std.proofs.Math.Bool.{or-false}
 use Rattle.lists.specs.Basics.{any, all, mem}
-use Rattle.lists.proofs.Laws.{and_left, and_right, and_both, any_append, all_append, cond-or}
+use Rattle.lists.proofs.Laws.{and_left, and_right, and_both, not-true-false, any_append, all_append, cond-or}
 use Rattle.lists.proofs.Ranges.{join_map-append}
 use Rattle.frame.specs.Frames.{Constraint, Frame, constraint, dynamic, on, sound, none}
 use Rattle.island_sets.specs.Sets.{root_of, hang}
@@ -35,11 +35,16 @@ module _ (n : ℕ) (g : ℕ → ℕ) (ts : List ℕ) (a b : ℕ) where
   unfolding edges_of dynamic
   joined = ap (hang_all n g) (pairs (eqb (get_or ts a 0) 2) (eqb (get_or ts b 0) 2) a b)
 
-  pub join_off : both ≡ false → g ≡ hang_all n g (edges_of (bare ts) (constraint true a b))
-  join_off e = sym (joined ∙ rw e)
+  -- the code tests the two types, u and v, as one number
+  module _ (u v : ℕ) (eu : u ≡ get_or ts a 0) (ev : v ≡ get_or ts b 0) (small : v < 256) where
+    pub join_off : (u * 256 + v ≡ 514 → ⊥) → g ≡ hang_all n g (edges_of (bare ts) (constraint true a b))
+    join_off e = sym (joined ∙ rw off)
+      where
+        off : both ≡ false
+        off = not-true-false both (λ t. e (omega (arith, eqb-true (get_or ts a 0) 2 (and_left (eqb (get_or ts a 0) 2) (eqb (get_or ts b 0) 2) t), eqb-true (get_or ts b 0) 2 (and_right (eqb (get_or ts a 0) 2) (eqb (get_or ts b 0) 2) t))))
 
-  pub join-on : both ≡ true → hang n g a b ≡ hang_all n g (edges_of (bare ts) (constraint true a b))
-  join-on e = sym (joined ∙ rw e)
+    pub join-on : u * 256 + v ≡ 514 → hang n g a b ≡ hang_all n g (edges_of (bare ts) (constraint true a b))
+    join-on e = sym (joined ∙ rw (eq-eqb (get_or ts a 0) 2 (omega arith), eq-eqb (get_or ts b 0) 2 (omega arith)))
 
 -- ---- what bodies bs join: the first dynamic one
 module _ (ts bs : List ℕ) where

@@ -17,7 +17,10 @@ use frame::asked::{AskedLists, Joints};
 use frame::constraints::{Constraints, Lent, sound_one};
 use island_sets::BodySets;
 
-// Two bodies are joined if both are dynamic. Both types are tested at once: one branch to guess, not two. Its code stands in the
+// The types of two dynamic bodies, 2 and 2, as the two bytes of one number.
+const BOTH_DYNAMIC: usize = 514;
+
+// Two bodies are joined if both are dynamic. Their types are tested as one number: one branch to guess, not two. Its code stands in the
 // loops that call it, so that no pair costs a call.
 #[inline(always)]
 fn join_dynamic(body_types: &[u8], sets: &mut BodySets<'_>, a: u16, b: u16)
@@ -25,9 +28,10 @@ fn join_dynamic(body_types: &[u8], sets: &mut BodySets<'_>, a: u16, b: u16)
     ensures { Kept sets.old sets.new
         × (root_of sets.new.parents.now ≡ hang_all (length body_types.now) (root_of sets.old.parents.now) (edges_of (bare body_types.now) (constraint true a b))) }
 {
-    let dynamic_a = body_types[usize::from(a)] == Frame::DYNAMIC;
-    let dynamic_b = body_types[usize::from(b)] == Frame::DYNAMIC;
-    if !(dynamic_a & dynamic_b) {
+    let type_a = usize::from(body_types[usize::from(a)]);
+    let type_b = usize::from(body_types[usize::from(b)]);
+    let types = type_a * 256 + type_b;
+    if types != BOTH_DYNAMIC {
         return;
     }
     sets.union(a, b);
