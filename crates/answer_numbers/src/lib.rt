@@ -37,10 +37,10 @@ fn numbers_of(taken: Taken) -> [u16; 4]
     ensures { result ≡ handed_numbers (Ok taken) }
 {
     [
-        taken.first,
-        u16::from(taken.first_dynamic),
-        taken.second,
-        u16::from(taken.second_dynamic),
+        taken.first.body,
+        u16::from(taken.first.dynamic),
+        taken.second.body,
+        u16::from(taken.second.dynamic),
     ]
 }
 
@@ -48,17 +48,16 @@ fn numbers_of(taken: Taken) -> [u16; 4]
 fn numbers_at(taken: TakenAt) -> [u16; 8]
     ensures { result ≡ taken_numbers (Ok taken) }
 {
-    let bodies = taken.bodies;
-    let dynamic = taken.dynamic;
+    let handed = taken.handed;
     [
-        bodies[0],
-        u16::from(dynamic[0]),
-        bodies[1],
-        u16::from(dynamic[1]),
-        bodies[2],
-        u16::from(dynamic[2]),
-        bodies[3],
-        u16::from(dynamic[3]),
+        handed[0].body,
+        u16::from(handed[0].dynamic),
+        handed[1].body,
+        u16::from(handed[1].dynamic),
+        handed[2].body,
+        u16::from(handed[2].dynamic),
+        handed[3].body,
+        u16::from(handed[3].dynamic),
     ]
 }
 

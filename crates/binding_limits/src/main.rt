@@ -8,7 +8,7 @@ ghost use Rattle.std.specs.Prelude.{[], ◌∷◌};
 ghost use Rattle.colored_bodies.specs.Answers.{Takes, TakesAt};
 
 use colored_bodies::multi::TakenAt;
-use colored_bodies::{BodyBinding, Step, Taken};
+use colored_bodies::{BodyBinding, Handed, Step, Taken};
 use frame::Refusal;
 use frame::refusal::refusal_number;
 use std::{array, io};
@@ -27,13 +27,18 @@ fn show_bind(rt: &impl Print, types: &[u8], indices: &[u16]) -> io::Result<BodyB
     Ok(binding)
 }
 
+// A body, and 1 for "dynamic".
+fn print_handed(rt: &impl Print, handed: Handed) -> io::Result<()> {
+    print!(rt; " {} {}", handed.body, u8::from(handed.dynamic))
+}
+
 fn print_take(rt: &impl Print, take: Take) -> io::Result<()> {
     match take {
         Ok(taken) => {
-            let Taken { first, second, .. } = taken;
-            let first_mark = u8::from(taken.first_dynamic);
-            let second_mark = u8::from(taken.second_dynamic);
-            println!(rt; " 0 {first} {first_mark} {second} {second_mark}")
+            print!(rt; " 0")?;
+            print_handed(rt, taken.first)?;
+            print_handed(rt, taken.second)?;
+            println!(rt; "")
         }
         Err(refusal) => println!(rt; " {refusal}"),
     }
@@ -93,10 +98,9 @@ fn take_kept(mut binding: BodyBinding, a: usize, b: usize) -> Step<Take>
 fn print_taken(rt: &impl Print, taken: SeveralTaken) -> io::Result<()> {
     print!(rt; " {}", refusal_number(&taken))?;
     if let Ok(taken) = taken {
-        let bodies = taken.bodies;
-        let dynamic = taken.dynamic;
-        for (body, dynamic) in bodies.iter().zip(&dynamic).take(taken.count) {
-            print!(rt; " {body} {}", u8::from(*dynamic))?;
+        let handed = taken.handed;
+        for handed in handed.iter().take(taken.count) {
+            print_handed(rt, *handed)?;
         }
     }
     println!(rt; "")

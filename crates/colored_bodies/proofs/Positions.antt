@@ -10,9 +10,10 @@ use Rattle.lists.proofs.Laws.{and_right, all_weaken, all_in, all_intro, all-get_
 use Rattle.frame.specs.Frames.{counted}
 use Rattle.frame.proofs.Questions.{passed, zero-cond}
 use Rattle.colored_bodies.specs.Bindings.{placed, ask_refusal, spend, refusal_from, marks_from, take_refusal, take_marks, handed_at, take_of}
-use Rattle.colored_bodies.specs.Answers.{Handable, MarksAt, TakesAt, with_bodies_at}
+use Rattle.colored_bodies.specs.Answers.{Handable, MarksAt, TakesAt, flags_of, four_handed, handed_each, with_bodies_at}
 use Rattle.colored_bodies.specs.Lent.{entries_at}
 use Rattle.colored_bodies.specs.declared.BodyBinding.{BodyBinding}
+use Rattle.colored_bodies.specs.declared.Handed.{Handed}
 use Rattle.colored_bodies.specs.declared.multi.TakenAt.{TakenAt}
 use Rattle.ordering.proofs.Sorting.{length-sorted}
 use Rattle.colored_bodies.proofs.Fills.{pad_to, taken_more}
@@ -125,9 +126,9 @@ held_each (a ∷ b ∷ []) h = absurd (omega arith)
 held_each (a ∷ b ∷ c ∷ []) h = absurd (omega arith)
 held_each (a ∷ b ∷ c ∷ d ∷ e ∷ ms) h = absurd (omega arith)
 
-held_none : (n : ℕ) → map held (replicate n 0) ≡ replicate n 0
-held_none zero = refl
-held_none (suc n) = ap (λ (l : List ℕ). 0 ∷ l) (held_none n)
+map_replicate : {A B : Type 0} (f : A → B) (n : ℕ) (x : A) → map f (replicate n x) ≡ replicate n (f x)
+map_replicate f zero x = refl
+map_replicate f (suc n) x = ap (λ (l : List _). f x ∷ l) (map_replicate f n x)
 
 held_four : (marks ps : List ℕ) → map held (four (map (λ p. get_or marks p 0) ps)) ≡ four (map (flag_at marks) ps)
 unfolding four
@@ -136,7 +137,7 @@ held_four marks ps =
     let both : map held entries ≡ map (flag_at marks) ps = map-map held (λ (p : ℕ). get_or marks p 0) ps in
     let n : length entries ≡ length (map (flag_at marks) ps) = length-map ps (λ (p : ℕ). get_or marks p 0) ∙ sym (length-map ps (flag_at marks)) in
     map-append held entries (replicate (4 - length entries) 0)
-    ∙ ap (λ (l : List ℕ). map held entries ++ l) (held_none (4 - length entries))
+    ∙ ap (λ (l : List ℕ). map held entries ++ l) (map_replicate held (4 - length entries) 0)
     ∙ ap (λ (l : List ℕ). l ++ replicate (4 - length entries) 0) both
     ∙ ap (λ (k : ℕ). map (flag_at marks) ps ++ replicate (4 - k) 0) n
 
@@ -184,6 +185,51 @@ module _ (bodies marks ps : List ℕ) (count : ℕ) where
     unfolding take_of
     at_taken flags z e = record { refusal = z ∙ number; dynamic = e ∙ rw (eq-eqb (take_refusal binding ps) 0 (sym (z ∙ number))) (ap four (sym (map-map (λ h. one h.dynamic) (handed_at binding) ps))); marks = after }
 
+-- ---- four bodies, each with its flag
+module _ (hs : List Handed) where
+  abbrev past : Handed
+  past = record { body = 0; dynamic = false }
+
+  abbrev rest : List Handed
+  rest = replicate (4 - length hs) past
+
+  four_bodies : four (map (λ h. h.body) hs) ≡ map (λ h. h.body) (four_handed hs)
+  unfolding four
+  four_bodies =
+      ap (λ (k : ℕ). map (λ h. h.body) hs ++ replicate (4 - k) 0) (length-map hs (λ h. h.body))
+      ∙ ap (λ (l : List ℕ). map (λ h. h.body) hs ++ l) (sym (map_replicate (λ (h : Handed). h.body) (4 - length hs) past))
+      ∙ sym (map-append (λ h. h.body) hs rest)
+
+  four_flags : flags_of hs ≡ map (λ h. one h.dynamic) (four_handed hs)
+  unfolding four
+  four_flags =
+      ap (λ (k : ℕ). map (λ h. one h.dynamic) hs ++ replicate (4 - k) 0) (length-map hs (λ h. one h.dynamic))
+      ∙ ap (λ (l : List ℕ). map (λ h. one h.dynamic) hs ++ l) (sym (map_replicate (λ (h : Handed). one h.dynamic) (4 - length hs) past))
+      ∙ sym (map-append (λ h. one h.dynamic) hs rest)
+
+-- flags are known by their numbers
+flag_read : (flags : List Bool) → map (λ n. eqb n 1) (map one flags) ≡ flags
+flag_read [] = refl
+flag_read (true ∷ flags) = ap (λ (l : List Bool). true ∷ l) (flag_read flags)
+flag_read (false ∷ flags) = ap (λ (l : List Bool). false ∷ l) (flag_read flags)
+
+flags_same : (flags : List Bool) (hs : List Handed) → map one flags ≡ map (λ h. one h.dynamic) hs → flags ≡ map (λ h. h.dynamic) hs
+flags_same flags hs e =
+    sym (flag_read flags) ∙ ap (map (λ n. eqb n 1)) (e ∙ sym (map-map one (λ h. h.dynamic) hs)) ∙ flag_read (map (λ h. h.dynamic) hs)
+
+handed_same : (hs : List Handed) → length hs ≡ 4 → handed_each (map (λ h. h.body) hs) (map (λ h. h.dynamic) hs) ≡ hs
+handed_same (a ∷ b ∷ c ∷ d ∷ []) h = refl
+handed_same [] h = absurd (omega arith)
+handed_same (a ∷ []) h = absurd (omega arith)
+handed_same (a ∷ b ∷ []) h = absurd (omega arith)
+handed_same (a ∷ b ∷ c ∷ []) h = absurd (omega arith)
+handed_same (a ∷ b ∷ c ∷ d ∷ e ∷ hs) h = absurd (omega arith)
+
+pub handed_four : (hs : List Handed) (bs : List ℕ) (flags : List Bool) → length hs ≤ 4 → bs ≡ four (map (λ h. h.body) hs) → map one flags ≡ flags_of hs → handed_each bs flags ≡ four_handed hs
+handed_four hs bs flags few e f =
+    rw (e ∙ four_bodies hs, flags_same flags (four_handed hs) (f ∙ four_flags hs))
+    (handed_same (four_handed hs) (omega (arith, length-append hs (rest hs), length-replicate (4 - length hs) (past hs))))
+
 -- ---- from a take of marks to the whole take
 module _ (b : BodyBinding) (ps left : List ℕ) where
   -- a take that is not refused passed questions 5 and 9
@@ -198,21 +244,21 @@ module _ (b : BodyBinding) (ps left : List ℕ) where
       record {
         refusal = k.refusal;
         count = rw none;
-        bodies = rw none;
-        dynamic = k.dynamic;
+        handed = rw none;
         after = ap (λ (l : List ℕ). record { bodies = b.bodies; marks = l; count = b.count }) k.marks;
       }
 
   pub takes_taken : (flags : List Bool) (bs : List ℕ) → MarksAt b ps (Ok flags) left → bs ≡ four (map (λ p. get_or b.bodies p 0) ps)
-      → TakesAt b ps (Ok (record { count = length ps; bodies = bs; dynamic = flags })) (record { bodies = b.bodies; marks = left; count = b.count })
+      → TakesAt b ps (Ok (record { count = length ps; handed = handed_each bs flags })) (record { bodies = b.bodies; marks = left; count = b.count })
   unfolding take_of
   takes_taken flags bs k f =
       let all : eqb (take_refusal b ps) 0 ≡ true = eq-eqb (take_refusal b ps) 0 (sym k.refusal) in
+      let few : length ps ≤ 4 = (taken_handable flags k).room in
+      let bodies : bs ≡ four (map (λ h. h.body) (map (handed_at b) ps)) = f ∙ ap four (sym (map-map (λ h. h.body) (handed_at b) ps)) in
       record {
         refusal = k.refusal;
         count = rw all (sym (length-map ps (handed_at b)));
-        bodies = f ∙ rw all (ap four (sym (map-map (λ h. h.body) (handed_at b) ps)));
-        dynamic = k.dynamic;
+        handed = rw all (handed_four (map (handed_at b) ps) bs flags (omega (arith, length-map ps (handed_at b))) bodies (rw all at k.dynamic));
         after = ap (λ (l : List ℕ). record { bodies = b.bodies; marks = l; count = b.count }) k.marks;
       }
 

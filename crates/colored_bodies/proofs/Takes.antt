@@ -8,7 +8,8 @@ use Rattle.lists.specs.Basics.{all, count, one, mem, place, distinct, insert, so
 use Rattle.lists.proofs.Laws.{and_left, and_right, and_both, or_right, clashes, by_cases, not-true-false, bool_ext, mem_self, mem-map, map-mem, map_ext_in, get_or-map-lt, place-lt, place_get, get_place, distinct-map, all_intro, all_map, distinct-count, count-distinct, mem-count, count-any, replicate-at}
 use Rattle.frame.specs.Frames.{conflicts, counted}
 use Rattle.colored_bodies.specs.declared.BodyBinding.{BodyBinding}
-use Rattle.colored_bodies.specs.Bindings.{padded, bound_of, placed, free, spend, refusal_from, marks_from, ask_refusal, take_refusal, take_marks, Handed, handed_at, take_of}
+use Rattle.colored_bodies.specs.declared.Handed.{Handed}
+use Rattle.colored_bodies.specs.Bindings.{padded, bound_of, placed, free, spend, refusal_from, marks_from, ask_refusal, take_refusal, take_marks, handed_at, take_of}
 
 -- ---- rising order keeps what a list holds
 count-insert : (n x : ℕ) (xs : List ℕ) → count (eqb n) (insert x xs) ≡ one (eqb n x) + count (eqb n) xs

@@ -4,6 +4,7 @@ use Rattle.lists.specs.Basics.{all, distinct, rises, sorted}
 use Rattle.frame.specs.Frames.{flag_of, counted}
 use Rattle.frame.specs.Questions.{question, asked, types_known}
 use Rattle.colored_bodies.specs.declared.BodyBinding.{BodyBinding}
+use Rattle.colored_bodies.specs.declared.Handed.{Handed}
 
 -- ---- binding
 
@@ -74,11 +75,7 @@ take_refusal b ps = cond (eqb (ask_refusal b.count ps) 0) (refusal_from 10 b.mar
 unfoldable pub take_marks : BodyBinding → List ℕ → List ℕ
 take_marks b ps = cond (eqb (ask_refusal b.count ps) 0) (marks_from b.marks (sorted ps)) b.marks
 
--- a body as a take answers it: its number, and "dynamic" or "read-only"
-pub record Handed : Type 0 where
-  pub body : ℕ
-  pub dynamic : Bool
-
+-- a body as a take answers it
 abbrev pub handed_at : BodyBinding → ℕ → Handed
 handed_at b p = record { body = get_or b.bodies p 0; dynamic = eqb (get_or b.marks p 0) 1 }
 

@@ -53,13 +53,18 @@ pub struct Marked {
     pub second_dynamic: bool,
 }
 
-// What a take hands: besides, the bodies' numbers.
+// A body as a take hands it: its number, and whether it is "dynamic" or "read-only".
+#[derive(Clone, Copy, Debug, PartialEq, Eq)]
+pub struct Handed {
+    pub body: u16,
+    pub dynamic: bool,
+}
+
+// What a take hands: its two bodies, in the order asked.
 #[derive(Clone, Copy, Debug, PartialEq, Eq)]
 pub struct Taken {
-    pub first: u16,
-    pub first_dynamic: bool,
-    pub second: u16,
-    pub second_dynamic: bool,
+    pub first: Handed,
+    pub second: Handed,
 }
 
 // A take by value: the binding after it, and its answer.
@@ -207,12 +212,15 @@ pub fn take_from(
 {
     let mut bound = BoundMarks { marks, count };
     let marked = bound.take(a, b)?;
-    Ok(Taken {
-        first: bodies[a],
-        first_dynamic: marked.first_dynamic,
-        second: bodies[b],
-        second_dynamic: marked.second_dynamic,
-    })
+    let first = Handed {
+        body: bodies[a],
+        dynamic: marked.first_dynamic,
+    };
+    let second = Handed {
+        body: bodies[b],
+        dynamic: marked.second_dynamic,
+    };
+    Ok(Taken { first, second })
 }
 
 // The same take where the caller keeps the binding, with no copy.

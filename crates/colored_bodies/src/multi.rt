@@ -4,19 +4,17 @@ ghost use Rattle.std.specs.Prelude.{◌≡◌, ◌≤◌, ℕ, List, map, cond, 
 ghost use Rattle.lists.specs.Basics.{all, one, four, sorted};
 ghost use Rattle.frame.specs.Refusals.{number_of, refused_by};
 ghost use Rattle.colored_bodies.specs.Bindings.{ask_refusal, refusal_from, marks_from};
-ghost use Rattle.colored_bodies.specs.Answers.{Handable, MarksAt, TakesAt};
+ghost use Rattle.colored_bodies.specs.Answers.{Handable, MarksAt, TakesAt, handed_each};
 ghost use Rattle.colored_bodies.specs.Lent.{binding_with, SameMarks, entries_at};
 
-use crate::{BodyBinding, BoundMarks, HELD, READ_ONLY, Step, take_body};
+use crate::{BodyBinding, BoundMarks, HELD, Handed, READ_ONLY, Step, take_body};
 use frame::{Frame, Refusal, ask};
 
-// What a take hands: how many bodies, their numbers in the order asked, and for each whether it is "dynamic" or "read-only". Past the bodies
-// stand 0 and "read-only".
+// What a take hands: how many bodies, and the bodies in the order asked. Past them stand the number 0 and "read-only".
 #[derive(Clone, Copy, Debug, PartialEq, Eq)]
 pub struct TakenAt {
     pub count: usize,
-    pub bodies: [u16; Frame::MAX_ENDS],
-    pub dynamic: [bool; Frame::MAX_ENDS],
+    pub handed: [Handed; Frame::MAX_ENDS],
 }
 
 // The lower of a count and 4,096: positions below both are below this.
@@ -121,6 +119,33 @@ impl BoundMarks<'_> {
     }
 }
 
+// Four bodies' numbers, each with whether it is "dynamic".
+fn handed_each(
+    bodies: [u16; Frame::MAX_ENDS],
+    dynamic: [bool; Frame::MAX_ENDS],
+) -> [Handed; Frame::MAX_ENDS]
+    ensures { result ≡ handed_each bodies dynamic }
+{
+    [
+        Handed {
+            body: bodies[0],
+            dynamic: dynamic[0],
+        },
+        Handed {
+            body: bodies[1],
+            dynamic: dynamic[1],
+        },
+        Handed {
+            body: bodies[2],
+            dynamic: dynamic[2],
+        },
+        Handed {
+            body: bodies[3],
+            dynamic: dynamic[3],
+        },
+    ]
+}
+
 // Takes the bodies at two to four positions, the lowest position first, from the parts of a binding: what the calls for C are lent.
 pub fn take_from(
     bodies: &[u16; Frame::MAX_BODIES],
@@ -132,10 +157,10 @@ pub fn take_from(
 {
     let mut bound = BoundMarks { marks, count };
     let dynamic = bound.take_at(positions)?;
+    let numbers = entries_at(bodies, positions, 0);
     Ok(TakenAt {
         count: positions.len(),
-        bodies: entries_at(bodies, positions, 0),
-        dynamic,
+        handed: handed_each(numbers, dynamic),
     })
 }
 

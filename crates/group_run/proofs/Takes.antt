@@ -19,7 +19,8 @@ use Rattle.colored_bodies.specs.declared.BoundMarks.{BoundMarks}
 use Rattle.colored_bodies.specs.Lent.{BoundBy, SameMarks}
 use Rattle.frame.proofs.Answered.{numbered}
 use Rattle.frame.specs.Refusals.{number_of, refused_by}
-use Rattle.colored_bodies.specs.Bindings.{Handed, bind_of, handed_at, take_of, take_refusal, take_marks}
+use Rattle.colored_bodies.specs.Bindings.{bind_of, handed_at, take_of, take_refusal, take_marks}
+use Rattle.colored_bodies.specs.declared.Handed.{Handed}
 use Rattle.colored_bodies.specs.Answers.{marked_dynamic, Marks, marked_flags, flags_of, MarksAt}
 use Rattle.schedules.specs.Runs.{Call, members_in, bodies_in, lookup_refusal, lookup_of, take_rank, calls_from, turns_of, takes_of}
 use Rattle.multi_coloring.proofs.Lookups.{read-known}

@@ -1,18 +1,22 @@
 // A binding with takes: types, a list, then pairs of positions, one byte each.
 use crate::Answer;
-use colored_bodies::{BodyBinding, Taken};
+use colored_bodies::{BodyBinding, Handed, Taken};
 use frame::refusal::refusal_number;
 use frame::{Frame, Refusal};
 use records::{Reader, Writer, first};
+
+// A body, and 1 for "dynamic".
+fn put_handed(handed: Handed, out: &mut Answer) {
+    out.half(handed.body);
+    out.byte(u8::from(handed.dynamic));
+}
 
 fn put_take(taken: Result<Taken, Refusal>, out: &mut Answer) {
     match taken {
         Ok(taken) => {
             out.byte(0);
-            out.half(taken.first);
-            out.byte(u8::from(taken.first_dynamic));
-            out.half(taken.second);
-            out.byte(u8::from(taken.second_dynamic));
+            put_handed(taken.first, out);
+            put_handed(taken.second, out);
         }
         Err(refusal) => out.byte(refusal.number()),
     }

@@ -3,7 +3,8 @@
 use Rattle.schedules.specs.Runs.{turn_of, run_calls, Call, Plans, Orders, plan_at, members_in, bodies_in, take_rank, calls_from, group_calls, schedule, rising, turns_of, takes_of, run_refusal, run_of}
 use Rattle.frame.specs.Frames.{turn_count, degree_sum, degree_max, Constraint, Frame, constraints, numbers, bodies, constraint_at, nothing, conflicting, on, touches, none, degree}
 use Rattle.groups.specs.Groups.{Plan, group_count, members}
-use Rattle.colored_bodies.specs.Bindings.{bind_of, Handed}
+use Rattle.colored_bodies.specs.Bindings.{bind_of}
+use Rattle.colored_bodies.specs.declared.Handed.{Handed}
 use Rattle.std.proofs.Common.{ap₂, ◌≡◌, refl, sym, ap, ◌∙◌, ◌++◌, List, [], ◌∷◌, map, ℕ, zero, suc, ◌+◌, ◌*◌, ◌≤◌, ◌<◌, Bool, true, false, ◌&&◌, arith, ltb, eqb, length, get_or, eqb-true, ne_eqb, lt-ltb, le-ltb}
 use mathlib.Core.List.{map-append}
 use Rattle.lists.specs.Basics.{one, all, sum_of, max_of, count, join_map, range_from, range, mem}

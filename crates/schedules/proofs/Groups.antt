@@ -9,7 +9,8 @@ use Rattle.connected_sets.specs.Islands.{island_count, of_island}
 use Rattle.groups.specs.Groups.{Plan, members, group_bodies, positions}
 use Rattle.groups.proofs.Colors.{proper}
 use Rattle.groups.proofs.Members.{member_is, members_rise, bodies_rise, bodies-few, bodies_exist, has_body}
-use Rattle.colored_bodies.specs.Bindings.{last_below, bind_refusal, bind_of, Handed, take_of}
+use Rattle.colored_bodies.specs.Bindings.{last_below, bind_refusal, bind_of, take_of}
+use Rattle.colored_bodies.specs.declared.Handed.{Handed}
 use Rattle.colored_bodies.proofs.Takes.{typed, left_of, left-first, take_left}
 use Rattle.schedules.specs.Condition.{SameNumbers, due}
 use Rattle.schedules.proofs.Accepted.{Accepted, live, sized, flag_conflicts}

@@ -11,7 +11,7 @@ use Rattle.connected_sets.specs.Islands.{island_count, body_label, of_island}
 use Rattle.connected_sets.proofs.Theorem.{label-each}
 use Rattle.groups.specs.Groups.{members}
 use Rattle.groups.proofs.Members.{member_is}
-use Rattle.colored_bodies.specs.Bindings.{Handed}
+use Rattle.colored_bodies.specs.declared.Handed.{Handed}
 use Rattle.schedules.specs.Runs.{Call, Plans, Orders, schedule}
 use Rattle.schedules.specs.Condition.{Schedule, due}
 use Rattle.schedules.specs.Lanes.{holds_body, Turns, Apart, LanesApart, IslandsApart, UnloggedApart}

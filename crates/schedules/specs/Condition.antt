@@ -11,7 +11,7 @@ use Rattle.plan_questions.specs.Plans.{Tables, roomy}
 use Rattle.constraint_coloring.specs.Calls.{fresh_plan, plan_after, plan_with, Updated}
 use Rattle.multi_coloring.specs.declared.MultiColoring.{MultiColoring}
 use Rattle.multi_coloring.specs.Calls.{fresh_multi, multi_roomy, numbers_of, MultiUpdated}
-use Rattle.colored_bodies.specs.Bindings.{Handed}
+use Rattle.colored_bodies.specs.declared.Handed.{Handed}
 use Rattle.schedules.specs.Runs.{Call, Plans, Orders, flags, pairs_for, counts_for, plan_at, members_in, schedule, rising, run_calls, turn_of, turns_of, takes_of, run_of}
 
 -- two lists of exactly the same numbers, each as often

@@ -10,7 +10,8 @@ use Rattle.plan_questions.specs.Plans.{group_part, positions_refusal}
 use Rattle.plan_history.specs.Memory.{fresh, remembered, plan_for}
 use Rattle.multi_coloring.specs.Counts.{multi_positions_refusal, positions_in}
 use Rattle.colored_bodies.specs.declared.BodyBinding.{BodyBinding}
-use Rattle.colored_bodies.specs.Bindings.{Handed, Taking, bind_of, take_of}
+use Rattle.colored_bodies.specs.Bindings.{Taking, bind_of, take_of}
+use Rattle.colored_bodies.specs.declared.Handed.{Handed}
 
 -- ---- the calls of a schedule
 

@@ -10,10 +10,10 @@ returns-in_err-dynamic c =
     let kept = c.in_err-dynamic.ensures.same.kept in
     rw (p.1, p.2) (takes_at_leaving (takes_refused _ _ _ _ (c.in_err-dynamic.ensures.taken c.args.bodies.now)) (grind (arith, kept)))
 
-pub entries_at-requires : goal.entries_at-requires
-entries_at-requires c = (omega arith, (omega arith, taken_handable _ _ _ _ (c.in_ok-dynamic.ensures.taken c.args.bodies.now)))
+pub entries_at-numbers-requires : goal.entries_at-numbers-requires
+entries_at-numbers-requires c = (omega arith, (omega arith, taken_handable _ _ _ _ (c.in_ok-dynamic.ensures.taken c.args.bodies.now)))
 
 pub returns : goal.returns
 returns c =
     let kept = c.in_ok-dynamic.ensures.same.kept in
-    takes_at_leaving (takes_taken _ _ _ _ _ (c.in_ok-dynamic.ensures.taken c.args.bodies.now) (c.entries_at.ensures ∙ entries_four _ _)) (grind (arith, kept))
+    rw c.handed_each.ensures (takes_at_leaving (takes_taken _ _ _ _ _ (c.in_ok-dynamic.ensures.taken c.args.bodies.now) (c.entries_at-numbers.ensures ∙ entries_four _ _)) (grind (arith, kept)))
