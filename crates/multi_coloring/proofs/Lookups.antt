@@ -1,5 +1,5 @@
 -- Counts as they are read. The lookup of positions: where a constraint's positions start, by the counts before it as they are read, and that they
--- end inside the table.
+-- end inside the table, and how they stand in four places.
 use Rattle.std.proofs.Common.{ℕ, ◌+◌, ◌≤◌, ◌<◌, ◌≡◌, refl, sym, ap, ap₂, ◌∙◌, true, List, [], ◌∷◌, map, arith, length, get_or, take, drop, length-take-le, get_or-take, ◌++◌, leb, replicate, length-drop, leb-true}
 use Rattle.std.proofs.Math.ListN.{length-map}
 use Rattle.std.proofs.lemmas.List.{take-map, take-take}
