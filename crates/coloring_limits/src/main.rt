@@ -267,9 +267,14 @@ fn short_tables(rt: &impl Print) -> io::Result<()> {
     Ok(())
 }
 
-fn main(rt: HostRuntime) -> io::Result<()> {
-    on_tables(&rt, 0, 0)?;
-    on_tables(&rt, 255, 65535)?;
-    short_tables(&rt)?;
-    counts::limits(&rt)
+fn show_all(rt: &impl Print) -> io::Result<()> {
+    on_tables(rt, 0, 0)?;
+    on_tables(rt, 255, 65535)?;
+    short_tables(rt)?;
+    counts::limits(rt)
+}
+
+// No exit status tells of a write that failed.
+fn main(rt: HostRuntime) {
+    let _ = show_all(&rt);
 }

@@ -262,12 +262,17 @@ fn too_many_bodies(rt: &impl Print) -> io::Result<()> {
     show_manifolds(rt, "4096 bodies", &[2; MOST], &[], room)
 }
 
-fn main(rt: HostRuntime) -> io::Result<()> {
-    most_bodies(&rt)?;
-    last_endpoint(&rt)?;
-    short_tables(&rt)?;
-    other_sizes(&rt)?;
-    joint_tables(&rt)?;
-    most_joints(&rt)?;
-    too_many_bodies(&rt)
+fn show_all(rt: &impl Print) -> io::Result<()> {
+    most_bodies(rt)?;
+    last_endpoint(rt)?;
+    short_tables(rt)?;
+    other_sizes(rt)?;
+    joint_tables(rt)?;
+    most_joints(rt)?;
+    too_many_bodies(rt)
+}
+
+// No exit status tells of a write that failed.
+fn main(rt: HostRuntime) {
+    let _ = show_all(&rt);
 }

@@ -466,15 +466,20 @@ fn room_samples(rt: &impl Print) -> io::Result<()> {
 
 // Every sample of request 7, in the order of its page; besides, two pairs of which the lower body asked has the higher root, a size table
 // that is too short, logged bodies, and joints of two to four bodies.
-fn main(rt: HostRuntime) -> io::Result<()> {
-    dynamic_samples(&rt)?;
-    eight_pairs(&rt)?;
-    labelled_samples(&rt)?;
-    refused_samples(&rt)?;
-    logged_samples(&rt)?;
-    counted_samples(&rt)?;
-    mixed_samples(&rt)?;
-    refused_counts(&rt)?;
-    refused_ends(&rt)?;
-    room_samples(&rt)
+fn show_all(rt: &impl Print) -> io::Result<()> {
+    dynamic_samples(rt)?;
+    eight_pairs(rt)?;
+    labelled_samples(rt)?;
+    refused_samples(rt)?;
+    logged_samples(rt)?;
+    counted_samples(rt)?;
+    mixed_samples(rt)?;
+    refused_counts(rt)?;
+    refused_ends(rt)?;
+    room_samples(rt)
+}
+
+// No exit status tells of a write that failed.
+fn main(rt: HostRuntime) {
+    let _ = show_all(&rt);
 }
