@@ -3,7 +3,8 @@
 // of just the lengths that are asked for, and with each of them one place short. Then the same of constraints that have a count each.
 #![tactic(auto)]
 
-ghost use Rattle.std.specs.Prelude.{◌<◌};
+ghost use Rattle.std.specs.Prelude.{◌≡◌, ◌<◌, ◌≤◌, ◌-◌, length, take};
+ghost use Rattle.std.specs.Int.{from_bool};
 
 mod counts;
 
@@ -104,8 +105,14 @@ impl Case {
 }
 
 // A checksum of a list.
-fn checksum(list: &[u16]) -> u32 {
-    list.iter().fold(0, |sum, &x| mix(sum, u32::from(x) + 1))
+pub fn checksum(list: &[u16]) -> u32
+    ensures { result ≤ 65520 }
+{
+    let mut sum = 0;
+    for x in list {
+        sum = mix(sum, u32::from(*x) + 1);
+    }
+    sum
 }
 
 // The line of an update: `plan` is the plan after it.
@@ -209,7 +216,10 @@ const SHORT: [Option<Table>; 15] = [
 ];
 
 // A table, a place short if it is to be.
-fn cut<T>(table: &mut [T], short: bool) -> &mut [T] {
+pub fn cut<T>(table: &mut [T], short: bool) -> &mut [T]
+    ensures part { result.now ≡ take (length table.old - from_bool short) table.old }
+    ensures fits { length result.now ≤ length table.old }
+{
     let count = table.len().saturating_sub(usize::from(short));
     &mut table[..count]
 }
