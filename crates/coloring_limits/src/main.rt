@@ -20,7 +20,7 @@ const FLAGS: usize = 4097;
 const ENTRIES: usize = 16386;
 
 // The tables of the most bodies and pairs.
-type Arrays = PlanArrays<4096, 4097, 8192, 8193, 16384>;
+type Arrays = PlanArrays<4096, 4097, 8192, 8193, 16384, 8192>;
 
 // The input of an update: body 0 has the flag `first` and all others 1; the pairs start at (0, `b`), and from pair to pair the
 // first body grows by `a_step` and the second by `b_step`; the last entry is `last` if there is such.
@@ -225,10 +225,15 @@ pub fn cut<T>(table: &mut [T], short: bool) -> &mut [T]
 }
 
 // The tables of a plan, the one that is `short` a place short.
-fn cut_tables<'a, const B: usize, const B1: usize, const C: usize, const C1: usize, const E: usize>(
-    arrays: &'a mut PlanArrays<B, B1, C, C1, E>,
-    short: Option<Table>,
-) -> PlanTables<'a> {
+fn cut_tables<
+    'a,
+    const B: usize,
+    const B1: usize,
+    const C: usize,
+    const C1: usize,
+    const E: usize,
+    const S: usize,
+>(arrays: &'a mut PlanArrays<B, B1, C, C1, E, S>, short: Option<Table>) -> PlanTables<'a> {
     let is = |table| short == Some(table);
     PlanTables {
         dynamic_bodies: cut(&mut arrays.dynamic_bodies, is(Table::DynamicBodies)),
@@ -255,7 +260,7 @@ fn cut_tables<'a, const B: usize, const B1: usize, const C: usize, const C1: usi
 
 // One pair on tables of just the lengths asked for, but one of them a place short.
 fn exact(rt: &impl Print, case: usize, short: Option<Table>) -> io::Result<()> {
-    let mut arrays = PlanArrays::<2, 3, 1, 2, 2>::filled(7, 7);
+    let mut arrays = PlanArrays::<2, 3, 1, 2, 2, 2>::filled(7, 7);
     let before = ConstraintColoring::new();
     let answer = before.update(&[1, 1], &[0, 1], &mut cut_tables(&mut arrays, short));
     show_pairs(

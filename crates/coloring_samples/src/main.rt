@@ -10,7 +10,7 @@ use plan_arrays::PlanArrays;
 use std::{fmt, io};
 
 // The tables of at most 5 bodies and 6 constraints.
-type Arrays = PlanArrays<5, 6, 6, 7, 12>;
+type Arrays = PlanArrays<5, 6, 6, 7, 12, 6>;
 
 // What an update answers: `changed` where the plan changed.
 fn print_answer<P: Copy, D: fmt::Display + Drop>(
