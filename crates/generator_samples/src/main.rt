@@ -34,7 +34,7 @@ fn sum(bytes: &[u8]) -> u32 {
 
 fn fnv(bytes: &[u8]) -> u32 {
     bytes.iter().fold(2166136261, |hash, x| {
-        (hash ^ u32::from(*x)).wrapping_mul(16777619)
+        generator::wrapping_mul(hash ^ u32::from(*x), 16777619)
     })
 }
 
