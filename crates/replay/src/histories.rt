@@ -9,7 +9,7 @@ use records::{Reader, Writer, first};
 #[derive(Clone, Copy)]
 struct Stage {
     plan: ConstraintColoring,
-    arrays: PlanArrays<7, 8, 8, 9, 15>,
+    arrays: PlanArrays<7, 8, 8, 9, 15, 8>,
 }
 
 // 1 for "changed", 2 for "unchanged", else 0 and the refusal.
