@@ -179,7 +179,8 @@ pub fn put_turns(
     let mut turn = first;
     // The lines of the turns from `first` to `turn` are put.
     for numbers in turns_from(turns, first).chunks_exact(3) {
-        if !put_turn(out, turn_in(numbers), frame) {
+        let row = turn_in(numbers);
+        if !put_turn(out, row, frame) {
             return turn;
         }
         turn += 1;
