@@ -110,13 +110,19 @@ fn agrees<A: AsSlice<u8>>(answer: &A, stored: &[u8]) -> bool
 }
 
 // Asks each question of a list again, and compares the answers, byte by byte, with the stored ones. A question and an answer are read
-// into the two lent tables.
-pub fn replay<K, A, R, F>(input: R, question: &mut [u8], stored: &mut [u8], mut answer: F) -> Tally
+// into the two lent tables, and each answer replaces the one before in `out`: by value it would be copied several times.
+pub fn replay<K, A, R, F>(
+    input: R,
+    question: &mut [u8],
+    stored: &mut [u8],
+    out: &mut A,
+    mut answer: F,
+) -> Tally
 where
     K: From<u8>,
-    A: AsSlice<u8> + Drop,
+    A: AsSlice<u8>,
     R: Read + Drop,
-    F: FnMut(K, &[u8]) -> A + Drop,
+    F: FnMut(K, &[u8], &mut A) + Drop,
     requires { F.IsAlwaysCallable answer }
 {
     let mut list = List { input, sum: 0 };
@@ -125,7 +131,8 @@ where
         let Some(record) = list.record::<K>(question, stored) else {
             break;
         };
-        if !agrees(&answer(record.kind, record.question), record.answer) {
+        answer(record.kind, record.question, out);
+        if !agrees(out, record.answer) {
             differ = differ.saturating_add(1);
         }
     }

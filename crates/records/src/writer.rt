@@ -20,6 +20,13 @@ impl<const N: usize> Writer<N> {
         }
     }
 
+    // Nothing is written.
+    pub fn clear(&mut self)
+        ensures { self.new.bytes.items ≡ [] }
+    {
+        self.bytes.clear();
+    }
+
     pub fn bytes(&mut self, from: &[u8])
         ensures whole { array_vec_len self.old.bytes + length from.now ≤ N → self.new.bytes.items ≡ self.old.bytes.items ++ from.now }
         ensures cut { self.new.bytes.items ≡ self.old.bytes.items ++ take (N - array_vec_len self.old.bytes) from.now }

@@ -52,11 +52,11 @@ impl Counts {
 }
 
 // Past a question's end zeros are read, as many as the longest question has room for.
-fn answer(kind: Kind, question: &[u8]) -> Answer {
+fn answer(kind: Kind, question: &[u8], out: &mut Answer) {
     let question: [u8; QUESTION] = array::from_fn(|i| question.get(i).copied().unwrap_or(0));
     match kind {
-        Kind::History => histories::answer(&question),
-        Kind::Binding | Kind::Other => bindings::answer(&question),
+        Kind::History => histories::answer(&question, out),
+        Kind::Binding | Kind::Other => bindings::answer(&question, out),
     }
 }
 
@@ -73,9 +73,11 @@ fn main(rt: HostRuntime) {
         rt.reader(),
         &mut [0; QUESTION],
         &mut [0; 2048],
-        |kind, question| {
+        &mut Answer::new(),
+        |kind, question, out| {
             counts.add(kind);
-            answer(kind, question)
+            out.clear();
+            answer(kind, question, out);
         },
     );
     let _ = show(&rt, counts, tally);

@@ -58,20 +58,19 @@ impl Counts {
 }
 
 // The run of a question's file, and its answer.
-fn answer(kind: Kind, question: &[u8], counts: &mut Counts) -> Answer {
+fn answer(kind: Kind, question: &[u8], counts: &mut Counts, out: &mut Answer) {
     let mut question = Reader::new(question);
     let lent = usize::from(question.half());
     let mut turns = [PATTERN; TURNS];
     let turns = first(&mut turns, lent);
     let ran = standalone_run::run_file(question.rest(), turns);
     counts.add(kind, ran.is_err());
-    let mut out = Writer::new();
+    out.clear();
     out.byte(refusal_number(&ran));
     for number in <[usize; 4]>::from(ran.unwrap_or_default()) {
         out.half((number % 65536) as u16);
     }
     out.halves(turns);
-    out
 }
 
 fn show(rt: &impl Print, counts: Counts, tally: Tally) -> io::Result<()> {
@@ -87,7 +86,8 @@ fn main(rt: HostRuntime) {
         rt.reader(),
         &mut [0; QUESTION],
         &mut [0; ANSWER],
-        |kind, question| answer(kind, question, &mut counts),
+        &mut Answer::new(),
+        |kind, question, out| answer(kind, question, &mut counts, out),
     );
     let _ = show(&rt, counts, tally);
 }
