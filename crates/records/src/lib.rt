@@ -36,10 +36,10 @@ impl fmt::Display for Tally {
 
 // A record that was read.
 #[derive(Clone, Copy)]
-struct Record<'a, K> {
-    kind: K,
-    question: &'a [u8],
-    answer: &'a [u8],
+pub struct Record<'a, K> {
+    pub kind: K,
+    pub question: &'a [u8],
+    pub answer: &'a [u8],
 }
 
 // A list as it is read, and the sum of its bytes so far.
