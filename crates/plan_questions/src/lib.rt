@@ -208,6 +208,6 @@ pub fn group_part<'a>(
             usize::from(*start),
             usize::from(*end),
         ),
-        _ => &[],
+        _ => &table[..0],
     }
 }
