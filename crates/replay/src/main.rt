@@ -7,7 +7,7 @@ mod bindings;
 mod histories;
 
 use records::{Tally, Writer};
-use std::{array, io};
+use std::io;
 
 // An answer has at most so many bytes.
 pub type Answer = Writer<2048>;
@@ -53,10 +53,13 @@ impl Counts {
 
 // Past a question's end zeros are read, as many as the longest question has room for.
 fn answer(kind: Kind, question: &[u8], out: &mut Answer) {
-    let question: [u8; QUESTION] = array::from_fn(|i| question.get(i).copied().unwrap_or(0));
+    let mut whole = [0; QUESTION];
+    for (to, &byte) in whole.iter_mut().zip(question) {
+        *to = byte;
+    }
     match kind {
-        Kind::History => histories::answer(&question, out),
-        Kind::Binding | Kind::Other => bindings::answer(&question, out),
+        Kind::History => histories::answer(&whole, out),
+        Kind::Binding | Kind::Other => bindings::answer(&whole, out),
     }
 }
 
