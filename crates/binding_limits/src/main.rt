@@ -247,13 +247,18 @@ fn any_value(rt: &impl Print) -> io::Result<()> {
     Ok(())
 }
 
-fn main(rt: HostRuntime) -> io::Result<()> {
-    sample(&rt)?;
-    read_only(&rt)?;
-    lent(&rt)?;
-    logged(&rt)?;
-    several(&rt)?;
-    small(&rt)?;
-    large(&rt)?;
-    any_value(&rt)
+fn show_all(rt: &impl Print) -> io::Result<()> {
+    sample(rt)?;
+    read_only(rt)?;
+    lent(rt)?;
+    logged(rt)?;
+    several(rt)?;
+    small(rt)?;
+    large(rt)?;
+    any_value(rt)
+}
+
+// No exit status tells of a write that failed.
+fn main(rt: HostRuntime) {
+    let _ = show_all(&rt);
 }

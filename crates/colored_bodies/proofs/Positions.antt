@@ -3,9 +3,11 @@
 use Rattle.std.proofs.Common.{ℕ, zero, suc, ◌+◌, ◌-◌, ◌≤◌, ◌<◌, ◌≡◌, refl, sym, ap, ◌∙◌, Bool, true, false, ◌&&◌, cond, Result, Ok, Err, List, [], ◌∷◌, ◌++◌, map, arith, add-one, leb, ltb, eqb, length, length-append, get_or, set, take, drop, replicate, drop_of_length-le, drop-cons, length-take-le, take_at, ltb-true, le-leb, leb-true, eq-eqb, ne_eqb}
 use mathlib.Core.List.{map-append, map-map}
 use Rattle.std.proofs.Math.ListN.{length-map, length-replicate}
+use mir.Val.{bool_byte}
 use Rattle.std.proofs.lemmas.Bool.{lt-leb}
 use Rattle.std.proofs.lemmas.Bool.Decides.{nat_tests}
 use Rattle.lists.specs.Basics.{all, one, distinct, sorted, four}
+use Rattle.lists.proofs.Bits.{byte_one}
 use Rattle.lists.proofs.Laws.{and_right, all_weaken, all_in, all_intro, all-get_or}
 use Rattle.frame.specs.Frames.{counted}
 use Rattle.frame.proofs.Questions.{passed, zero-cond}
@@ -39,6 +41,14 @@ all_under (p ∷ ps) count = rw (under p count, all_under ps count)
 pub positions_placed : (ps : List ℕ) (count limit : ℕ) (t : Bool) → limit ≡ cond (ltb count 4096) count 4096 → t ≡ (distinct ps && all (λ p. ltb p limit) ps) → t ≡ placed count ps
 unfolding placed
 positions_placed ps count limit t l e = e ∙ ap (λ (m : ℕ). distinct ps && all (λ p. ltb p m) ps) l ∙ ap (λ (u : Bool). distinct ps && u) (all_under ps count)
+
+-- what they are refused for: 9, or nothing
+module _ (ps : List ℕ) (count limit : ℕ) (t : Bool) (k : 2 ≤ length ps) (h : length ps ≤ 4) (l : limit ≡ cond (ltb count 4096) count 4096) (e : t ≡ (distinct ps && all (λ p. ltb p limit) ps)) where
+  pub ask_nine : t ≡ false → 9 ≡ ask_refusal count ps
+  ask_nine f = rw (le-leb 2 (length ps) k, le-leb (length ps) 4 h, sym (positions_placed ps count limit t l e) ∙ f)
+
+  pub ask_none : t ≡ true → 0 ≡ ask_refusal count ps
+  ask_none f = rw (le-leb 2 (length ps) k, le-leb (length ps) 4 h, sym (positions_placed ps count limit t l e) ∙ f)
 
 pub ask_passed : (ps : List ℕ) (count : ℕ) → 0 ≡ ask_refusal count ps → (length ps ≤ 4) × Places ps
 unfolding placed
@@ -110,6 +120,23 @@ module _ {T : Type 0} (none : T) (table : List T) where
 pub entries_four : (table ps : List ℕ) → entries_at 0 table ps ≡ four (map (λ p. get_or table p 0) ps)
 unfolding four
 entries_four table ps = entries_padded 0 table ps
+
+-- one more of four places is filled
+pub four_next : (g : ℕ → ℕ) (ps : List ℕ) (i v : ℕ) → i < length ps → i < 4 → v ≡ g (get_or ps i 0) → set (four (map g (take i ps))) i v ≡ four (map g (take (i + 1) ps))
+unfolding four
+four_next g ps i v h few e =
+    let done = map g (take i ps) in
+    pad_to 0 4 done i v (length-map (take i ps) g ∙ length-take-le i ps (omega arith)) few
+    ∙ ap (λ (w : ℕ). four (done ++ (w ∷ []))) e
+    ∙ ap four (sym (map-append g (take i ps) (get_or ps i 0 ∷ [])) ∙ ap (map g) (sym (taken_more ps i h)))
+
+pub flags_next : (marks ps : List ℕ) (i : ℕ) → i < length ps → length ps ≤ 4
+    → set (four (map (flag_at marks) (take i ps))) i (bool_byte (eqb (get_or marks (get_or ps i 0) 0) 1)) ≡ four (map (flag_at marks) (take (i + 1) ps))
+flags_next marks ps i h few = four_next (flag_at marks) ps i _ h (omega arith) (byte_one (eqb (get_or marks (get_or ps i 0) 0) 1))
+
+pub four_none : replicate 4 0 ≡ four []
+unfolding four
+four_none = refl
 
 -- four marks, and the flags that they make
 abbrev held : ℕ → ℕ

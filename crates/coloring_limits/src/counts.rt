@@ -10,7 +10,7 @@ use records::first;
 use std::{array, io};
 
 // The tables of four bodies in the most constraints.
-type Arrays = PlanArrays<4, 5, 8192, 8193, 32768>;
+type Arrays = PlanArrays<4, 5, 8192, 8193, 32768, 8192>;
 
 // The same four bodies in as many constraints as there may be, the same input again, and one constraint more.
 fn most(rt: &impl Print) -> io::Result<()> {
@@ -40,7 +40,7 @@ fn most(rt: &impl Print) -> io::Result<()> {
 
 // One constraint of three on tables of just the lengths asked for, but one of them a place short.
 fn exact(rt: &impl Print, case: usize, short: Option<Table>) -> io::Result<()> {
-    let mut arrays = PlanArrays::<3, 4, 1, 2, 3>::filled(7, 7);
+    let mut arrays = PlanArrays::<3, 4, 1, 2, 3, 3>::filled(7, 7);
     let mut counts = [7];
     let before = MultiColoring::new();
     let answer = before.update(

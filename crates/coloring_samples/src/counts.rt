@@ -11,7 +11,7 @@ use std::io;
 struct Stage {
     plan: MultiColoring,
     counts: [u8; 2],
-    arrays: PlanArrays<6, 7, 2, 3, 6>,
+    arrays: PlanArrays<6, 7, 2, 3, 6, 6>,
 }
 
 // A fresh plan, on tables that an earlier use may have left.

@@ -10,7 +10,7 @@ use plan_arrays::PlanArrays;
 use std::{fmt, io};
 
 // The tables of at most 5 bodies and 6 constraints.
-type Arrays = PlanArrays<5, 6, 6, 7, 12>;
+type Arrays = PlanArrays<5, 6, 6, 7, 12, 6>;
 
 // What an update answers: `changed` where the plan changed.
 fn print_answer<P: Copy, D: fmt::Display + Drop>(
@@ -43,14 +43,19 @@ fn sample(rt: &impl Print, flags: &[u8], pairs: &[u16]) -> io::Result<()> {
     println!(rt; "")
 }
 
-fn main(rt: HostRuntime) -> io::Result<()> {
-    sample(&rt, &[1, 1, 1], &[2, 1, 0, 1])?;
-    sample(&rt, &[1, 0, 1], &[0, 1, 2, 1])?;
-    sample(&rt, &[1, 1], &[0, 1, 0, 1, 0, 1])?;
-    sample(&rt, &[0, 0], &[0, 1])?;
-    sample(&rt, &[1, 1], &[])?;
-    sample(&rt, &[1, 1, 1, 1], &[0, 1, 1, 2, 2, 3, 3, 0])?;
-    sample(&rt, &[1, 1, 1, 1, 1], &[0, 1, 2, 3, 1, 2, 3, 4, 0, 4])?;
-    sample(&rt, &[1, 1, 1, 0], &[0, 1, 0, 2, 0, 3, 1, 2, 1, 3, 2, 3])?;
-    counts::samples(&rt)
+fn show_all(rt: &impl Print) -> io::Result<()> {
+    sample(rt, &[1, 1, 1], &[2, 1, 0, 1])?;
+    sample(rt, &[1, 0, 1], &[0, 1, 2, 1])?;
+    sample(rt, &[1, 1], &[0, 1, 0, 1, 0, 1])?;
+    sample(rt, &[0, 0], &[0, 1])?;
+    sample(rt, &[1, 1], &[])?;
+    sample(rt, &[1, 1, 1, 1], &[0, 1, 1, 2, 2, 3, 3, 0])?;
+    sample(rt, &[1, 1, 1, 1, 1], &[0, 1, 2, 3, 1, 2, 3, 4, 0, 4])?;
+    sample(rt, &[1, 1, 1, 0], &[0, 1, 0, 2, 0, 3, 1, 2, 1, 3, 2, 3])?;
+    counts::samples(rt)
+}
+
+// No exit status tells of a write that failed.
+fn main(rt: HostRuntime) {
+    let _ = show_all(&rt);
 }

@@ -17,6 +17,7 @@ ghost use Rattle.constraint_coloring.specs.Stages.{Scheduled, Buildable, Rebuilt
 use frame::{Frame, Refusal, ask};
 use parts::{Ends, Grouped};
 use plan_questions::PlanTables;
+pub use tables::copy_over;
 
 // What a plan carries by value; the rest stands in the tables that its caller lends.
 #[derive(Clone, Copy, Debug, PartialEq, Eq)]
@@ -65,14 +66,6 @@ impl<P: Copy> Update<P> {
             _ => before,
         }
     }
-}
-
-// A list over the first places of a table.
-pub fn copy_over<T: Copy>(from: &[T], to: &mut [T])
-    requires { length from.now ≤ length to.old }
-    ensures { to.new ≡ over from.now to.old }
-{
-    to[..from.len()].copy_from_slice(from);
 }
 
 // The bodies of all groups and the positions of all constraints, whatever the number of their bodies.

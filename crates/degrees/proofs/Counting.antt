@@ -2,7 +2,7 @@
 use Rattle.std.proofs.Common.{ℕ, suc, drop, drop-drop, get_or-drop, length-drop, ◌+◌, ◌≤◌, ◌<◌, max, ◌≡◌, refl, sym, ap, ◌∙◌, Bool, true, false, ◌&&◌, List, [], ◌∷◌, arith, add-one, eqb, length, get_or, replicate}
 use Rattle.std.proofs.Math.ListN.{length-replicate, get_or-replicate}
 use Rattle.lists.specs.Basics.{one, all, count, max_of, range, mem}
-use Rattle.lists.proofs.Laws.{and_left, and_right, or_right, mem_self, range_high, all_append, count-few}
+use Rattle.lists.proofs.Laws.{and_left, and_right, or_right, mem_self, range_high, all_append, count-few, and_both}
 use Rattle.lists.proofs.Ranges.{max-range-suc}
 use Rattle.lists.proofs.Sums.{sum_append}
 use Rattle.frame.specs.Frames.{Constraint, Frame, constraints, dynamic, touches, sound, all_sound, degree, degree_max}
@@ -20,6 +20,32 @@ pub record Counting (ts : List ℕ) (cs rest : List Constraint) (old now : List 
   pub sound : all (sound (length old)) rest ≡ true
   pub long : length now ≡ length old
   pub each : (b : ℕ) → b < length old → get_or now b 0 + count (counts_for ts b) rest ≡ get_or old b 0 + count (counts_for ts b) cs
+
+module _ {ts : List ℕ} {cs rest later : List Constraint} {c : Constraint} {old now : List ℕ} (h : Countable ts cs old) (g : Counting ts cs rest old now) (e : rest ≡ c ∷ later) where
+  next : Counting ts cs (c ∷ later) old now
+  next = rw e at g
+
+  -- the next one can be counted
+  pub counting_one : Countable ts (c ∷ []) now
+  counting_one = record {
+    sound = rw next.long (and_both (sound (length old) c) true (and_left (sound (length old) c) (all (sound (length old)) later) next.sound) refl);
+    long = next.long ∙ h.long;
+    fits = λ b k. omega (arith, next.long, next.each b (omega (arith, next.long)), h.fits b (omega (arith, next.long)));
+  }
+
+  pub counting_more : (new : List ℕ) → length new ≡ length now → Counted ts (c ∷ []) now new → Counting ts cs later old new
+  counting_more new l d = record {
+    sound = and_right (sound (length old) c) (all (sound (length old)) later) next.sound;
+    long = l ∙ next.long;
+    each = λ b k.
+        let k' : b < length now = omega (arith, next.long) in
+        omega (arith, next.each b k, d.each b k');
+  }
+
+pub counting_last : {ts : List ℕ} {cs rest : List Constraint} {old now : List ℕ} → Counting ts cs rest old now → rest ≡ [] → Counted ts cs old now
+counting_last g e =
+    let last : Counting _ _ [] _ _ = rw e at g in
+    record { each = λ b l. omega (arith, last.each b l) }
 
 -- ---- the largest
 

@@ -127,7 +127,13 @@ module _ (bs : List ℕ) (e : asked (file_questions bs) ≡ 0) where
   pub types_long : length (types_in bs) ≡ count_b bs
   types_long = let s = file_sized in length-take-le (count_b bs) (drop 11 bs) (omega (arith, length-drop 11 bs, s.bytes))
 
-  -- of version 1: its length
+  -- of version 1: its first byte, its length
+  pub file_version : second bs ≡ false → byte bs 0 ≡ 1
+  file_version v = let h = file_headed in eqb-true (byte bs 0) 1 (go (eqb (byte bs 0) 1) (rw v at h.version))
+    where
+      go : (b : Bool) → (b || false) ≡ true → b ≡ true
+      go true k = refl
+      go false k = k
 
   pub file_bytes : second bs ≡ false → length bs ≡ 11 + count_b bs + 4 * count_m bs + 5 * count_j bs
   file_bytes v = first_bytes bs head_parts.0 v joint_parts.0
@@ -168,7 +174,9 @@ module _ (bs : List ℕ) where
       (λ v. rw v (live_long bs (joints_at bs) (count_j bs)))
       (λ v. rw v (enabled_long bs (joints_at bs) (count_j bs)))
 
-  -- on version 1 there are two endpoints a joint
+  -- on version 1 there are no counts, and two endpoints a joint
+  pub counts-first : second bs ≡ false → counts_in bs ≡ []
+  counts-first v = rw v
 
   pub ends-first_long : second bs ≡ false → length (joint_ends_in bs) ≡ 2 * count_j bs
   ends-first_long v = rw v (pairs_long bs (joints_at bs) 5 (count_j bs))

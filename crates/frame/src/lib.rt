@@ -290,7 +290,7 @@ fn decode_types(bytes: &[u8], types: &mut [u8])
     ensures { types.new ≡ take (length types.old) (drop 11 bytes.now) }
 {
     let count = types.len();
-    types.copy_from_slice(&bytes[HEADER..HEADER + count]);
+    tables::copy_over(&bytes[HEADER..HEADER + count], types);
 }
 
 // Whether a body of this type makes conflicts: it is dynamic, or logged.

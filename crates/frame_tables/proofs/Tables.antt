@@ -1,6 +1,6 @@
 -- Once questions 1 to 6 are passed, an islands call asks only 7, with counts or without. Its labels, read from the front of the lent tables,
 -- are the frame's, or none after 7, and either way they can be sorted.
-use Rattle.std.proofs.Common.{ℕ, ◌+◌, ◌*◌, ◌/◌, ◌%◌, ◌≤◌, ◌≡◌, refl, sym, ap, ◌∙◌, subst, true, false, cond, List, Result, Ok, Err, [], ◌∷◌, ◌++◌, map, arith, eqb, length, take, drop, replicate, take_at, drop_at, length-take-le, le-leb, eq-eqb, eqb-true}
+use Rattle.std.proofs.Common.{ℕ, ◌+◌, ◌*◌, ◌/◌, ◌%◌, ◌≤◌, ◌≡◌, refl, sym, ap, ◌∙◌, subst, true, false, cond, List, Result, Ok, Err, [], ◌∷◌, ◌++◌, map, arith, eqb, length, take, drop, replicate, take_at, drop_at, length-take-le, le-leb, eq-eqb, eqb-true, length-append}
 use Rattle.std.proofs.Math.ListN.{length-map, length-replicate, replicate-append-replicate}
 use Rattle.std.proofs.Math.Seq.{drop-nil}
 use Rattle.std.proofs.lemmas.Bool.{eqb-false}
@@ -92,6 +92,16 @@ module _ (bs : List ℕ) (e : asked (file_questions bs) ≡ 0) where
   -- ---- the frame that stands in the decoded tables
 
   module _ (m : ℕ) (ts fs ps cs es : List ℕ) (em : m ≡ count_m bs) (d : Decoded bs ts fs ps cs es) where
+    -- the manifolds' endpoints and counts are there
+    pub pairs_inside : 2 * m ≤ length ps
+    pairs_inside = omega (arith, ap length d.ends, length-append (manifolds_in bs) (joint_ends_in bs), manifold_ends_long bs, em)
+
+    counted-second : (length cs ≡ 0 → ⊥) → second bs ≡ true
+    counted-second n = some_counts bs (λ z. n (ap length d.counts ∙ z))
+
+    pub counts_inside : (length cs ≡ 0 → ⊥) → m ≤ length cs
+    counts_inside n = omega (arith, ap length d.counts, all_counts_long bs (counted-second n), em)
+
     module _ (l : Lists) (stands : Standing ts ps m cs es l) where
       types-are : l.types.now ≡ types_in bs
       types-are = stands.types ∙ d.types
@@ -207,6 +217,12 @@ module _ (bs : List ℕ) (e : asked (file_questions bs) ≡ 0) where
             sound = λ z. rw frame_is (accepted-sound z);
             few = subst (λ (g : Frame). length (constraints g) ≤ 8192) (sym frame_is) few_constraints;
           }
+
+          pub degree_is : (c : ℕ) → c ≡ cond (eqb (refused_by r) 0) (degree_max (frame_in l)) 0 → c ≡ cond (all_sound f) (degree_max f) 0
+          unfolding sound_refusal
+          degree_is c ec = ec ∙ by_cases (all_sound f)
+              (λ ok. rw (frame_is, rw ok at built.refusal, ok))
+              (λ ok. rw (rw ok at built.refusal, ok))
 
           -- ---- the numbers
 

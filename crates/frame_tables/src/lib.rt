@@ -9,6 +9,7 @@ ghost use Rattle.frame_parts.specs.Parts.{Standing};
 ghost use Rattle.island.specs.Lent as island_lent;
 ghost use Rattle.plan_questions.specs.Lent as plan_lent;
 ghost use Rattle.frame_tables.specs.Filled.{Roomy, Fills};
+ghost use Rattle.frame_tables.specs.Lent.{KeptPlan};
 
 pub use frame::FrameTables;
 use frame::{Lists, Refusal};
@@ -45,7 +46,8 @@ pub struct Filling {
 }
 
 // All tables of a frame that passed questions 1 to 6: `tables` and `numbers` have its sizes. After 7 the numbers are sorted as of no
-// islands. Of the plan's tables four are free: the sort's keys and offsets are kept there, and the constraints on each body.
+// islands. Of the plan's tables four are free: the sort's keys and offsets are kept there, and the constraints on each body; the
+// other nine stay as they were.
 pub fn fill(
     frame: &[u8],
     manifolds: usize,
@@ -64,6 +66,7 @@ pub fn fill(
     ensures same_frame { SameFrame tables.old tables.new }
     ensures same_plan { plan_lent.SameTables plan.old plan.new }
     ensures plan_lengths { plan_lent.lengths_of (plan_lent.tables_in plan.new) ≡ plan_lent.lengths_of (plan_lent.tables_in plan.old) }
+    ensures kept_plan { KeptPlan (plan_lent.tables_in plan.old) (plan_lent.tables_in plan.new) }
 {
     frame::decode(frame, manifolds, tables);
     let joints = tables.enabled.len();

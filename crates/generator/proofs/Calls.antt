@@ -1,5 +1,6 @@
 -- The questions in order, one "no" after another.
-use Rattle.std.proofs.Common.{◌≡◌, ℕ, ◌+◌, ◌≤◌, true, eqb, leb, arith, eq-eqb, eqb-true, leb-true}
+use Rattle.std.proofs.Common.{◌≡◌, ℕ, ◌+◌, ◌≤◌, true, eqb, leb, arith, eq-eqb, eqb-true, leb-true, ◌<◌, false, le-leb}
+use Rattle.std.proofs.lemmas.Bool.{lt-leb}
 use Rattle.lists.proofs.Laws.{or_cases, or_left, or_right}
 use Rattle.frame.specs.Questions.{few_each}
 use Rattle.frame.proofs.Questions.{passed}
@@ -20,6 +21,22 @@ fewer_pairs b m j n k e h =
 -- ---- the questions
 
 module _ (b m j room : ℕ) where
+  pub no_3 : few_each b m j ≡ false → 3 ≡ generate_refusal b m j room
+  unfolding generate_refusal
+  no_3 e = rw e
+
+  pub no_13 : few_each b m j ≡ true → pairs_possible b m j ≡ false → 13 ≡ generate_refusal b m j room
+  unfolding generate_refusal
+  no_13 e f = rw (e, f)
+
+  pub no_6 : few_each b m j ≡ true → pairs_possible b m j ≡ true → room < file_length b m j → 6 ≡ generate_refusal b m j room
+  unfolding generate_refusal
+  no_6 e f h = rw (e, f, lt-leb (file_length b m j) room h)
+
+  pub no_none : few_each b m j ≡ true → pairs_possible b m j ≡ true → file_length b m j ≤ room → 0 ≡ generate_refusal b m j room
+  unfolding generate_refusal
+  no_none e f h = rw (e, f, le-leb (file_length b m j) room h)
+
   pub all_yes : generate_refusal b m j room ≡ 0 → (few_each b m j ≡ true) × (pairs_possible b m j ≡ true) × (file_length b m j ≤ room)
   unfolding generate_refusal
   all_yes e =

@@ -34,7 +34,7 @@ fn sum(bytes: &[u8]) -> u32 {
 
 fn fnv(bytes: &[u8]) -> u32 {
     bytes.iter().fold(2166136261, |hash, x| {
-        (hash ^ u32::from(*x)).wrapping_mul(16777619)
+        generator::wrapping_mul(hash ^ u32::from(*x), 16777619)
     })
 }
 
@@ -83,20 +83,25 @@ fn sample<'a>(
     }
 }
 
-fn main(rt: HostRuntime) -> io::Result<()> {
-    show(&rt, sample("S1", 0, 2, 1, 1, 22))?;
-    show(&rt, sample("S2", 0, 3, 2, 1, 27))?;
-    show(&rt, sample("S3", 1, 3, 2, 1, 27))?;
-    show(&rt, sample("S4", 4294967295, 2, 0, 2, 23))?;
-    show(&rt, sample("S5", 0, 0, 0, 0, 11))?;
-    show(&rt, sample("S6", 5, 1, 0, 0, 12))?;
-    show(&rt, sample("S7", 0, 0, 1, 0, 0))?;
-    show(&rt, sample("S8", 0, 1, 0, 1, 99))?;
-    show(&rt, sample("S9", 0, 4097, 1, 0, 0))?;
-    show(&rt, sample("S9b", 1, 0, 4097, 0, 0))?;
-    show(&rt, sample("S10", 0, 2, 0, 0, 12))?;
-    show(&rt, sample("S11", 0, 4, 0, 0, 20))?;
-    show(&rt, sample("S12", 0, 4096, 4096, 0, 20491))?;
-    show(&rt, sample("S13", 99, 4096, 4096, 0, 20491))?;
-    show(&rt, sample("S14", 7, 4096, 4096, 4096, 40971))
+fn show_all(rt: &impl Print) -> io::Result<()> {
+    show(rt, sample("S1", 0, 2, 1, 1, 22))?;
+    show(rt, sample("S2", 0, 3, 2, 1, 27))?;
+    show(rt, sample("S3", 1, 3, 2, 1, 27))?;
+    show(rt, sample("S4", 4294967295, 2, 0, 2, 23))?;
+    show(rt, sample("S5", 0, 0, 0, 0, 11))?;
+    show(rt, sample("S6", 5, 1, 0, 0, 12))?;
+    show(rt, sample("S7", 0, 0, 1, 0, 0))?;
+    show(rt, sample("S8", 0, 1, 0, 1, 99))?;
+    show(rt, sample("S9", 0, 4097, 1, 0, 0))?;
+    show(rt, sample("S9b", 1, 0, 4097, 0, 0))?;
+    show(rt, sample("S10", 0, 2, 0, 0, 12))?;
+    show(rt, sample("S11", 0, 4, 0, 0, 20))?;
+    show(rt, sample("S12", 0, 4096, 4096, 0, 20491))?;
+    show(rt, sample("S13", 99, 4096, 4096, 0, 20491))?;
+    show(rt, sample("S14", 7, 4096, 4096, 4096, 40971))
+}
+
+// No exit status tells of a write that failed.
+fn main(rt: HostRuntime) {
+    let _ = show_all(&rt);
 }

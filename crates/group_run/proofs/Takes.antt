@@ -10,7 +10,7 @@ use Rattle.groups.specs.Groups.{pair_at, Plan}
 use Rattle.parts.specs.Parts.{part_at, Present}
 use Rattle.parts.proofs.Bounds.{part-counted, counted_bounded}
 use Rattle.constraint_coloring.specs.declared.ConstraintColoring.{ConstraintColoring}
-use Rattle.plan_questions.specs.Plans.{positions_refusal}
+use Rattle.plan_questions.specs.Plans.{positions_refusal, group_part}
 use Rattle.constraint_coloring.specs.Calls.{Located}
 use Rattle.multi_coloring.specs.Counts.{count_read, counts_read, multi_positions_refusal}
 use Rattle.colored_bodies.specs.declared.BodyBinding.{BodyBinding}
@@ -23,6 +23,7 @@ use Rattle.colored_bodies.specs.Bindings.{bind_of, handed_at, take_of, take_refu
 use Rattle.colored_bodies.specs.declared.Handed.{Handed}
 use Rattle.colored_bodies.specs.Answers.{marked_dynamic, Marks, marked_flags, flags_of, MarksAt}
 use Rattle.schedules.specs.Runs.{Call, members_in, bodies_in, lookup_refusal, lookup_of, take_rank, calls_from, turns_of, takes_of}
+use Rattle.schedules.proofs.Condition3.{same_calls}
 use Rattle.multi_coloring.proofs.Lookups.{read-known}
 use Rattle.turn_table.specs.declared.Turn.{Turn}
 use Rattle.turn_table.specs.declared.TurnTable.{TurnTable}
@@ -178,6 +179,12 @@ call_added c turn (Err r) e d none i k n =
     let ne : c.refusal ≡ 0 → ⊥ = λ z. numbered r (e ∙ z) in
     rw (ne_eqb c.refusal 0 ne, none ne)
 
+-- of a rank
+pub rank_added : (p : Plan) (ns : List ℕ) (i k : ℕ) (m left : BoundMarks) (r : ℕ) (t : Result ℕ Refusal) → RankTaken p r m t left
+    → added_by (calls_from p ns i k (marks_of m) (r ∷ [])) ≡ added_by_take (record { island = i; group = k; number = get_or ns r 0 }) t
+unfolding calls_from
+rank_added p ns i k m left r t h = call_added _ (record { island = i; group = k; number = get_or ns r 0 }) t h.refusal h.dynamic (none_handed p (marks_of m) r) refl refl refl
+
 -- ---- a member, and the members one after another
 
 module _ (p : Plan) (ns : List ℕ) (i k : ℕ) (m left : BoundMarks) (r : ℕ) (answer : Result ℕ Refusal) (x : ℕ) (t : TurnTable) (taken : RankTaken p r m answer left) (number : x ≡ get_or ns r 0) where
@@ -267,6 +274,12 @@ unfolding plan_calls
 groups_first p types ns i = rw (whole p.groups)
 
 -- the calls of a group, by the parts of the tables that the lookups hand back
+module _ (plan : ConstraintColoring) (counts co cc bo cb pos types ns bodies members : List ℕ) (i k : ℕ) where
+  pub calls_in_lem : members ≡ group_part plan.color_count co cc k → bodies ≡ group_part plan.color_count bo cb k
+      → calls_in (seen plan counts co cc bo cb pos) types ns i k ≡ calls_from (seen plan counts [] [] [] [] pos) ns i k (bind_of types bodies) members
+  unfolding calls_in bodies_in members_in take_rank lookup_refusal lookup_of
+  calls_in_lem e f = rw (sym e, sym f) (same_calls (seen plan counts co cc bo cb pos) (seen plan counts [] [] [] [] pos) ns i k (λ b r. refl) (bind_of types bodies) members)
+
 module _ (p : Plan) (types ns bodies members : List ℕ) (i k : ℕ) where
   -- of the groups from k on: this one, and those after it
   pub group_next : k < p.groups → members ≡ members_in p k → bodies ≡ bodies_in p k

@@ -1,5 +1,6 @@
 -- The endpoint pairs one by one: constraint i has its two bodies at places 2 × i and 2 × i + 1 of the list.
-use Rattle.std.proofs.Common.{ℕ, zero, suc, ◌+◌, ◌*◌, ◌<◌, ◌≡◌, refl, ap, List, [], ◌∷◌, ◌++◌, arith, length, get_or}
+use Rattle.std.proofs.Common.{ℕ, zero, suc, ◌+◌, ◌*◌, ◌<◌, ◌≡◌, refl, ap, List, [], ◌∷◌, ◌++◌, arith, length, get_or, ◌≤◌}
+use Rattle.lists.specs.Basics.{sum_of}
 use Rattle.groups.specs.Groups.{pairs_of}
 
 pub pairs_length : (n : ℕ) (es : List ℕ) → length es ≡ 2 * n → length (pairs_of es) ≡ n
@@ -24,6 +25,12 @@ two_ends [] i h = absurd (omega arith)
 two_ends (a ∷ []) i h = absurd (omega arith)
 two_ends (a ∷ b ∷ es) zero h = refl
 two_ends (a ∷ b ∷ es) (suc i) h = two_ends es i (omega arith)
+
+-- all constraints
+pub pairs_sum : (es : List ℕ) → sum_of length (pairs_of es) ≤ length es
+pairs_sum [] = omega arith
+pairs_sum (a ∷ []) = omega arith
+pairs_sum (a ∷ b ∷ es) = omega (arith, pairs_sum es)
 
 pub pairs_append : (n : ℕ) (xs ys : List ℕ) → length xs ≡ 2 * n → pairs_of (xs ++ ys) ≡ pairs_of xs ++ pairs_of ys
 pairs_append n [] ys e = refl

@@ -1,10 +1,10 @@
 -- What constraints join, and which bodies they constrain. A live pair of dynamic bodies has one edge, any other pair none; a live constraint on more bodies has an edge from its
 -- first dynamic body to each later one. A live constraint constrains its bodies. What is joined by one list and then by another is joined by both together: so a loop over the
 -- constraints joins them all.
-use Rattle.std.proofs.Common.{ℕ, ◌+◌, ◌*◌, ◌≤◌, ◌<◌, arith, add-one, ◌≡◌, refl, sym, ap, ◌∙◌, Bool, true, false, ◌&&◌, cond, List, [], ◌∷◌, ◌++◌, map, append_assoc, append-nil, eqb, ltb, length, get_or, drop, drop_of_length-le, drop-cons, eqb-true, eq-eqb, ne_eqb, ltb-true}
-use Rattle.std.proofs.Math.Bool.{or-false}
+use Rattle.std.proofs.Common.{ℕ, ◌+◌, ◌*◌, ◌≤◌, ◌<◌, arith, add-one, ◌≡◌, refl, sym, ap, ◌∙◌, Bool, true, false, ◌&&◌, cond, List, [], ◌∷◌, ◌++◌, map, append_assoc, append-nil, eqb, ltb, length, get_or, drop, drop_of_length-le, drop-cons, eqb-true, eq-eqb, ne_eqb, ltb-true, subst}
+use Rattle.std.proofs.Math.Bool.{or-false, and-true}
 use Rattle.lists.specs.Basics.{any, all, mem}
-use Rattle.lists.proofs.Laws.{and_left, and_right, and_both, not-true-false, any_append, all_append, cond-or}
+use Rattle.lists.proofs.Laws.{and_left, and_right, and_both, not-true-false, any_append, all_append, cond-or, clashes}
 use Rattle.lists.proofs.Ranges.{join_map-append}
 use Rattle.frame.specs.Frames.{Constraint, Frame, constraint, dynamic, on, sound, none}
 use Rattle.island_sets.specs.Sets.{root_of, hang}
@@ -192,8 +192,11 @@ pub record Joining (ts : List ℕ) (cs left : List Constraint) (s₀ : BodySets)
 pub joining_starts : (ts : List ℕ) (cs : List Constraint) (s : BodySets) (l : List ℕ) → Joining ts cs cs s l s l
 joining_starts ts cs s l = record { kept = kept_here s; long_l = refl; done = []; whole = refl; passed = refl; joined = joined_none ts s.parents.now l }
 
--- the next of them, c, is tried
+-- the next of them, c, is tried, or none is left
 module _ {ts : List ℕ} {cs left : List Constraint} {s₀ : BodySets} {l₀ : List ℕ} {s : BodySets} {l : List ℕ} (w : Joining ts cs left s₀ l₀ s l) where
+  asked-both : all (sound (length ts)) cs ≡ all (sound (length ts)) left
+  asked-both = ap (all (sound (length ts))) (sym w.whole) ∙ all_append (sound (length ts)) w.done left ∙ rw w.passed
+
   module _ (c : Constraint) (rest : List Constraint) (e : left ≡ c ∷ rest) {s' : BodySets} {l' : List ℕ} {r : Bool} (j : JoinedOrRefused ts (c ∷ []) s l s' l' r) where
     pub joining_turns : r ≡ true → length l' ≡ length l → Joining ts cs rest s₀ l₀ s' l'
     joining_turns ok el = record {
@@ -204,3 +207,19 @@ module _ {ts : List ℕ} {cs left : List Constraint} {s₀ : BodySets} {l₀ : L
       passed = all_append (sound (length ts)) w.done (c ∷ []) ∙ and_both (all (sound (length ts)) w.done) (all (sound (length ts)) (c ∷ [])) w.passed (sym j.answer ∙ ok);
       joined = joined_append ts w.done (c ∷ []) _ _ _ _ _ _ w.joined (j.joined ok);
     }
+
+    pub joining_stops : r ≡ false → JoinedOrRefused ts cs s₀ l₀ s' l' false
+    joining_stops bad = record {
+      kept = kept_on w.kept j.kept;
+      answer = sym (asked-both ∙ ap (all (sound (length ts))) e ∙ ap (λ (t : Bool). t && all (sound (length ts)) rest) (sym (and-true (sound (length ts) c)) ∙ sym j.answer ∙ bad));
+      joined = λ t. clashes false t refl;
+    }
+
+  pub joining_ends : left ≡ [] → JoinedOrRefused ts cs s₀ l₀ s l true
+  joining_ends e =
+      let all_done : w.done ≡ cs = sym (append-nil w.done) ∙ ap (λ (ds : List Constraint). w.done ++ ds) (sym e) ∙ w.whole in
+      record {
+        kept = w.kept;
+        answer = sym (ap (all (sound (length ts))) (sym all_done) ∙ w.passed);
+        joined = λ t. subst (λ (ds : List Constraint). Joined ts ds s₀.parents.now l₀ s.parents.now l) all_done w.joined;
+      }

@@ -8,7 +8,7 @@ ghost use Rattle.frame.specs.Frames.{counts_known, end_count};
 ghost use Rattle.frame.specs.Refusals.{refused_by};
 ghost use Rattle.groups.specs.Groups.{multi_plan_of};
 ghost use Rattle.parts.specs.Steps.{BoundsOf};
-ghost use Rattle.plan_questions.specs.Plans.{tables_of};
+ghost use Rattle.plan_questions.specs.Plans.{tables_of, group_part};
 ghost use Rattle.plan_questions.specs.Lent.{tables_in, lengths_of, SameTables};
 ghost use Rattle.constraint_coloring.specs.Stages.{Buildable, Rebuilt};
 ghost use Rattle.multi_coloring.specs.Counts.{count_read, counts_read, positions_in, multi_update_refusal};
@@ -246,6 +246,31 @@ impl MultiColoring {
             tables.constraint_body_positions,
         );
         Update::Changed(MultiColoring { plan })
+    }
+
+    // The constraints of a group, and its bodies: those parts of the plan's own tables.
+    pub fn constraints_in_schedule_group<'a>(
+        self,
+        color_offsets: &[u16],
+        colored_constraints: &'a [u16],
+        group: usize,
+    ) -> &'a [u16]
+        ensures { result.now ≡ group_part self.plan.color_count color_offsets.now colored_constraints.now group }
+    {
+        let plan = self.plan;
+        plan.constraints_in_schedule_group(color_offsets, colored_constraints, group)
+    }
+
+    pub fn bodies_in_schedule_group<'a>(
+        self,
+        color_body_offsets: &[u16],
+        color_bodies: &'a [u16],
+        group: usize,
+    ) -> &'a [u16]
+        ensures { result.now ≡ group_part self.plan.color_count color_body_offsets.now color_bodies.now group }
+    {
+        let plan = self.plan;
+        plan.bodies_in_schedule_group(color_body_offsets, color_bodies, group)
     }
 
     // The positions of a constraint among its group's bodies, which are two to four places of the table: questions 3, 6 and 12. `counts` is

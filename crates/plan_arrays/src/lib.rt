@@ -5,7 +5,7 @@ ghost use Rattle.std.specs.Prelude.{◌≡◌, replicate};
 
 use plan_questions::PlanTables;
 
-// Tables with room for B bodies, C constraints and E endpoints, where B1 is B + 1 and C1 is C + 1, and E is at least B and C.
+// Tables with room for B bodies, C constraints and E endpoints, where B1 is B + 1 and C1 is C + 1, and S is the larger of B and C.
 #[derive(Clone, Copy)]
 pub struct PlanArrays<
     const B: usize,
@@ -13,12 +13,13 @@ pub struct PlanArrays<
     const C: usize,
     const C1: usize,
     const E: usize,
+    const S: usize,
 > {
     pub dynamic_bodies: [u8; B],
     pub endpoints: [u16; E],
     pub body_offsets: [u16; B1],
     pub body_constraints: [u16; E],
-    pub scratch_offsets: [u16; E],
+    pub scratch_offsets: [u16; S],
     pub constraint_colors: [u16; C],
     pub color_stamps: [u16; C],
     pub body_stamps: [u16; B],
@@ -29,17 +30,18 @@ pub struct PlanArrays<
     pub constraint_body_positions: [u16; E],
 }
 
-impl<const B: usize, const B1: usize, const C: usize, const C1: usize, const E: usize> PlanArrays<
-    B,
-    B1,
-    C,
-    C1,
-    E,
-> {
+impl<
+    const B: usize,
+    const B1: usize,
+    const C: usize,
+    const C1: usize,
+    const E: usize,
+    const S: usize,
+> PlanArrays<B, B1, C, C1, E, S> {
     // Tables that hold these two values everywhere.
     pub fn filled(flag: u8, number: u16) -> Self
         ensures { (result.dynamic_bodies ≡ replicate B flag) × (result.endpoints ≡ replicate E number) × (result.body_offsets ≡ replicate B1 number)
-            × (result.body_constraints ≡ replicate E number) × (result.scratch_offsets ≡ replicate E number) × (result.constraint_colors ≡ replicate C number)
+            × (result.body_constraints ≡ replicate E number) × (result.scratch_offsets ≡ replicate S number) × (result.constraint_colors ≡ replicate C number)
             × (result.color_stamps ≡ replicate C number) × (result.body_stamps ≡ replicate B number) × (result.color_offsets ≡ replicate C1 number)
             × (result.colored_constraints ≡ replicate C number) × (result.color_body_offsets ≡ replicate C1 number) × (result.color_bodies ≡ replicate E number)
             × (result.constraint_body_positions ≡ replicate E number) }
@@ -49,7 +51,7 @@ impl<const B: usize, const B1: usize, const C: usize, const C1: usize, const E: 
             endpoints: [number; E],
             body_offsets: [number; B1],
             body_constraints: [number; E],
-            scratch_offsets: [number; E],
+            scratch_offsets: [number; S],
             constraint_colors: [number; C],
             color_stamps: [number; C],
             body_stamps: [number; B],

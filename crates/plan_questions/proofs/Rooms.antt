@@ -45,3 +45,6 @@ wanted b c t = wanted_with b c (2 * c) t
 
 pub fitted-roomy : (b c : ℕ) (t : Tables) → roomy b c t ≡ true → Fitted (wanted b c t)
 fitted-roomy b c t = fitted_with b c (2 * c) t
+
+pub roomy-fitted : (b c : ℕ) (t : Tables) → Fitted (wanted b c t) → roomy b c t ≡ true
+roomy-fitted b c t = with_fitted b c (2 * c) t

@@ -1,8 +1,8 @@
-// What an update and the lookups of a plan ask, internal but for the tables and their room: the thirteen lent tables and room in them, the
+// What an update and the lookups of a plan ask, internal but for the tables and room (`roomy`, `roomy_with`): the thirteen lent tables and room in them, the
 // questions of an update, whether the input is the remembered one, and the part of a group.
 #![tactic(auto)]
 
-ghost use Rattle.std.specs.Prelude.{◌≡◌, ◌&&◌, eqb, length, take};
+ghost use Rattle.std.specs.Prelude.{◌≡◌, ◌&&◌, ◌+◌, ◌*◌, leb, eqb, length, take};
 ghost use Rattle.lists.specs.Basics.{same};
 ghost use Rattle.frame.specs.Refusals.{refused_by};
 ghost use Rattle.plan_questions.specs.Plans.{roomy, roomy_with, update_refusal, group_part};
@@ -29,26 +29,116 @@ pub struct PlanTables<'a> {
     pub constraint_body_positions: &'a mut [u16],
 }
 
+// Question 6 of tables of these lengths: is there room for so many bodies, constraints and endpoints?
+pub fn roomy_with(
+    bodies: usize,
+    constraints: usize,
+    ends: usize,
+    dynamic_bodies: usize,
+    endpoints: usize,
+    body_offsets: usize,
+    body_constraints: usize,
+    scratch_offsets: usize,
+    constraint_colors: usize,
+    color_stamps: usize,
+    body_stamps: usize,
+    color_offsets: usize,
+    colored_constraints: usize,
+    color_body_offsets: usize,
+    color_bodies: usize,
+    constraint_body_positions: usize,
+) -> bool
+    ensures { result ≡ (leb bodies dynamic_bodies && leb ends endpoints && leb (bodies + 1) body_offsets
+        && leb ends body_constraints && leb bodies scratch_offsets && leb constraints scratch_offsets
+        && leb constraints constraint_colors && leb constraints color_stamps && leb bodies body_stamps
+        && leb (constraints + 1) color_offsets && leb constraints colored_constraints && leb (constraints + 1) color_body_offsets
+        && leb ends color_bodies && leb ends constraint_body_positions) }
+{
+    (bodies <= dynamic_bodies)
+        & (ends <= endpoints)
+        & (bodies < body_offsets)
+        & (ends <= body_constraints)
+        & (bodies <= scratch_offsets)
+        & (constraints <= scratch_offsets)
+        & (constraints <= constraint_colors)
+        & (constraints <= color_stamps)
+        & (bodies <= body_stamps)
+        & (constraints < color_offsets)
+        & (constraints <= colored_constraints)
+        & (constraints < color_body_offsets)
+        & (ends <= color_bodies)
+        & (ends <= constraint_body_positions)
+}
+
+// The same where each constraint has two endpoints; the first test keeps their number from running over.
+pub fn roomy(
+    bodies: usize,
+    pairs: usize,
+    dynamic_bodies: usize,
+    endpoints: usize,
+    body_offsets: usize,
+    body_constraints: usize,
+    scratch_offsets: usize,
+    constraint_colors: usize,
+    color_stamps: usize,
+    body_stamps: usize,
+    color_offsets: usize,
+    colored_constraints: usize,
+    color_body_offsets: usize,
+    color_bodies: usize,
+    constraint_body_positions: usize,
+) -> bool
+    ensures { result ≡ (leb bodies dynamic_bodies && leb (2 * pairs) endpoints && leb (bodies + 1) body_offsets
+        && leb (2 * pairs) body_constraints && leb bodies scratch_offsets && leb pairs scratch_offsets
+        && leb pairs constraint_colors && leb pairs color_stamps && leb bodies body_stamps
+        && leb (pairs + 1) color_offsets && leb pairs colored_constraints && leb (pairs + 1) color_body_offsets
+        && leb (2 * pairs) color_bodies && leb (2 * pairs) constraint_body_positions) }
+{
+    (pairs <= endpoints / 2)
+        && roomy_with(
+            bodies,
+            pairs,
+            2 * pairs,
+            dynamic_bodies,
+            endpoints,
+            body_offsets,
+            body_constraints,
+            scratch_offsets,
+            constraint_colors,
+            color_stamps,
+            body_stamps,
+            color_offsets,
+            colored_constraints,
+            color_body_offsets,
+            color_bodies,
+            constraint_body_positions,
+        )
+}
+
 impl<'a> PlanTables<'a> {
     // Question 6: is there room for so many bodies, constraints and endpoints?
     #[tactic(auto, unfolding(crate::specs::Plans::roomy_with))]
     pub fn has_room_for(&self, bodies: usize, constraints: usize, endpoints: usize) -> bool
         ensures { result ≡ roomy_with bodies constraints endpoints (tables_in self.now) }
     {
-        (bodies <= self.dynamic_bodies.len())
-            & (endpoints <= self.endpoints.len())
-            & (bodies < self.body_offsets.len())
-            & (endpoints <= self.body_constraints.len())
-            & (bodies <= self.scratch_offsets.len())
-            & (constraints <= self.scratch_offsets.len())
-            & (constraints <= self.constraint_colors.len())
-            & (constraints <= self.color_stamps.len())
-            & (bodies <= self.body_stamps.len())
-            & (constraints < self.color_offsets.len())
-            & (constraints <= self.colored_constraints.len())
-            & (constraints < self.color_body_offsets.len())
-            & (endpoints <= self.color_bodies.len())
-            & (endpoints <= self.constraint_body_positions.len())
+        roomy_with(
+            bodies,
+            constraints,
+            endpoints,
+            self.dynamic_bodies.len(),
+            self.endpoints.len(),
+            self.body_offsets.len(),
+            self.body_constraints.len(),
+            self.scratch_offsets.len(),
+            self.constraint_colors.len(),
+            self.color_stamps.len(),
+            self.body_stamps.len(),
+            self.color_offsets.len(),
+            self.colored_constraints.len(),
+            self.color_body_offsets.len(),
+            self.color_bodies.len(),
+            self.constraint_body_positions.len(),
+        )
     }
 
     // The same where each constraint has two endpoints; the first test keeps their number from running over.
@@ -118,6 +208,6 @@ pub fn group_part<'a>(
             usize::from(*start),
             usize::from(*end),
         ),
-        _ => &[],
+        _ => &table[..0],
     }
 }

@@ -36,6 +36,17 @@ pub decimal-one : (n : ℕ) → n < 10 → decimal n ≡ (48 + n) ∷ []
 unfolding decimal
 decimal-one n h = digits-one 19 n h
 
+digits_some : (d n : ℕ) → 1 ≤ length (digits (suc d) n)
+unfolding digits
+digits_some d n =
+    by_cases (ltb n 10)
+    (λ e. rw e (omega arith))
+    (λ e. rw e (omega (arith, length-append (digits d (n / 10)) ((48 + n % 10) ∷ []))))
+
+pub decimal_some : (n : ℕ) → 1 ≤ length (decimal n)
+unfolding decimal
+decimal_some n = digits_some 19 n
+
 digits-few : (d n : ℕ) → length (digits d n) ≤ d
 unfolding digits
 digits-few zero n = omega arith

@@ -1,2 +1,3 @@
+pub mod Puts
 pub mod Digits
 pub mod Fields

@@ -87,6 +87,9 @@ module _ (bs : List ℕ) where
     unfolding piece_text
     opening_fits = omega (arith, s.size, length-append opening (lines_of bs turns (held opening turns)))
 
+    pub piece_fits : p.size ≤ length new
+    piece_fits = omega (arith, s.size, ap length s.text, length-append (piece_text bs opening turns) (drop (length (piece_text bs opening turns)) old))
+
   -- the turns behind it
   pub left_behind : (all table : List ℕ) {opening old new : List ℕ} {first : ℕ} {p : Piece} → take (3 * p.turns) table ≡ all → PieceStands bs opening (turns_from all first) first old new p
       → turns_left table p ≡ turns_from (turns_from all first) (held opening (turns_from all first))

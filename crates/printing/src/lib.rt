@@ -97,12 +97,15 @@ pub fn put_refusal(out: &mut Writer<'_>, number: usize)
     put_field(out, b"refused", number, b'\n');
 }
 
-// A count of endpoints as it is from 2 to 4, else one of these.
+// A count of endpoints as it is from 2 to 4, else 2.
 fn two_to_four(count: usize) -> usize
     ensures few { (2 ≤ result) × (result ≤ 4) }
     ensures kept { 2 ≤ count → count ≤ 4 → result ≡ count }
 {
-    count.clamp(Frame::MIN_ENDS, Frame::MAX_ENDS)
+    if (count < Frame::MIN_ENDS) | (Frame::MAX_ENDS < count) {
+        return Frame::MIN_ENDS;
+    }
+    count
 }
 
 // Where the endpoints of a constraint of the file stand: of a manifold, and on version 1, by arithmetic; of a joint of version 2
@@ -179,7 +182,8 @@ pub fn put_turns(
     let mut turn = first;
     // The lines of the turns from `first` to `turn` are put.
     for numbers in turns_from(turns, first).chunks_exact(3) {
-        if !put_turn(out, turn_in(numbers), frame) {
+        let row = turn_in(numbers);
+        if !put_turn(out, row, frame) {
             return turn;
         }
         turn += 1;

@@ -1,7 +1,7 @@
 // The oracle's stored answers, as the programs that replay them read, make and compare them: bytes, with numbers of 16 bits high byte first.
 //
 // A list is records of a kind, the lengths of the question and of the answer in 16 bits each, the question and the answer. A head of zeros
-// ends the list.
+// ends the list. A list that is cut off goes on as zeros, and so ends there; lengths in a head are cut to what a question and an answer may have.
 //
 // Besides, the first places of a table, for the programs that lend only those, and the step of a sum over a list.
 #![tactic(auto)]
@@ -13,8 +13,8 @@ mod writer;
 
 pub use reader::Reader;
 use std::convert::AsSlice;
-use std::io::{ErrorKind, Read};
-use std::{fmt, io};
+use std::fmt;
+use std::io::Read;
 pub use writer::Writer;
 
 // As many records as a list may have.
@@ -36,10 +36,10 @@ impl fmt::Display for Tally {
 
 // A record that was read.
 #[derive(Clone, Copy)]
-struct Record<'a, K> {
-    kind: K,
-    question: &'a [u8],
-    answer: &'a [u8],
+pub struct Record<'a, K> {
+    pub kind: K,
+    pub question: &'a [u8],
+    pub answer: &'a [u8],
 }
 
 // A list as it is read, and the sum of its bytes so far.
@@ -57,45 +57,40 @@ pub fn mix(sum: u32, x: u32) -> u32
 }
 
 impl<R: Read> List<R> {
-    // Fills a part with the list's next bytes.
-    fn fill(&mut self, part: &mut [u8]) -> io::Result<()> {
-        self.input.read_exact(part)?;
+    // Fills a part with the list's next bytes, as far as the list goes.
+    fn fill(&mut self, part: &mut [u8]) {
+        let _ = self.input.read_exact(part);
         self.sum = part.iter().fold(self.sum, |sum, &x| mix(sum, u32::from(x)));
-        Ok(())
     }
 
-    // The list's next bytes, as many as a length in a head says.
-    fn part<'a>(&mut self, length: u16, room: &'a mut [u8]) -> io::Result<&'a [u8]> {
-        let n = usize::from(length);
-        if room.len() < n {
-            return Err(io::Error::new(ErrorKind::InvalidData, "a record has no room"));
-        }
-        let part = &mut room[..n];
-        self.fill(part)?;
-        Ok(part)
+    // The list's next bytes, as many as a length in a head says and the room has; past the list's end they are zeros.
+    fn part<'a>(&mut self, length: u16, room: &'a mut [u8]) -> &'a [u8] {
+        let part = first(room, usize::from(length));
+        part.fill(0);
+        self.fill(part);
+        part
     }
 
     // The next record, if the list goes on.
-    fn record<'a, K: TryFrom<u8, Error = io::Error>>(
+    fn record<'a, K: From<u8>>(
         &mut self,
         question: &'a mut [u8],
         answer: &'a mut [u8],
-    ) -> io::Result<Option<Record<'a, K>>> {
+    ) -> Option<Record<'a, K>> {
         let mut bytes = [0; 5];
-        self.fill(&mut bytes)?;
+        self.fill(&mut bytes);
         let mut head = Reader::new(&bytes);
         let kind = head.byte();
+        let question = self.part(head.half(), question);
+        let answer = self.part(head.half(), answer);
         if kind == 0 {
-            return Ok(None);
+            return None;
         }
-        let question = self.part(head.half(), question)?;
-        let answer = self.part(head.half(), answer)?;
-        let kind = K::try_from(kind)?;
-        Ok(Some(Record {
-            kind,
+        Some(Record {
+            kind: K::from(kind),
             question,
             answer,
-        }))
+        })
     }
 }
 
@@ -115,32 +110,34 @@ fn agrees<A: AsSlice<u8>>(answer: &A, stored: &[u8]) -> bool
 }
 
 // Asks each question of a list again, and compares the answers, byte by byte, with the stored ones. A question and an answer are read
-// into the two lent tables.
+// into the two lent tables, and each answer replaces the one before in `out`: by value it would be copied several times.
 pub fn replay<K, A, R, F>(
     input: R,
     question: &mut [u8],
     stored: &mut [u8],
+    out: &mut A,
     mut answer: F,
-) -> io::Result<Tally>
+) -> Tally
 where
-    K: TryFrom<u8, Error = io::Error>,
-    A: AsSlice<u8> + Drop,
+    K: From<u8>,
+    A: AsSlice<u8>,
     R: Read + Drop,
-    F: FnMut(K, &[u8]) -> A + Drop,
+    F: FnMut(K, &[u8], &mut A) + Drop,
     requires { F.IsAlwaysCallable answer }
 {
     let mut list = List { input, sum: 0 };
     let mut differ: u32 = 0;
     for _ in 0..MOST_RECORDS {
-        let Some(record) = list.record::<K>(question, stored)? else {
+        let Some(record) = list.record::<K>(question, stored) else {
             break;
         };
-        if !agrees(&answer(record.kind, record.question), record.answer) {
+        answer(record.kind, record.question, out);
+        if !agrees(out, record.answer) {
             differ = differ.saturating_add(1);
         }
     }
-    Ok(Tally {
+    Tally {
         differ,
         sum: list.sum,
-    })
+    }
 }

@@ -1,11 +1,11 @@
 // Writing an answer.
-ghost use Rattle.std.specs.Prelude.{◌≡◌, ◌∷◌, [], ◌++◌, ◌<◌, ◌≤◌, ◌/◌, ◌%◌, ◌+◌, length};
+ghost use Rattle.std.specs.Prelude.{◌≡◌, ◌∷◌, [], ◌++◌, ◌<◌, ◌≤◌, ◌/◌, ◌%◌, ◌+◌, ◌-◌, length, take};
 ghost use Rattle.arrayvec.specs.ArrayVec.{array_vec_len};
 
 use arrayvec::ArrayVec;
 use std::convert::AsSlice;
 
-// What is written of an answer, at most N bytes. What has no room is left out.
+// What is written of an answer, at most N bytes. What has no room is left out, byte by byte.
 #[derive(Drop)]
 pub struct Writer<const N: usize> {
     bytes: ArrayVec<u8, N>,
@@ -20,10 +20,19 @@ impl<const N: usize> Writer<N> {
         }
     }
 
-    pub fn bytes(&mut self, from: &[u8])
-        ensures { array_vec_len self.old.bytes + length from.now ≤ N → self.new.bytes.items ≡ self.old.bytes.items ++ from.now }
+    // Nothing is written.
+    pub fn clear(&mut self)
+        ensures { self.new.bytes.items ≡ [] }
     {
-        let _ = self.bytes.try_extend_from_slice(from);
+        self.bytes.clear();
+    }
+
+    pub fn bytes(&mut self, from: &[u8])
+        ensures whole { array_vec_len self.old.bytes + length from.now ≤ N → self.new.bytes.items ≡ self.old.bytes.items ++ from.now }
+        ensures cut { self.new.bytes.items ≡ self.old.bytes.items ++ take (N - array_vec_len self.old.bytes) from.now }
+    {
+        let count = from.len().min(self.bytes.remaining_capacity());
+        let _ = self.bytes.try_extend_from_slice(&from[..count]);
     }
 
     pub fn byte(&mut self, x: u8)

@@ -3,7 +3,7 @@ use crate::Answer;
 use colored_bodies::{BodyBinding, Handed, Taken};
 use frame::refusal::refusal_number;
 use frame::{Frame, Refusal};
-use records::{Reader, Writer, first};
+use records::{Reader, first};
 
 // A body, and 1 for "dynamic".
 fn put_handed(handed: Handed, out: &mut Answer) {
@@ -44,7 +44,7 @@ fn take_all(mut binding: BodyBinding, takes: u8, question: &mut Reader, out: &mu
     }
 }
 
-pub fn answer(question: &[u8]) -> Answer {
+pub fn answer(question: &[u8], out: &mut Answer) {
     let mut question = Reader::new(question);
     let types = question.byte();
     let listed = question.byte();
@@ -54,9 +54,7 @@ pub fn answer(question: &[u8]) -> Answer {
     let list = first(&mut list, usize::from(listed));
     question.numbers(list);
     let bound = BodyBinding::bind(types, list);
-    let mut out = Writer::new();
     out.byte(refusal_number(&bound.asked));
-    put_binding(&bound.binding, &mut out);
-    take_all(bound.binding, takes, &mut question, &mut out);
-    out
+    put_binding(&bound.binding, out);
+    take_all(bound.binding, takes, &mut question, out);
 }

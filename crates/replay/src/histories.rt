@@ -3,13 +3,13 @@ use crate::Answer;
 use constraint_coloring::{ConstraintColoring, Update};
 use frame::Refusal;
 use plan_arrays::PlanArrays;
-use records::{Reader, Writer, first};
+use records::{Reader, first};
 
 // The plan and its tables, which have room for 7 bodies and 7 constraints.
 #[derive(Clone, Copy)]
 struct Stage {
     plan: ConstraintColoring,
-    arrays: PlanArrays<7, 8, 8, 9, 15>,
+    arrays: PlanArrays<7, 8, 8, 9, 15, 8>,
 }
 
 // 1 for "changed", 2 for "unchanged", else 0 and the refusal.
@@ -115,18 +115,16 @@ impl Stage {
 
 // The updates; then the members and bodies of the groups from 0 to 7, each with its number before it; then the positions of the
 // constraints from 0 to 7.
-pub fn answer(question: &[u8]) -> Answer {
+pub fn answer(question: &[u8], out: &mut Answer) {
     let mut question = Reader::new(question);
-    let mut out = Writer::new();
     let mut stage = Stage::first();
     for _ in 0..question.byte() {
-        stage.answer_update(&mut question, &mut out);
+        stage.answer_update(&mut question, out);
     }
     for group in 0..8 {
-        stage.put_groups(group, &mut out);
+        stage.put_groups(group, out);
     }
     for constraint in 0..8 {
-        stage.put_place_of(constraint, &mut out);
+        stage.put_place_of(constraint, out);
     }
-    out
 }

@@ -6,28 +6,29 @@
 mod bindings;
 mod histories;
 
-use records::Writer;
+use records::{Tally, Writer};
 use std::io;
-use std::io::ErrorKind;
 
 // An answer has at most so many bytes.
 pub type Answer = Writer<2048>;
 
-// What a question asks: a history of updates, or a binding with takes.
+// A question has at most so many bytes.
+const QUESTION: usize = 1024;
+
+// What a question asks: a history of updates, or a binding with takes. One of another kind is answered as a binding, and counted as neither.
 #[derive(Clone, Copy, Debug, PartialEq, Eq)]
 enum Kind {
-    History = 1,
-    Binding = 2,
+    History,
+    Binding,
+    Other,
 }
 
-impl TryFrom<u8> for Kind {
-    type Error = io::Error;
-
-    fn try_from(number: u8) -> io::Result<Kind> {
+impl From<u8> for Kind {
+    fn from(number: u8) -> Self {
         match number {
-            1 => Ok(Kind::History),
-            2 => Ok(Kind::Binding),
-            _ => Err(io::Error::new(ErrorKind::InvalidData, "no such kind")),
+            1 => Kind::History,
+            2 => Kind::Binding,
+            _ => Kind::Other,
         }
     }
 }
@@ -44,30 +45,43 @@ impl Counts {
         let count = match kind {
             Kind::History => &mut self.histories,
             Kind::Binding => &mut self.bindings,
+            Kind::Other => return,
         };
         *count = count.saturating_add(1);
     }
 }
 
-fn answer(kind: Kind, question: &[u8]) -> Answer {
+// Past a question's end zeros are read, as many as the longest question has room for.
+fn answer(kind: Kind, question: &[u8], out: &mut Answer) {
+    let mut whole = [0; QUESTION];
+    for (to, &byte) in whole.iter_mut().zip(question) {
+        *to = byte;
+    }
     match kind {
-        Kind::History => histories::answer(question),
-        Kind::Binding => bindings::answer(question),
+        Kind::History => histories::answer(&whole, out),
+        Kind::Binding | Kind::Other => bindings::answer(&whole, out),
     }
 }
 
-fn main(rt: HostRuntime) -> io::Result<()> {
-    let mut counts = Counts::default();
-    let tally = records::replay(
-        rt.reader(),
-        &mut [0; 1024],
-        &mut [0; 2048],
-        |kind, question| {
-            counts.add(kind);
-            answer(kind, question)
-        },
-    )?;
+fn show(rt: &impl Print, counts: Counts, tally: Tally) -> io::Result<()> {
     println!(rt; "histories {}", counts.histories)?;
     println!(rt; "bindings {}", counts.bindings)?;
     println!(rt; "{tally}")
+}
+
+// No exit status tells of a write that failed.
+fn main(rt: HostRuntime) {
+    let mut counts = Counts::default();
+    let tally = records::replay(
+        rt.reader(),
+        &mut [0; QUESTION],
+        &mut [0; 2048],
+        &mut Answer::new(),
+        |kind, question, out| {
+            counts.add(kind);
+            out.clear();
+            answer(kind, question, out);
+        },
+    );
+    let _ = show(&rt, counts, tally);
 }

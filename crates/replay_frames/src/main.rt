@@ -7,9 +7,8 @@
 #![tactic(auto)]
 
 use frame::refusal::refusal_number;
-use records::{Reader, Writer, first};
+use records::{Reader, Tally, Writer, first};
 use std::io;
-use std::io::ErrorKind;
 
 // The most bytes that a question and an answer have.
 const QUESTION: usize = 40974;
@@ -24,24 +23,23 @@ const PATTERN: u16 = 43981;
 
 type Answer = Writer<ANSWER>;
 
-// The one kind of question: a frame to run.
+// What a question asks: a frame to run. One of another kind is answered as one, and not counted as a frame.
 #[derive(Clone, Copy, Debug, PartialEq, Eq)]
 enum Kind {
-    Frame = 1,
+    Frame,
+    Other,
 }
 
-impl TryFrom<u8> for Kind {
-    type Error = io::Error;
-
-    fn try_from(number: u8) -> io::Result<Kind> {
+impl From<u8> for Kind {
+    fn from(number: u8) -> Self {
         match number {
-            1 => Ok(Kind::Frame),
-            _ => Err(io::Error::new(ErrorKind::InvalidData, "no such kind")),
+            1 => Kind::Frame,
+            _ => Kind::Other,
         }
     }
 }
 
-// How many frames there were, and how many of them are refused.
+// How many frames there were, and how many questions are refused.
 #[derive(Clone, Copy, Debug, Default)]
 struct Counts {
     frames: u32,
@@ -49,8 +47,10 @@ struct Counts {
 }
 
 impl Counts {
-    fn add(&mut self, refused: bool) {
-        self.frames = self.frames.saturating_add(1);
+    fn add(&mut self, kind: Kind, refused: bool) {
+        if kind == Kind::Frame {
+            self.frames = self.frames.saturating_add(1);
+        }
         if refused {
             self.refused = self.refused.saturating_add(1);
         }
@@ -58,33 +58,36 @@ impl Counts {
 }
 
 // The run of a question's file, and its answer.
-fn answer(question: &[u8], counts: &mut Counts) -> Answer {
+fn answer(kind: Kind, question: &[u8], counts: &mut Counts, out: &mut Answer) {
     let mut question = Reader::new(question);
     let lent = usize::from(question.half());
     let mut turns = [PATTERN; TURNS];
     let turns = first(&mut turns, lent);
     let ran = standalone_run::run_file(question.rest(), turns);
-    counts.add(ran.is_err());
-    let mut out = Writer::new();
+    counts.add(kind, ran.is_err());
+    out.clear();
     out.byte(refusal_number(&ran));
     for number in <[usize; 4]>::from(ran.unwrap_or_default()) {
         out.half((number % 65536) as u16);
     }
     out.halves(turns);
-    out
 }
 
-fn main(rt: HostRuntime) -> io::Result<()> {
+fn show(rt: &impl Print, counts: Counts, tally: Tally) -> io::Result<()> {
+    println!(rt; "frames {}", counts.frames)?;
+    println!(rt; "refused {}", counts.refused)?;
+    println!(rt; "{tally}")
+}
+
+// No exit status tells of a write that failed.
+fn main(rt: HostRuntime) {
     let mut counts = Counts::default();
     let tally = records::replay(
         rt.reader(),
         &mut [0; QUESTION],
         &mut [0; ANSWER],
-        |kind, question| match kind {
-            Kind::Frame => answer(question, &mut counts),
-        },
-    )?;
-    println!(rt; "frames {}", counts.frames)?;
-    println!(rt; "refused {}", counts.refused)?;
-    println!(rt; "{tally}")
+        &mut Answer::new(),
+        |kind, question, out| answer(kind, question, &mut counts, out),
+    );
+    let _ = show(&rt, counts, tally);
 }

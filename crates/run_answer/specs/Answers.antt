@@ -11,6 +11,7 @@ use Rattle.frame.specs.Refusals.{number_of, refused_by}
 use Rattle.frame_tables.specs.declared.Filling.{Filling}
 use Rattle.frame_tables.specs.Filled.{islands_in, degree_in}
 use Rattle.run_answer.specs.declared.Report.{Report}
+use Rattle.run_answer.specs.declared.Asked.{Asked}
 
 -- the four numbers that a run reports
 abbrev pub reported : runs.Report → Report
@@ -25,6 +26,11 @@ run_report (Err n) = reported (runs.refused (number_of n))
 pub record Asks (bs : List ℕ) (room : Bool → ℕ → ℕ → ℕ → Bool) (r : Result Frame Refusal) : Type 0 where
   pub refusal : refused_by r ≡ cond (eqb (asked (file_questions bs)) 0) (cond (room (second bs) (count_b bs) (count_m bs) (count_j bs)) 0 6) (asked (file_questions bs))
   pub sizes : IfOk r (λ a. a ≡ sizes_of bs)
+
+-- the same, and the sizes of a file that passes questions 1 to 5, also where 6 refuses it
+pub record AsksWithSizes (bs : List ℕ) (room : Bool → ℕ → ℕ → ℕ → Bool) (a : Asked) : Type 0 where
+  pub refusal : refused_by a.refused ≡ cond (eqb (asked (file_questions bs)) 0) (cond (room (second bs) (count_b bs) (count_m bs) (count_j bs)) 0 6) (asked (file_questions bs))
+  pub sizes : asked (file_questions bs) ≡ 0 → a.sizes ≡ sizes_of bs
 
 -- the answer by a filling and a tally, three entries a turn
 pub record AnswerOf (f : Result Filling Refusal) (t : Tally) (r : Result Report Refusal) : Type 0 where

@@ -4,11 +4,12 @@
 
 mod numbers;
 
-ghost use Rattle.std.specs.Prelude.{◌≤◌, ◌≡◌};
-ghost use Rattle.run_answer.specs.Answers.{Asks, AnswerOf};
+ghost use Rattle.std.specs.Prelude.{◌≤◌, ◌≡◌, cond, eqb};
+ghost use Rattle.frame.specs.Refusals.{refused_by};
+ghost use Rattle.run_answer.specs.Answers.{Asks, AsksWithSizes, AnswerOf};
 ghost use Rattle.run_answer.specs.Lent.{lent_in, with_counts, roomy_for};
 
-use frame::{Frame, Refusal};
+use frame::{Frame, Refusal, Version};
 use frame_tables::{ByIsland, Filling, FrameTables};
 use island::IslandTables;
 use plan_questions::PlanTables;
@@ -21,6 +22,13 @@ pub struct Report {
     pub turns: usize,
     pub takes: usize,
     pub degree: usize,
+}
+
+// What questions 1 to 6 answer: whether a file is refused, and its sizes, also where only 6 refuses it.
+#[derive(Clone, Copy, Debug, PartialEq, Eq)]
+pub struct Asked {
+    pub refused: Result<(), Refusal>,
+    pub sizes: Frame,
 }
 
 // Question 6 of a frame of these sizes.
@@ -56,6 +64,43 @@ fn has_room_for(
         & plan.has_room_for(bodies, constraints, entries)
 }
 
+// Questions 1 to 6: the refusal of reading the file, or 6.
+#[tactic(auto, using(crate::proofs::Sizes::refusal_read))]
+fn first_refusal(read: Result<Frame, Refusal>, room: bool) -> Result<(), Refusal>
+    ensures { refused_by result ≡ cond (eqb (refused_by read) 0) (cond room 0 6) (refused_by read) }
+{
+    read?;
+    frame::ask(room, Refusal::Room)
+}
+
+// Questions 1 to 6 of a file, on these tables; answers the refusal, and the sizes of a file that passed 1 to 5.
+pub fn ask_with_sizes(
+    frame: &[u8],
+    islands: &IslandTables<'_>,
+    turns: &[u16],
+    tables: &FrameTables<'_>,
+    by_island: &ByIsland<'_>,
+    plan: &PlanTables<'_>,
+    plan_counts: &[u8],
+) -> Asked
+    ensures { AsksWithSizes frame.now (λ v b m j. roomy_for v b m j
+        (lent_in islands.now turns.now tables.now by_island.now plan.now plan_counts.now)) result }
+{
+    let read = Frame::read(frame);
+    let sizes = read.unwrap_or(Frame {
+        version: Version::First,
+        bodies: 0,
+        manifolds: 0,
+        joints: 0,
+        joint_ends: 0,
+    });
+    let room = has_room_for(sizes, islands, turns, tables, by_island, plan, plan_counts);
+    Asked {
+        refused: first_refusal(read, room),
+        sizes,
+    }
+}
+
 // Questions 1 to 6 of a file, on these tables; answers its sizes.
 pub fn ask(
     frame: &[u8],
@@ -69,11 +114,9 @@ pub fn ask(
     ensures { Asks frame.now (λ v b m j. roomy_for v b m j
         (lent_in islands.now turns.now tables.now by_island.now plan.now plan_counts.now)) result }
 {
-    let asked = Frame::read(frame)?;
-    if !has_room_for(asked, islands, turns, tables, by_island, plan, plan_counts) {
-        return Err(Refusal::Room);
-    }
-    Ok(asked)
+    let asked = ask_with_sizes(frame, islands, turns, tables, by_island, plan, plan_counts);
+    asked.refused?;
+    Ok(asked.sizes)
 }
 
 // The answer by what filling the tables answered, and by the tally of the turns.

@@ -1,9 +1,12 @@
 -- A turn is three stores, and a take adds it or nothing, by its refusal.
-use Rattle.std.proofs.Common.{ℕ, ◌+◌, ◌≤◌, ◌≡◌, sym, ap, ◌∙◌, List, [], ◌∷◌, arith, length, set}
+use Rattle.std.proofs.Common.{ℕ, ◌+◌, ◌≤◌, ◌≡◌, refl, sym, ap, ◌∙◌, List, [], ◌∷◌, Result, Err, arith, length, set}
 use Rattle.lists.specs.Basics.{put}
 use Rattle.lists.proofs.Puts.{put-none, length-put, put-put, set-put}
+use Rattle.frame.specs.declared.refusal.Refusal.{Refusal}
 use Rattle.turn_table.specs.declared.Tally.{Tally}
-use Rattle.turn_table.specs.Turns.{Appended}
+use Rattle.turn_table.specs.declared.Turn.{Turn}
+use Rattle.turn_table.specs.declared.TurnTable.{TurnTable}
+use Rattle.turn_table.specs.Turns.{added_by_take, Appended, AppendedTo}
 
 -- a turn: three stores
 pub set_turn : (n x y z : ℕ) (old : List ℕ) → n + 3 ≤ length old → set (set (set old n x) (n + 1) y) (n + 2) z ≡ put n (x ∷ y ∷ z ∷ []) old
@@ -18,3 +21,7 @@ set_turn n x y z old h =
 -- nothing is added
 pub appended_none : (t : List ℕ) (s : Tally) → Appended (record { turns = []; takes = 0 }) t s t s
 appended_none t s = record { table = sym (put-none s.place t); place = omega arith; takes = omega arith }
+
+-- so by a take that is refused
+pub appended_refused : (turn : Turn) (taken : Result ℕ Refusal) (r : Refusal) (t : TurnTable) → taken ≡ Err r → AppendedTo (added_by_take turn taken) t t
+appended_refused turn taken r t e = rw e (record { appended = appended_none t.turns.now t.tally; kept = refl })

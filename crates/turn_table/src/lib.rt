@@ -41,6 +41,7 @@ fn put_turn(turns: &mut [u16], place: usize, turn: Turn)
 
 impl TurnTable<'_> {
     // A take that is not refused says how many bodies it hands as dynamic, and makes one turn.
+    #[tactic(auto, using(crate::proofs::Turns::appended_refused))]
     pub fn append(&mut self, taken: Result<usize, Refusal>, turn: Turn)
         requires { RoomIn (added_by_take turn taken) self.old }
         ensures { AppendedTo (added_by_take turn taken) self.old self.new }

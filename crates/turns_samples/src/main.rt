@@ -2,36 +2,47 @@
 // high one first.
 #![tactic(auto)]
 
+ghost use Rattle.std.specs.Prelude.{◌≤◌, length};
+
 use print_pieces::INPUT;
-use std::io;
-use std::io::{ErrorKind, Read};
+use std::io::Read;
 
-// The next input's length.
-fn read_length(input: &mut impl Read) -> io::Result<usize> {
-    let mut length = [0; 4];
-    input.read_exact(&mut length[1..])?;
-    Ok(u32::from_be_bytes(length) as usize)
-}
-
-// Reads the next input and prints what `turns` writes for it.
-fn print_next(input: &mut impl Read) -> io::Result<()> {
-    let length = read_length(input)?;
-    if INPUT < length {
-        return Err(io::Error::new(ErrorKind::InvalidData, "too long an input"));
+// Fills the buffer as far as the input goes, and answers how many bytes were read. A read that fails ends the input.
+fn read_full(input: &mut impl Read, buffer: &mut [u8]) -> usize
+    ensures { result ≤ length buffer.new }
+{
+    let mut filled = 0;
+    for _ in 0..INPUT {
+        match input.read(&mut buffer[filled..]) {
+            Ok(0) | Err(_) => break,
+            Ok(size) => filled += size,
+        }
     }
-    let mut room = [0; INPUT];
-    let frame = &mut room[..length];
-    input.read_exact(frame)?;
-    frame_print::print_frame(frame);
-    Ok(())
+    filled
 }
 
-fn main(rt: HostRuntime) -> io::Result<()> {
+// The next input's length; past the end zeros are read.
+fn read_length(input: &mut impl Read) -> usize {
+    let mut length = [0; 4];
+    read_full(input, &mut length[1..]);
+    u32::from_be_bytes(length) as usize
+}
+
+// Reads the next input, as far as it goes, and prints what `turns` writes for it; nothing where its length is above the longest.
+fn print_next(input: &mut impl Read) {
+    let length = read_length(input);
+    let mut room = [0; INPUT];
+    if length <= INPUT {
+        let size = read_full(input, &mut room[..length]);
+        frame_print::print_frame(&room[..size]);
+    }
+}
+
+fn main(rt: HostRuntime) {
     let mut input = rt.reader();
     let mut count = [0; 1];
-    input.read_exact(&mut count)?;
+    read_full(&mut input, &mut count);
     for _ in 0..count[0] {
-        print_next(&mut input)?;
+        print_next(&mut input);
     }
-    Ok(())
 }

@@ -12,8 +12,8 @@ loop-numbers-init c =
     rw (c.into_iter-numbers-iterator.ensures.into_iter_gives, s.rest, s.size)
     (record { same = record { long = refl; kept = refl }; lines = λ placed. gather_first a.frame.bytes.now a.turns.now a.first a.out.now; left = sym c.turns_from.ensures; three = refl })
 
-pub turn_in-requires : goal.turn_in-requires
-turn_in-requires c = c.in-Some.ensures.steps.1.1 ∙ c.loop-numbers.invariant.three
+pub turn_in-row-requires : goal.turn_in-row-requires
+turn_in-row-requires c = c.in-Some.ensures.steps.1.1 ∙ c.loop-numbers.invariant.three
 
 pub returns-then-not-put_turn-clause-same : goal.returns-then-not-put_turn-clause-same
 returns-then-not-put_turn-clause-same c = same_then c.loop-numbers.invariant.same c.put_turn.ensures.same
@@ -27,7 +27,7 @@ returns-then-not-put_turn-clause-lines c =
     let e = l.invariant.left ∙ s.0 in
     λ placed.
     let here = placed (omega (arith, ap length e, three, length-drop (3 * l.turn) a.turns.now, length-append c.in-Some.numbers.now (chunks_exact_rest c.next.new.self))) in
-    gather_stop a.frame.bytes.now a.turns.now a.first a.out.now l.out l.turn (l.invariant.lines placed) c.turn_in.result _ _ e three c.turn_in.ensures _
+    gather_stop a.frame.bytes.now a.turns.now a.first a.out.now l.out l.turn (l.invariant.lines placed) c.turn_in-row.result _ _ e three c.turn_in-row.ensures _
     (c.put_turn.ensures.wrote here) (sym (c.put_turn.ensures.put here) ∙ c.if-not-put_turn.true)
 
 pub overflow_add-turn : goal.overflow_add-turn
@@ -48,7 +48,7 @@ loop-numbers-preserved c =
       same = same_then l.invariant.same c.put_turn.ensures.same;
       lines = λ placed.
           let here = placed (omega (arith, ap length e, three, length-drop (3 * l.turn) a.turns.now, length-append c.in-Some.numbers.now (chunks_exact_rest c.next.new.self))) in
-          gather_turn a.frame.bytes.now a.turns.now a.first a.out.now l.out l.turn (l.invariant.lines placed) c.turn_in.result _ _ e three c.turn_in.ensures _
+          gather_turn a.frame.bytes.now a.turns.now a.first a.out.now l.out l.turn (l.invariant.lines placed) c.turn_in-row.result _ _ e three c.turn_in-row.ensures _
           (c.put_turn.ensures.wrote here) (λ v. (here v).file) (sym (c.put_turn.ensures.put here) ∙ c.if-not-put_turn.false);
       left = sym (next_turn a.turns.now l.turn _ _ e three);
       three = c.in-Some.ensures.steps.0 ∙ l.invariant.three;

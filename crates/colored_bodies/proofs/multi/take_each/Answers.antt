@@ -1,4 +1,5 @@
-use Rattle.std.proofs.Common.{◌∙◌}
+use Rattle.std.proofs.Common.{◌≡◌, ◌∙◌, get_or}
+use Rattle.colored_bodies.specs.Bindings.{spend}
 use Rattle.colored_bodies.proofs.Positions.{each_gone, each_turn, each_end}
 use Rattle.colored_bodies.proofs.multi.take_each.Goals as goal
 
@@ -9,7 +10,8 @@ returns-then-marks-at-gt-HELD c =
 
 pub loop-i-preserved : goal.loop-i-preserved
 loop-i-preserved c =
-    let turn = each_turn c.loop-i.marks c.args.places.now c.loop-i.i c.loop-i-test.true _ (rw c.from-at.ensures at c.if-marks-at-gt-HELD.false) (rw c.from-at.ensures at c.take_body.ensures) in
+    let spent : c.take_body.new.marks ≡ spend c.loop-i.marks (get_or c.args.places.now c.loop-i.i 0) = cc in
+    let turn = each_turn c.loop-i.marks c.args.places.now c.loop-i.i c.loop-i-test.true _ (rw c.from-at.ensures at c.if-marks-at-gt-HELD.false) spent in
     (turn.0 ∙ c.loop-i.invariant.0, turn.1 ∙ c.loop-i.invariant.1)
 
 pub returns : goal.returns
