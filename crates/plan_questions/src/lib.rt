@@ -1,5 +1,5 @@
-// What an update and the lookups of a plan ask, internal but for the tables and room (`roomy`, `roomy_with`): the thirteen lent tables and room in them, the
-// questions of an update, whether the input is the remembered one, and the part of a group.
+// What an update and the lookups of a plan ask, internal but for the tables and room (`roomy`, `roomy_with`): the thirteen lent tables and
+// room in them, the questions of an update, whether the input is the remembered one, and the part of a group.
 #![tactic(auto)]
 
 ghost use Rattle.std.specs.Prelude.{◌≡◌, ◌&&◌, ◌+◌, ◌*◌, leb, eqb, length, take};

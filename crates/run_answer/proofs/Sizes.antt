@@ -21,10 +21,10 @@ sizes_or_none (Ok f) = refl
 sizes_or_none (Err e) = refl
 
 module _ (bs : List ℕ) (r : Result Frame Refusal) (h : Read bs r) (f : Frame) (u : f ≡ result_unwrap_or r no_sizes) where
-  sizes_read : f ≡ cond (eqb (asked (file_questions bs)) 0) (sizes_of bs) no_sizes
+  pub sizes_read : f ≡ cond (eqb (asked (file_questions bs)) 0) (sizes_of bs) no_sizes
   sizes_read = u ∙ sizes_or_none r ∙ h.sizes
 
-  pub sizes_known : asked (file_questions bs) ≡ 0 → f ≡ sizes_of bs
+  sizes_known : asked (file_questions bs) ≡ 0 → f ≡ sizes_of bs
   sizes_known z = rw z at sizes_read
 
   -- no size is above 4,096, read or refused

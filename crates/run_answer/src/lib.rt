@@ -24,7 +24,7 @@ pub struct Report {
     pub degree: usize,
 }
 
-// What questions 1 to 6 answer: whether a file is refused, and its sizes, also where only 6 refuses it.
+// What questions 1 to 6 answer: whether a file is refused, and its sizes, also where only 6 refuses it; zeros where another does.
 #[derive(Clone, Copy, Debug, PartialEq, Eq)]
 pub struct Asked {
     pub refused: Result<(), Refusal>,

@@ -2,47 +2,32 @@
 // high one first.
 #![tactic(auto)]
 
-ghost use Rattle.std.specs.Prelude.{◌≤◌, length};
-
 use print_pieces::INPUT;
-use std::io::Read;
 
-// Fills the buffer as far as the input goes, and answers how many bytes were read. A read that fails ends the input.
-fn read_full(input: &mut impl Read, buffer: &mut [u8]) -> usize
-    ensures { result ≤ length buffer.new }
-{
-    let mut filled = 0;
-    for _ in 0..INPUT {
-        match input.read(&mut buffer[filled..]) {
-            Ok(0) | Err(_) => break,
-            Ok(size) => filled += size,
-        }
-    }
-    filled
-}
+// Standard input, by its file descriptor.
+const STDIN: i32 = 0;
 
 // The next input's length; past the end zeros are read.
-fn read_length(input: &mut impl Read) -> usize {
+fn read_length() -> usize {
     let mut length = [0; 4];
-    read_full(input, &mut length[1..]);
+    io::read_full(STDIN, &mut length[1..]);
     u32::from_be_bytes(length) as usize
 }
 
 // Reads the next input, as far as it goes, and prints what `turns` writes for it; nothing where its length is above the longest.
-fn print_next(input: &mut impl Read) {
-    let length = read_length(input);
+fn print_next() {
+    let length = read_length();
     let mut room = [0; INPUT];
     if length <= INPUT {
-        let size = read_full(input, &mut room[..length]);
+        let size = io::read_full(STDIN, &mut room[..length]);
         frame_print::print_frame(&room[..size]);
     }
 }
 
-fn main(rt: HostRuntime) {
-    let mut input = rt.reader();
+fn main() {
     let mut count = [0; 1];
-    read_full(&mut input, &mut count);
+    io::read_full(STDIN, &mut count);
     for _ in 0..count[0] {
-        print_next(&mut input);
+        print_next();
     }
 }
