@@ -11,6 +11,7 @@ use colored_bodies::multi::TakenAt;
 use colored_bodies::{BodyBinding, Handed, Step, Taken};
 use frame::Refusal;
 use frame::refusal::refusal_number;
+use records::Heedless;
 use std::{array, io};
 
 // A take of two positions, and one of several, as each answers.
@@ -260,5 +261,5 @@ fn show_all(rt: &impl Print) -> io::Result<()> {
 
 // No exit status tells of a write that failed.
 fn main(rt: HostRuntime) {
-    let _ = show_all(&rt);
+    let _ = show_all(&Heedless { to: &rt });
 }

@@ -11,7 +11,7 @@ mod counts;
 use constraint_coloring::{ConstraintColoring, Update};
 use plan_arrays::PlanArrays;
 use plan_questions::PlanTables;
-use records::{first, mix};
+use records::{Heedless, first, mix};
 use std::{array, io};
 
 // How many flags and entries an input may have: one body and one pair more than an update takes.
@@ -291,5 +291,5 @@ fn show_all(rt: &impl Print) -> io::Result<()> {
 
 // No exit status tells of a write that failed.
 fn main(rt: HostRuntime) {
-    let _ = show_all(&rt);
+    let _ = show_all(&Heedless { to: &rt });
 }

@@ -7,6 +7,7 @@ mod counts;
 
 use constraint_coloring::{ConstraintColoring, Update};
 use plan_arrays::PlanArrays;
+use records::Heedless;
 use std::{fmt, io};
 
 // The tables of at most 5 bodies and 6 constraints.
@@ -57,5 +58,5 @@ fn show_all(rt: &impl Print) -> io::Result<()> {
 
 // No exit status tells of a write that failed.
 fn main(rt: HostRuntime) {
-    let _ = show_all(&rt);
+    let _ = show_all(&Heedless { to: &rt });
 }

@@ -5,7 +5,7 @@
 use frame::Refusal;
 use frame::refusal::refusal_number;
 use frame_file::Sizes;
-use records::first;
+use records::{Heedless, first};
 use std::io;
 
 // So many bytes are printed one by one.
@@ -103,5 +103,5 @@ fn show_all(rt: &impl Print) -> io::Result<()> {
 
 // No exit status tells of a write that failed.
 fn main(rt: HostRuntime) {
-    let _ = show_all(&rt);
+    let _ = show_all(&Heedless { to: &rt });
 }

@@ -5,6 +5,7 @@
 use frame::{Lists, Refusal};
 use island::IslandTables;
 use island_arrays::{IslandArrays, Room};
+use records::Heedless;
 use std::{array, io};
 
 // As many bodies as a frame may have, and one more; the joints have the same limit.
@@ -298,5 +299,5 @@ fn show_all(rt: &impl Print) -> io::Result<()> {
 
 // No exit status tells of a write that failed.
 fn main(rt: HostRuntime) {
-    let _ = show_all(&rt);
+    let _ = show_all(&Heedless { to: &rt });
 }

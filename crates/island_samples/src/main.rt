@@ -7,6 +7,7 @@
 use frame::{Frame, Lists, Refusal};
 use island::IslandTables;
 use island_arrays::{IslandArrays, Room};
+use records::Heedless;
 use std::{fmt, io};
 
 // A sample: its name, and the frame. Joints without counts are pairs.
@@ -506,5 +507,5 @@ fn show_all(rt: &impl Print) -> io::Result<()> {
 
 // No exit status tells of a write that failed.
 fn main(rt: HostRuntime) {
-    let _ = show_all(&rt);
+    let _ = show_all(&Heedless { to: &rt });
 }

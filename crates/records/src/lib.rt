@@ -3,7 +3,7 @@
 // A list is records of a kind, the lengths of the question and of the answer in 16 bits each, the question and the answer. A head of zeros
 // ends the list. A list that is cut off goes on as zeros, and so ends there; lengths in a head are cut to what a question and an answer may have.
 //
-// Besides, the first places of a table, for the programs that lend only those, and the step of a sum over a list.
+// Besides, the first places of a table, for the programs that lend only those, the step of a sum over a list, and printing that heeds no failure.
 #![tactic(auto)]
 
 ghost use Rattle.std.specs.Prelude.{◌≡◌, ◌↔◌, ◌+◌, ◌*◌, ◌%◌, IsTrue, take};
@@ -13,8 +13,8 @@ mod writer;
 
 pub use reader::Reader;
 use std::convert::AsSlice;
-use std::fmt;
 use std::io::Read;
+use std::{fmt, io};
 pub use writer::Writer;
 
 // As many records as a list may have.
@@ -47,6 +47,29 @@ pub struct Record<'a, K> {
 struct List<R> {
     input: R,
     sum: u32,
+}
+
+// Prints on past a write that fails, and tells nothing of it.
+#[derive(Clone, Copy)]
+pub struct Heedless<'a, P> {
+    pub to: &'a P,
+}
+
+impl<P: Print> Print for Heedless<'_, P> {
+    fn print<D: fmt::Display + Drop>(&self, value: D) -> io::Result<()> {
+        let _ = self.to.print(value);
+        Ok(())
+    }
+
+    fn println<D: fmt::Display + Drop>(&self, value: D) -> io::Result<()> {
+        let _ = self.to.println(value);
+        Ok(())
+    }
+
+    fn write_all(&self, bytes: &[u8]) -> io::Result<()> {
+        let _ = self.to.write_all(bytes);
+        Ok(())
+    }
 }
 
 // A sum that any wrong number below 65,521 changes: 31 has an inverse modulo this prime.

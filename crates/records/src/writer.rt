@@ -36,14 +36,16 @@ impl<const N: usize> Writer<N> {
     }
 
     pub fn byte(&mut self, x: u8)
-        ensures { array_vec_len self.old.bytes < N → self.new.bytes.items ≡ self.old.bytes.items ++ x ∷ [] }
+        ensures whole { array_vec_len self.old.bytes < N → self.new.bytes.items ≡ self.old.bytes.items ++ x ∷ [] }
+        ensures cut { self.new.bytes.items ≡ self.old.bytes.items ++ take (N - array_vec_len self.old.bytes) (x ∷ []) }
     {
-        let _ = self.bytes.try_push(x);
+        self.bytes(&[x]);
     }
 
     // A number of 16 bits.
     pub fn half(&mut self, x: u16)
-        ensures { array_vec_len self.old.bytes + 2 ≤ N → self.new.bytes.items ≡ self.old.bytes.items ++ x / 256 ∷ x % 256 ∷ [] }
+        ensures whole { array_vec_len self.old.bytes + 2 ≤ N → self.new.bytes.items ≡ self.old.bytes.items ++ x / 256 ∷ x % 256 ∷ [] }
+        ensures cut { self.new.bytes.items ≡ self.old.bytes.items ++ take (N - array_vec_len self.old.bytes) (x / 256 ∷ x % 256 ∷ []) }
     {
         self.bytes(&x.to_be_bytes());
     }

@@ -6,7 +6,7 @@
 mod bindings;
 mod histories;
 
-use records::{Tally, Writer};
+use records::{Heedless, Tally, Writer};
 use std::io;
 
 // An answer has at most so many bytes.
@@ -83,5 +83,5 @@ fn main(rt: HostRuntime) {
             answer(kind, question, out);
         },
     );
-    let _ = show(&rt, counts, tally);
+    let _ = show(&Heedless { to: &rt }, counts, tally);
 }

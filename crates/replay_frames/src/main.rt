@@ -7,7 +7,7 @@
 #![tactic(auto)]
 
 use frame::refusal::refusal_number;
-use records::{Reader, Tally, Writer, first};
+use records::{Heedless, Reader, Tally, Writer, first};
 use std::io;
 
 // The most bytes that a question and an answer have.
@@ -89,5 +89,5 @@ fn main(rt: HostRuntime) {
         &mut Answer::new(),
         |kind, question, out| answer(kind, question, &mut counts, out),
     );
-    let _ = show(&rt, counts, tally);
+    let _ = show(&Heedless { to: &rt }, counts, tally);
 }
